@@ -1,0 +1,110 @@
+//! What an application's script asks for, and what its log saw.
+
+ghost use Rattle.std.specs.Prelude.{◌≡◌};
+
+use crate::rows::Rows;
+use st_net::{AppId, Entity, Prio, Var};
+use std::marker::Model;
+
+/// One command of a script. Groups are named by their numbers from 0 in the order of the document.
+#[derive(Drop)]
+pub enum Act {
+    /// Propose 1 to 16 rows.
+    Propose { group: u32, rows: Rows },
+    /// Check until the application's latest proposal in the group is decided.
+    Await { group: u32 },
+    /// Make rounds, at most so many, until every entity is settled.
+    Settle { group: u32, rounds: u32 },
+    /// Ask for a lock.
+    Lock {
+        group: u32,
+        entity: Entity,
+        prio: Prio,
+    },
+    /// Give a lock back.
+    Unlock {
+        group: u32,
+        entity: Entity,
+        prio: Prio,
+    },
+    /// Log a variable's value in the published target.
+    Read {
+        group: u32,
+        entity: Entity,
+        var: Var,
+    },
+    /// Log a variable's value at a version.
+    ReadAt {
+        group: u32,
+        version: u32,
+        entity: Entity,
+        var: Var,
+    },
+    /// Let an entity change of itself. The rows, none or more, are on that entity.
+    Fail {
+        group: u32,
+        entity: Entity,
+        health: u32,
+        rows: Rows,
+    },
+    /// Let an entity report, and hear what arrives.
+    Poll { group: u32, entity: Entity },
+}
+
+/// What a command that reads saw.
+#[derive(Clone, Copy, Debug, PartialEq, Eq)]
+pub enum LogSaw {
+    /// The published target has this version, and the variable this value.
+    Seen { version: u32, value: u32 },
+    /// At the version that was asked for the variable has this value.
+    At { version: u32, value: u32 },
+    /// There is no such version; this is the latest.
+    NoVersion { asked: u32, latest: u32 },
+}
+
+/// One line of a log.
+#[derive(Clone, Copy, Debug, PartialEq, Eq)]
+pub struct LogEntry {
+    pub group: u32,
+    pub entity: Entity,
+    pub var: Var,
+    pub saw: LogSaw,
+}
+
+/// The lines of a log in order. Contracts see the list.
+#[derive(Drop)]
+pub struct LogEntries {
+    entries: Vec<LogEntry>,
+}
+
+/// What one application's commands saw, in their order.
+#[derive(Drop)]
+pub struct Log {
+    pub app: AppId,
+    pub entries: LogEntries,
+}
+
+impl Model for LogEntries {
+    ghost use Rattle.std.specs.Prelude.{List};
+    ghost use Rattle.st_event.specs.declared.act.LogEntry.{LogEntry};
+
+    ghost Value = { List LogEntry };
+
+    ghost view = { λ e. e.entries.items };
+}
+
+impl LogEntries {
+    /// These lines, in order.
+    pub fn new(entries: Vec<LogEntry>) -> LogEntries
+        ensures { result ≡ entries.items }
+    {
+        LogEntries { entries }
+    }
+
+    /// The lines, in order.
+    pub fn as_slice(&self) -> &[LogEntry]
+        ensures { result.now ≡ self.now }
+    {
+        self.entries.as_slice()
+    }
+}

@@ -1,0 +1,12 @@
+pub mod Names
+pub mod Numbered
+pub mod Entities
+pub mod Levels
+pub mod Groups
+pub mod Ranges
+pub mod Sets
+pub mod Merge
+pub mod UpGraph
+pub mod Cuts
+pub mod Promises
+pub mod Faults

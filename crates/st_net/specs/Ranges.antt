@@ -1,0 +1,54 @@
+-- The ranges of values, healths and rows.
+use Rattle.std.specs.Prelude.{ℕ, ◌≡◌, ◌≤◌, ◌^◌, ◌==◌, ◌&&◌, nat_le, nat_lt, not, Bool, true, false, List, [], ◌∷◌, length, All}
+use Rattle.st_net.specs.declared.entity.Entity.{Entity}
+use Rattle.st_net.specs.declared.entity.Entity.TheVariants.{Device, Link}
+use Rattle.st_net.specs.declared.entity.Var.{Var}
+use Rattle.st_net.specs.declared.entity.Var.TheVariants.{Power, Firmware, Config, Routing, LinkPower, Iface}
+use Rattle.st_net.specs.declared.entity.Vals.{Vals}
+use Rattle.st_net.specs.declared.entity.Row.{Row}
+use Rattle.st_net.specs.declared.topo.TheConstants.{MAX_ROWS}
+use Rattle.st_net.specs.Entities.{is_same_entity, is_same_var}
+use Rattle.st_net.specs.Groups.{Group, IsEntityOf}
+
+-- the values that a device's variable may have, and a link's; none of a variable that such an entity does not have
+abbrev pub is_device_value : Var → ℕ → Bool
+is_device_value Power value = nat_le value 1
+is_device_value Firmware value = nat_lt value (2 ^ 32)
+is_device_value Config value = nat_lt value (2 ^ 32)
+is_device_value Routing value = nat_le value 1
+is_device_value LinkPower value = false
+is_device_value Iface value = false
+
+abbrev pub is_link_value : Var → ℕ → Bool
+is_link_value Power value = false
+is_link_value Firmware value = false
+is_link_value Config value = false
+is_link_value Routing value = false
+is_link_value LinkPower value = nat_le value 1
+is_link_value Iface value = nat_lt value (2 ^ 32)
+
+abbrev pub is_in_range : Entity → Var → ℕ → Bool
+is_in_range (Device i) = is_device_value
+is_in_range (Link i) = is_link_value
+
+-- the row names an entity of the group, and a value that its variable may have
+pub record RowFits (g : Group) (row : Row) : Type 0 where
+  pub entity : IsEntityOf g row.entity
+  pub range : is_in_range row.entity row.var row.value ≡ true
+
+-- whether no row of the list is on this variable
+abbrev pub is_free_of : Entity → Var → List Row → Bool
+is_free_of e v [] = true
+is_free_of e v (row ∷ rows) = not (is_same_entity row.entity e && is_same_var row.var v) && is_free_of e v rows
+
+-- whether no two rows are on one variable
+abbrev pub are_apart : List Row → Bool
+are_apart [] = true
+are_apart (row ∷ rows) = is_free_of row.entity row.var rows && are_apart rows
+
+-- 1 to 16 rows that fit, no two of them on one variable
+pub record RowsFit (g : Group) (rows : List Row) : Type 0 where
+  pub some : 1 ≤ length rows
+  pub few : length rows ≤ MAX_ROWS
+  pub each : All (RowFits g) rows
+  pub apart : are_apart rows ≡ true

@@ -1,0 +1,29 @@
+//! The words of a network: names, entities and their variables, and the topology of one group. Documents are turned into
+//! topologies here, and every crate above cites the definitions of `specs/`.
+#![tactic(auto)]
+
+mod build;
+mod entity;
+mod level;
+mod message;
+mod name;
+mod names;
+mod parts;
+mod promise;
+mod set;
+mod topo;
+
+pub use entity::{AppId, Entity, Prio, Row, Vals, Var};
+pub use level::{carries, level_of};
+pub use message::{Command, Report};
+pub use name::{MAX_NAME_BYTES, Name};
+pub use parts::{
+    Built, DevicePart, DeviceParts, EndPart, Limit, LinkPart, LinkParts, Parts, PromisePart,
+    PromiseParts, TopoFault,
+};
+pub use promise::{Broken, BrokenKind, Promise, Side};
+pub use set::EntitySet;
+pub use topo::{
+    DeviceOpening, GroupTopo, LinkOpening, MAX_CAPACITY, MAX_DEVICES, MAX_LINKS, MAX_PERCENT,
+    MAX_PROMISES, MAX_ROWS, MAX_TORS,
+};

@@ -1,0 +1,79 @@
+//! The names of the parts of a group, numbered in the order of declaration, with an index.
+
+ghost use Rattle.std.specs.Prelude.{◌≡◌, ◌++◌, [], ◌∷◌, ◌<◌, OnOk, OnErr, IfSome, length, slice_get, Some, false};
+ghost use Rattle.st_net.specs.Names.{place_of, is_among};
+
+use crate::name::Name;
+use indexmap::IndexSet;
+use std::alloc::{AllocError, Global};
+use std::marker::Model;
+
+/// Different names, each of which is found in about one step.
+#[derive(Drop)]
+pub struct Names {
+    alloc: Global,
+    keys: IndexSet<Vec<u8>>,
+    names: Vec<Name>,
+}
+
+impl Model for Names {
+    ghost use Rattle.std.specs.Prelude.{◌≡◌, ℕ, List, map};
+
+    ghost Value = { List (List ℕ) };
+
+    ghost view = { λ n. map (λ key. key.items) n.keys.keys };
+
+    ghost invariant = { λ n. n.names.items ≡ map (λ key. key.items) n.keys.keys };
+}
+
+impl Names {
+    /// No names.
+    pub fn new(alloc: Global) -> Names
+        ensures { result ≡ [] }
+    {
+        Names {
+            alloc,
+            keys: IndexSet::new(alloc),
+            names: Vec::new(alloc),
+        }
+    }
+
+    /// How many there are.
+    pub fn len(&self) -> usize
+        ensures { result ≡ length self.now }
+    {
+        self.names.len()
+    }
+
+    /// The place of a name.
+    pub fn find(&self, name: &[u8]) -> Option<usize>
+        ensures found { result ≡ place_of name.now self.now }
+        ensures within { IfSome result (λ place. place < length self.now) }
+    {
+        self.keys.get_index_of(name)
+    }
+
+    /// The name at a place.
+    pub fn get(&self, place: usize) -> &Name
+        requires { place < length self.now }
+        ensures { slice_get self.now place ≡ Some result.now }
+    {
+        &self.names[place]
+    }
+
+    /// Adds a new name at the end. At `Err` nothing has changed.
+    pub fn add(&mut self, name: &Name) -> Result<(), AllocError>
+        requires { is_among name.now self.old ≡ false }
+        ensures ok { OnOk result (self.new ≡ self.old ++ name.now ∷ []) }
+        ensures err { OnErr result (self.new ≡ self.old) }
+    {
+        let kept = name.copy(self.alloc)?;
+        let key = Vec::from_slice(self.alloc, name.bytes())?;
+        self.names.reserve(1)?;
+        self.keys.insert(key)?;
+        match self.names.push(kept) {
+            Ok(()) => Ok(()),
+            Err(_) => unreachable!(),
+        }
+    }
+}

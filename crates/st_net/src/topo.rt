@@ -1,0 +1,204 @@
+//! The topology of a group that was built: names turned into numbers, every end and pair checked. All crates above read it
+//! and none tests it again.
+
+ghost use Rattle.std.specs.Prelude.{◌≡◌, ℕ, ◌<◌, ◌^◌, length, slice_index_or, slice_get, Some, IfOk, IfSome, IfNone};
+ghost use Rattle.st_net.specs.Groups.{Group, IsEntityOf, find_in, name_of as name_of_lem, no_device, no_link, no_promise, opening_of, health_of, IsSound};
+
+use crate::entity::{Entity, Vals};
+use crate::name::Name;
+use crate::names::Names;
+use crate::promise::Promise;
+use std::alloc::{AllocError, Global};
+use std::marker::Model;
+
+/// The most devices, ToRs, links and promises of a group.
+pub const MAX_DEVICES: usize = 512;
+pub const MAX_TORS: usize = 64;
+pub const MAX_LINKS: usize = 4_096;
+pub const MAX_PROMISES: usize = 2_016;
+
+/// The greatest capacity of a link, and the greatest percentage of a promise.
+pub const MAX_CAPACITY: u32 = 1_000_000;
+pub const MAX_PERCENT: u32 = 100;
+
+/// The most rows of a proposal.
+pub const MAX_ROWS: usize = 16;
+
+/// A device as its group opens with it.
+#[derive(Clone, Copy, Debug, PartialEq, Eq)]
+pub struct DeviceOpening {
+    pub tor: bool,
+    pub vals: Vals,
+    pub health: u32,
+}
+
+/// A link as its group opens with it; its ends are devices' numbers.
+#[derive(Clone, Copy, Debug, PartialEq, Eq)]
+pub struct LinkOpening {
+    pub a: u32,
+    pub b: u32,
+    pub capacity: u32,
+    pub vals: Vals,
+    pub health: u32,
+}
+
+/// The topology of one group, which is sound: names differ, ends and pairs are of the group, and every limit is kept.
+#[derive(Drop)]
+pub struct GroupTopo {
+    name: Name,
+    device_names: Names,
+    link_names: Names,
+    devices: Vec<DeviceOpening>,
+    links: Vec<LinkOpening>,
+    promises: Vec<Promise>,
+}
+
+impl Model for GroupTopo {
+    ghost use Rattle.st_net.specs.Groups.{Group, IsSound};
+
+    ghost Value = { Group };
+
+    ghost view = { λ t. record { name = t.name; device_names = t.device_names; link_names = t.link_names; devices = t.devices.items; links = t.links.items; promises = t.promises.items } };
+
+    ghost invariant = { λ t. IsSound (record { name = t.name; device_names = t.device_names; link_names = t.link_names; devices = t.devices.items; links = t.links.items; promises = t.promises.items }) };
+}
+
+impl GroupTopo {
+    /// A group of these parts, which are sound together.
+    pub(crate) fn from_parts(
+        name: Name,
+        device_names: Names,
+        link_names: Names,
+        devices: Vec<DeviceOpening>,
+        links: Vec<LinkOpening>,
+        promises: Vec<Promise>,
+    ) -> GroupTopo
+        requires { IsSound (record { name = name; device_names = device_names; link_names = link_names; devices = devices.items; links = links.items; promises = promises.items }) }
+        ensures { result ≡ record { name = name; device_names = device_names; link_names = link_names; devices = devices.items; links = links.items; promises = promises.items } }
+    {
+        GroupTopo {
+            name,
+            device_names,
+            link_names,
+            devices,
+            links,
+            promises,
+        }
+    }
+
+    /// The group's name.
+    pub fn name(&self) -> &Name
+        ensures { result.now ≡ self.now.name }
+    {
+        &self.name
+    }
+
+    /// How many devices there are, at most 512.
+    pub fn device_count(&self) -> u32
+        ensures { result ≡ length self.now.devices }
+    {
+        self.devices.len() as u32
+    }
+
+    /// How many links there are, at most 4,096.
+    pub fn link_count(&self) -> u32
+        ensures { result ≡ length self.now.links }
+    {
+        self.links.len() as u32
+    }
+
+    /// How many promises there are, at most 2,016.
+    pub fn promise_count(&self) -> u32
+        ensures { result ≡ length self.now.promises }
+    {
+        self.promises.len() as u32
+    }
+
+    /// The two devices that a link joins, as it was declared.
+    pub fn ends(&self, link: u32) -> (u32, u32)
+        requires { link < length self.now.links }
+        ensures a { result.0 ≡ (slice_index_or self.now.links link no_link).a }
+        ensures b { result.1 ≡ (slice_index_or self.now.links link no_link).b }
+    {
+        let link = &self.links[link as usize];
+        (link.a, link.b)
+    }
+
+    /// A link's capacity, 1 to 1,000,000.
+    pub fn capacity(&self, link: u32) -> u32
+        requires { link < length self.now.links }
+        ensures { result ≡ (slice_index_or self.now.links link no_link).capacity }
+    {
+        self.links[link as usize].capacity
+    }
+
+    /// Whether a device is a ToR.
+    pub fn is_tor(&self, device: u32) -> bool
+        requires { device < length self.now.devices }
+        ensures { result ≡ (slice_index_or self.now.devices device no_device).tor }
+    {
+        self.devices[device as usize].tor
+    }
+
+    /// Promise number `i`, from 0 in the order of declaration.
+    pub fn promise(&self, i: u32) -> Promise
+        requires { i < length self.now.promises }
+        ensures { result ≡ slice_index_or self.now.promises i no_promise }
+    {
+        self.promises[i as usize]
+    }
+
+    /// The values that an entity opens with.
+    pub fn opening(&self, e: Entity) -> Vals
+        requires { IsEntityOf self.now e }
+        ensures { result ≡ opening_of self.now e }
+    {
+        match e {
+            Entity::Device(i) => self.devices[i as usize].vals,
+            Entity::Link(i) => self.links[i as usize].vals,
+        }
+    }
+
+    /// The health that an entity opens with: 0 to 5 of a device, 0 or 1 of a link.
+    pub fn health(&self, e: Entity) -> u32
+        requires { IsEntityOf self.now e }
+        ensures { result ≡ health_of self.now e }
+    {
+        match e {
+            Entity::Device(i) => self.devices[i as usize].health,
+            Entity::Link(i) => self.links[i as usize].health,
+        }
+    }
+
+    /// The entity of a name: None exactly where no part has it.
+    pub fn find(&self, name: &Name) -> Option<Entity>
+        ensures found { result ≡ find_in self.now name.now }
+        ensures within { IfSome result (IsEntityOf self.now) }
+    {
+        match self.device_names.find(name.bytes()) {
+            Some(place) => Some(Entity::Device(place as u32)),
+            None => match self.link_names.find(name.bytes()) {
+                Some(place) => Some(Entity::Link(place as u32)),
+                None => None,
+            },
+        }
+    }
+
+    /// An entity's name.
+    pub fn name_of(&self, e: Entity) -> &Name
+        requires { IsEntityOf self.now e }
+        ensures { result.now ≡ name_of_lem self.now e }
+    {
+        match e {
+            Entity::Device(i) => self.device_names.get(i as usize),
+            Entity::Link(i) => self.link_names.get(i as usize),
+        }
+    }
+
+    /// Names differ, ends and pairs are of the group, and every limit is kept.
+    pub fn is_sound(&self)
+        ensures { IsSound self.now }
+    {
+        let _devices = &self.devices;
+    }
+}
