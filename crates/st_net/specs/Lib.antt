@@ -10,3 +10,4 @@ pub mod UpGraph
 pub mod Cuts
 pub mod Promises
 pub mod Faults
+pub mod Holders

@@ -8,7 +8,7 @@ use Rattle.st_net.specs.declared.entity.Vals.{Vals}
 use Rattle.st_net.specs.declared.entity.Row.{Row}
 use Rattle.st_net.specs.declared.topo.TheConstants.{MAX_ROWS}
 use Rattle.st_net.specs.Entities.{is_same_entity, is_same_var}
-use Rattle.st_net.specs.Groups.{Group, IsEntityOf}
+use Rattle.st_net.specs.Groups.{Group, IsEntityOf, are_device_vals, are_link_vals}
 
 -- the values that a device's variable may have, and a link's; none of a variable that such an entity does not have
 abbrev pub is_device_value : Var → ℕ → Bool
@@ -30,6 +30,15 @@ is_link_value Iface value = nat_lt value (2 ^ 32)
 abbrev pub is_in_range : Entity → Var → ℕ → Bool
 is_in_range (Device i) = is_device_value
 is_in_range (Link i) = is_link_value
+
+-- values in range, and a health
+abbrev pub are_in_range : Entity → Vals → Bool
+are_in_range (Device i) = are_device_vals
+are_in_range (Link i) = are_link_vals
+
+abbrev pub is_health_of : Entity → ℕ → Bool
+is_health_of (Device i) health = nat_le health 5
+is_health_of (Link i) health = nat_le health 1
 
 -- the row names an entity of the group, and a value that its variable may have
 pub record RowFits (g : Group) (row : Row) : Type 0 where

@@ -1,0 +1,15 @@
+pub mod Events
+pub mod Proposals
+pub mod Locks
+pub mod Moments
+pub mod Observed
+pub mod Judge
+pub mod Replies
+pub mod Legal
+pub mod Network
+pub mod Past
+pub mod Facts
+pub mod Agents
+pub mod Heard
+pub mod Standing
+pub mod History
