@@ -1,0 +1,87 @@
+-- An entry moves the target only where it accepts a proposal, and then by that proposal's rows.
+use Rattle.std.proofs.Common.{◌≡◌, ◌+◌, ◌≤◌, List, [], ◌∷◌, ◌++◌, length, drop, refl, ap, sym, ◌∙◌, arith, length-append, length-drop}
+use Rattle.std.specs.Prelude.{true, false}
+use Rattle.st_net.specs.declared.entity.Row.{Row}
+use Rattle.st_net.specs.declared.entity.AppId.{AppId}
+use Rattle.st_event.specs.declared.event.Event.{Event}
+use Rattle.st_event.specs.declared.event.Event.TheVariants.{Submit, Check}
+use Rattle.st_event.specs.declared.reply.Reply.{Reply}
+use Rattle.st_event.specs.declared.reply.Reply.TheVariants.{Queued, Decided}
+use Rattle.st_event.specs.declared.reply.Receipt.{Receipt}
+use Rattle.st_event.specs.declared.journal.Entry.{Entry}
+use Rattle.st_event.specs.declared.event.Proposal.{Proposal}
+use Rattle.st_net.specs.Groups.{Group}
+use Rattle.st_net.specs.Merge.{merge_of, target_with}
+use Rattle.st_event.specs.Proposals.{is_accepted, is_accepting, is_acceptance, proposals, verdicts, pending, accepted, target}
+use Rattle.st_event.specs.Replies.{reply, check_reply, receipt_of}
+use Rattle.st_event.specs.Legal.{IsLegal, IsNext}
+use Rattle.st_net.proofs.MergeLaws.{merge_of-push_all}
+use Rattle.st_event.proofs.Queues.{accepted_among-proposal, accepted_among-verdict}
+
+-- no more verdicts than proposals
+pub record IsOrderly (past : List Entry) : Type 0 where
+  pub few : length (verdicts past) ≤ length (proposals past)
+
+few_at : (g : Group) (past : List Entry) (queue : List Proposal) (answer : Reply) → pending past ≡ queue → answer ≡ check_reply g past queue → IsOrderly past → IsOrderly (record { event = Check; reply = answer } ∷ past)
+few_at g past [] answer first is orderly = rw is (record { few = orderly.few })
+few_at g past (p ∷ rest) answer first is orderly =
+    let more : length (drop (length (verdicts past)) (proposals past)) ≡ length rest + 1 = rw first (omega arith) in
+    rw is (record { few = rw length-append (omega (arith, length-drop (length (verdicts past)) (proposals past))) })
+
+submit_orderly : (past : List Entry) (app : AppId) (rows : List Row) (answer : Reply) → IsOrderly past → IsOrderly (record { event = Submit app rows; reply = answer } ∷ past)
+submit_orderly past app rows (Queued ticket) orderly = record { few = rw length-append (omega (arith, orderly.few)) }
+submit_orderly past app rows _ orderly = record { few = orderly.few }
+
+stays_orderly : (g : Group) (past : List Entry) (event : Event) (answer : Reply) → IsOrderly past → answer ≡ reply g past event → IsOrderly (record { event = event; reply = answer } ∷ past)
+stays_orderly g past (Submit app rows) answer orderly is = submit_orderly past app rows answer orderly
+stays_orderly g past Check answer orderly is = few_at g past (pending past) answer refl is orderly
+stays_orderly g past _ answer orderly is = record { few = orderly.few }
+
+-- legal journals are orderly
+pub legal_orderly : (g : Group) (past : List Entry) → IsLegal g past → IsOrderly past
+legal_orderly g [] legal = record { few = omega arith }
+legal_orderly g (entry ∷ past) legal = stays_orderly g past entry.event entry.reply (legal_orderly g past legal.1) legal.0.answer
+
+submit_same : (past : List Entry) (app : AppId) (rows : List Row) (answer : Reply) → IsOrderly past → accepted (record { event = Submit app rows; reply = answer } ∷ past) ≡ accepted past
+submit_same past app rows (Queued ticket) orderly = accepted_among-proposal (proposals past) (verdicts past) (record { app = app; rows = rows }) orderly.few
+submit_same past app rows _ orderly = refl
+
+refused_same : (past : List Entry) (receipt : Receipt) (p : Proposal) (rest : List Proposal) → pending past ≡ p ∷ rest → is_accepted receipt.verdict ≡ false → accepted (record { event = Check; reply = Decided receipt } ∷ past) ≡ accepted past
+refused_same past receipt p rest first refused = rw (accepted_among-verdict (proposals past) (verdicts past) receipt.verdict p rest first, refused) refl
+
+check_same : (g : Group) (past : List Entry) (queue : List Proposal) (answer : Reply) → pending past ≡ queue → answer ≡ check_reply g past queue → is_accepting answer ≡ false → accepted (record { event = Check; reply = answer } ∷ past) ≡ accepted past
+check_same g past [] answer first is refused = rw is refl
+check_same g past (p ∷ rest) answer first is refused = rw is (refused_same past (receipt_of g past p) p rest first (ap is_accepting (sym is) ∙ refused))
+
+accepted_same : (g : Group) (past : List Entry) (event : Event) (answer : Reply) → IsOrderly past → answer ≡ reply g past event → is_acceptance event answer ≡ false → accepted (record { event = event; reply = answer } ∷ past) ≡ accepted past
+accepted_same g past (Submit app rows) answer orderly is none = submit_same past app rows answer orderly
+accepted_same g past Check answer orderly is none = check_same g past (pending past) answer refl is none
+accepted_same g past _ answer orderly is none = refl
+
+-- an entry that accepts nothing leaves the target
+pub target_same : (g : Group) (past : List Entry) (entry : Entry) → IsLegal g past → IsNext g past entry → is_acceptance entry.event entry.reply ≡ false → target g (entry ∷ past) ≡ target g past
+target_same g past entry legal next none = ap (merge_of g) (accepted_same g past entry.event entry.reply (legal_orderly g past legal) next.answer none)
+
+-- what an acceptance is: a check, whose receipt accepts the oldest pending proposal
+pub record IsAccepted (g : Group) (past : List Entry) (event : Event) (answer : Reply) : Type 0 where
+  pub proposal : Proposal
+  pub rest : List Proposal
+  pub first : pending past ≡ proposal ∷ rest
+  pub check : event ≡ Check
+  pub answers : answer ≡ Decided (receipt_of g past proposal)
+  pub accepts : is_accepted (receipt_of g past proposal).verdict ≡ true
+
+accepted_at : (g : Group) (past : List Entry) (queue : List Proposal) (answer : Reply) → pending past ≡ queue → answer ≡ check_reply g past queue → is_accepting answer ≡ true → IsAccepted g past Check answer
+accepted_at g past [] answer first is accepts = let it = ap is_accepting (sym is) ∙ accepts in cc
+accepted_at g past (p ∷ rest) answer first is accepts = record { proposal = p; rest = rest; first = first; check = refl; answers = is; accepts = ap is_accepting (sym is) ∙ accepts }
+
+pub acceptance : (g : Group) (past : List Entry) (event : Event) (answer : Reply) → answer ≡ reply g past event → is_acceptance event answer ≡ true → IsAccepted g past event answer
+acceptance g past Check answer is accepts = accepted_at g past (pending past) answer refl is accepts
+acceptance g past _ answer is accepts = cc
+
+accepted_next : (past : List Entry) (receipt : Receipt) (p : Proposal) (rest : List Proposal) → pending past ≡ p ∷ rest → is_accepted receipt.verdict ≡ true → accepted (record { event = Check; reply = Decided receipt } ∷ past) ≡ accepted past ++ p.rows ∷ []
+accepted_next past receipt p rest first accepts = rw (accepted_among-verdict (proposals past) (verdicts past) receipt.verdict p rest first, accepts) refl
+
+-- an acceptance overlays the target with the proposal's rows
+pub target_next : (g : Group) (past : List Entry) (receipt : Receipt) (p : Proposal) (rest : List Proposal) → pending past ≡ p ∷ rest → is_accepted receipt.verdict ≡ true → target g (record { event = Check; reply = Decided receipt } ∷ past) ≡ target_with (target g past) p.rows
+target_next g past receipt p rest first accepts = ap (merge_of g) (accepted_next past receipt p rest first accepts) ∙ merge_of-push_all g (accepted past) p.rows
