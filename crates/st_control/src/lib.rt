@@ -1,0 +1,9 @@
+//! The checker of one group: it queues proposals, judges the oldest against what is observed, and merges what it accepts
+//! into the group's target. The world enters its answers in the journal.
+#![tactic(auto)]
+
+mod control;
+mod judge;
+mod settled;
+
+pub use control::{Check, Control, Put};
