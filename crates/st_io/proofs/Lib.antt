@@ -1,0 +1,4 @@
+pub mod Advances
+pub mod Given
+pub mod Pieces
+pub mod Plans

@@ -1,0 +1,4 @@
+pub mod Input
+pub mod Memory
+pub mod Output
+pub mod Outside

@@ -1,0 +1,6 @@
+pub mod AllowedBytes
+pub mod Lines
+pub mod Numbers
+pub mod ReadingBack
+pub mod Tokens
+pub mod Words

@@ -1,0 +1,81 @@
+//! A text that is printed piece by piece. The printers of documents, journals and reports fill one, and its bytes are then
+//! written out, or read again by `lines` and `tokens`.
+
+ghost use Rattle.std.specs.Prelude.{◌≡◌, ◌++◌, [], OnOk, OnErr, decimal};
+
+use std::alloc::{AllocError, Global};
+use std::marker::Model;
+
+/// A list of bytes that grows at its end. Contracts see the list.
+#[derive(Drop)]
+pub struct Text {
+    alloc: Global,
+    bytes: Vec<u8>,
+}
+
+impl Model for Text {
+    ghost use Rattle.std.specs.Prelude.{ℕ, List};
+
+    ghost Value = { List ℕ };
+
+    ghost view = { λ text. text.bytes.items };
+}
+
+impl Text {
+    /// A text of no bytes. It takes no memory.
+    pub fn new(alloc: Global) -> Text
+        ensures { result ≡ [] }
+    {
+        Text {
+            alloc,
+            bytes: Vec::new(alloc),
+        }
+    }
+
+    /// Adds these bytes as they are. `Err` is for want of memory alone, and leaves the text as it was.
+    pub fn word(&mut self, bytes: &[u8]) -> Result<(), AllocError>
+        ensures ok { OnOk result (self.new ≡ self.old ++ bytes.now) }
+        ensures err { OnErr result (self.new ≡ self.old) }
+    {
+        self.bytes.extend_from_slice(bytes)
+    }
+
+    /// Adds a number in decimal, as `{}` writes it: no leading zero, and `0` for zero. `Err` is for want of memory alone,
+    /// and leaves the text as it was.
+    pub fn num(&mut self, n: u64) -> Result<(), AllocError>
+        ensures ok { OnOk result (self.new ≡ self.old ++ decimal n) }
+        ensures err { OnErr result (self.new ≡ self.old) }
+    {
+        let digits = n.to_string(self.alloc)?;
+        self.bytes.extend_from_slice(digits.as_bytes())
+    }
+
+    /// The bytes that were added, in order.
+    pub fn bytes(&self) -> &[u8]
+        ensures { result.now ≡ self.now }
+    {
+        self.bytes.as_slice()
+    }
+}
+
+#[cfg(test)]
+mod tests {
+    use super::*;
+    use std::test::Fail;
+
+    #[test]
+    fn words_and_numbers_stand_in_order(rt: HostRuntime) -> Result<(), Fail> {
+        let mut text = Text::new(rt.alloc());
+        text.word(b"settled")?;
+        text.word(b" ")?;
+        text.num(0)?;
+        text.word(b" ")?;
+        text.num(18446744073709551615)?;
+        text.word(b"\n")?;
+        assert_eq!(rt;
+            text.bytes(),
+            b"settled 0 18446744073709551615\n".as_slice()
+        );
+        Ok(())
+    }
+}
