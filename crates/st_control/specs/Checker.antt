@@ -1,5 +1,5 @@
 -- A checker as contracts see it, how its group stands by what it keeps, and what one call of it does.
-use Rattle.std.specs.Prelude.{◌≡◌, ℕ, ◌<◌, ◌≤◌, List, length, slice_index_or}
+use Rattle.std.specs.Prelude.{◌≡◌, ℕ, ◌+◌, ◌<◌, ◌≤◌, nat_lt, List, [], length, slice_index_or, if◌then◌else◌}
 use Rattle.st_net.specs.declared.entity.Entity.{Entity}
 use Rattle.st_net.specs.declared.entity.Entity.TheVariants.{Device, Link}
 use Rattle.st_net.specs.declared.message.Report.{Report}
@@ -30,7 +30,44 @@ pub record Checker : Type 0 where
   pub decided : ℕ
   pub version : ℕ
 
--- the stamp of an entity: devices come first
+-- where an entity stands in the order of entities: devices come first
+abbrev pub place_in : Group → Entity → ℕ
+place_in g (Device i) = i
+place_in g (Link i) = length g.devices + i
+
+-- the stamp of an entity; 0 of one that the group does not have
 abbrev pub stamp_in : Group → List ℕ → Entity → ℕ
-stamp_in g stamps (Device i) = slice_index_or stamps i 0
+stamp_in g stamps (Device i) = if nat_lt i (length g.devices) then slice_index_or stamps i 0 else 0
 stamp_in g stamps (Link i) = slice_index_or stamps (length g.devices + i) 0
+
+-- how the group stands, by what the checker keeps
+abbrev pub standing_in : Checker → Standing
+standing_in k = record {
+  tickets = k.tickets;
+  decided = k.decided;
+  pending = k.queue;
+  version = k.version;
+  target = value_in k.values;
+  holder = holder_in k.locks;
+  stamp = stamp_in k.group k.stamps;
+  observed = report_in k.group k.observed;
+}
+
+abbrev pub reply_of_put : Put → Reply
+reply_of_put (Ticket ticket) = Queued ticket
+reply_of_put (Full pending) = full_reply pending
+
+abbrev pub reply_of_check : Check → Reply
+reply_of_check (Decided receipt) = decided_reply receipt
+reply_of_check Idle = idle_reply
+
+-- the event gets the reply that is called for, as entry n, and moves the standing by it, whatever messages there are
+pub record Moves (old new : Checker) (n : ℕ) (event : Event) (answer : Reply) : Type 0 where
+  pub reply : (w : Wires) → answer ≡ reply_in old.group (standing_in old) w n event
+  pub standing : (w : Wires) → standing_in new ≡ standing_after old.group (standing_in old) w n event answer
+  pub group : new.group ≡ old.group
+
+-- the checker stands as an empty journal leaves its group
+pub record IsStart (g : Group) (k : Checker) : Type 0 where
+  pub group : k.group ≡ g
+  pub standing : standing_in k ≡ standing_of g []
