@@ -1,44 +1,38 @@
 -- A checker as contracts see it, how its group stands by what it keeps, and what one call of it does.
-use Rattle.std.specs.Prelude.{◌≡◌, ℕ, ◌+◌, ◌<◌, ◌≤◌, nat_lt, List, [], length, slice_index_or, if◌then◌else◌}
-use Rattle.st_net.specs.declared.entity.Entity.{Entity}
-use Rattle.st_net.specs.declared.entity.Entity.TheVariants.{Device, Link}
+use Rattle.std.specs.Prelude.{◌≡◌, ℕ, List, []}
+use Rattle.st_net.specs.declared.entity.AppId.{AppId}
+use Rattle.st_net.specs.declared.entity.Row.{Row}
 use Rattle.st_net.specs.declared.message.Report.{Report}
 use Rattle.st_net.specs.Groups.{Group}
+use Rattle.st_net.specs.Merge.{without_altered, alters}
+use Rattle.st_net.specs.Sets.{MarksOf, is_in}
 use Rattle.st_event.specs.declared.event.Event.{Event}
 use Rattle.st_event.specs.declared.event.Proposal.{Proposal}
 use Rattle.st_event.specs.declared.reply.Reply.{Reply}
 use Rattle.st_event.specs.declared.reply.Reply.TheVariants.{Queued, Full as full_reply, Decided as decided_reply, Idle as idle_reply}
-use Rattle.st_event.specs.Standing.{Standing, Wires, standing_of, standing_after, reply_in}
-use Rattle.st_overlay.specs.Values.{Values, value_in}
+use Rattle.st_event.specs.declared.reply.Verdict.{Verdict}
+use Rattle.st_event.specs.Judge.{judge}
+use Rattle.st_event.specs.Standing.{Standing, Wires, standing_of, standing_after, sure_in, reply_in}
+use Rattle.st_overlay.specs.Values.{value_in}
 use Rattle.st_locks.specs.LockRows.{LockRows, holder_in}
-use Rattle.st_rows.specs.Observed.{report_in}
+use Rattle.st_rows.specs.Reports.{report_in}
+use Rattle.st_control.specs.Target.{TargetView, stamp_in}
+use Rattle.st_control.specs.declared.control.Judged.{Judged}
 use Rattle.st_control.specs.declared.control.Put.{Put}
 use Rattle.st_control.specs.declared.control.Put.TheVariants.{Ticket, Full}
 use Rattle.st_control.specs.declared.control.Check.{Check}
 use Rattle.st_control.specs.declared.control.Check.TheVariants.{Decided, Idle}
 
--- the group; its target, its locks, and a report and a stamp for each entity, in the order of entities; the proposals that wait; how many tickets
--- were given, how many were decided, and how many accepted
+-- the group; its target and its locks; a report for each entity, in the order of entities; the proposals that wait; how many tickets were given,
+-- and how many were decided
 pub record Checker : Type 0 where
   pub group : Group
-  pub values : Values
+  pub target : TargetView
   pub locks : LockRows
   pub observed : List Report
-  pub stamps : List ℕ
   pub queue : List Proposal
   pub tickets : ℕ
   pub decided : ℕ
-  pub version : ℕ
-
--- where an entity stands in the order of entities: devices come first
-abbrev pub place_in : Group → Entity → ℕ
-place_in g (Device i) = i
-place_in g (Link i) = length g.devices + i
-
--- the stamp of an entity; 0 of one that the group does not have
-abbrev pub stamp_in : Group → List ℕ → Entity → ℕ
-stamp_in g stamps (Device i) = if nat_lt i (length g.devices) then slice_index_or stamps i 0 else 0
-stamp_in g stamps (Link i) = slice_index_or stamps (length g.devices + i) 0
 
 -- how the group stands, by what the checker keeps
 abbrev pub standing_in : Checker → Standing
@@ -46,12 +40,22 @@ standing_in k = record {
   tickets = k.tickets;
   decided = k.decided;
   pending = k.queue;
-  version = k.version;
-  target = value_in k.values;
+  version = k.target.version;
+  target = value_in k.target.values;
   holder = holder_in k.locks;
-  stamp = stamp_in k.group k.stamps;
+  stamp = stamp_in k.group k.target.stamps;
   observed = report_in k.group k.observed;
 }
+
+-- the verdict on an application's rows, where the group stands so
+abbrev pub verdict_in : Group → Standing → AppId → List Row → Verdict
+verdict_in g s app rows = judge g s.observed s.target s.holder (sure_in g s) (without_altered g (sure_in g s) s.target rows) s.version app rows
+
+-- the verdict on a proposal, and the entities that its rows alter
+pub record IsJudgedIn (k : Checker) (p : Proposal) (judged : Judged) : Type 0 where
+  pub decision : judged.verdict ≡ verdict_in k.group (standing_in k) p.app p.rows
+  pub marks : MarksOf k.group judged.changed
+  pub altered : is_in judged.changed ≡ alters k.group (value_in k.target.values) p.rows
 
 abbrev pub reply_of_put : Put → Reply
 reply_of_put (Ticket ticket) = Queued ticket

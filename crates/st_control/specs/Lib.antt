@@ -1,2 +1,4 @@
+pub mod Target
 pub mod Checker
 pub mod Inside
+pub mod Sure

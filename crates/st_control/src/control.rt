@@ -1,15 +1,25 @@
 //! The checker of one group. What it keeps is enough to answer an event as the group's whole journal calls for.
 
-ghost use Rattle.std.specs.Prelude.{◌≡◌, ℕ, ◌<◌, ◌^◌, ◌+◌, All, IfOk, OnErr};
+ghost use Rattle.std.specs.Prelude.{◌≡◌, ℕ, ◌<◌, ◌^◌, ◌+◌, ◌&&◌, not, All, length, IfOk, OnErr};
+ghost use Rattle.st_net.specs.Merge.{alters};
+ghost use Rattle.st_net.specs.Promises.{first_broken};
 ghost use Rattle.st_net.specs.Ranges.{RowsFit};
+ghost use Rattle.st_net.specs.Sets.{is_in, MarksOf};
 ghost use Rattle.st_event.specs.declared.event.Event.TheVariants.{Submit, Check as check_event};
-ghost use Rattle.st_control.specs.Checker.{Moves, IsStart, reply_of_put, reply_of_check};
+ghost use Rattle.st_event.specs.Standing.{sure_in};
+ghost use Rattle.st_overlay.specs.Values.{value_in};
+ghost use Rattle.st_control.specs.Checker.{Moves, IsStart, standing_in, verdict_in, IsJudgedIn, reply_of_put, reply_of_check};
 ghost use Rattle.st_control.specs.Inside.{IsWalkAlone};
 
-use st_event::{MAX_PENDING, Proposal, Receipt, Reply, Rows, Verdict};
+use crate::settled::opening_reports;
+use crate::sure::{sure_set, take_out};
+use crate::target::Target;
+use st_event::{Cause, MAX_PENDING, Proposal, Receipt, Reply, Rows, Verdict};
 use st_locks::LockTable;
-use st_net::{AppId, EntitySet, GroupTopo, Report};
-use st_overlay::Table;
+use st_net::{AppId, Broken, EntitySet, GroupTopo, Report, Row};
+use st_overlay::{Table, changed};
+use st_promise::judge_pairs;
+use st_rows::judge_rows;
 use std::alloc::{AllocError, Global};
 use std::marker::Model;
 
@@ -53,19 +63,24 @@ impl From<Check> for Reply {
     }
 }
 
+/// A verdict, and the entities that its proposal alters.
+#[derive(Drop)]
+struct Judged {
+    verdict: Verdict,
+    changed: EntitySet,
+}
+
 /// The checker of one group.
 #[derive(Drop)]
 pub struct Control {
     alloc: Global,
     topo: GroupTopo,
-    table: Table,
+    target: Target,
     locks: LockTable,
     observed: Vec<Report>,
-    stamps: Vec<u32>,
     queue: Vec<Proposal>,
     tickets: u32,
     decided: u32,
-    version: u32,
 }
 
 impl Model for Control {
@@ -78,4 +93,156 @@ impl Model for Control {
     ghost view = { checker_of };
 
     ghost invariant = { λ c. IsConsistent (checker_of c) };
+}
+
+impl Control {
+    /// The checker of a group at its opening.
+    pub fn start(alloc: Global, topo: GroupTopo) -> Result<Control, AllocError>
+        requires { All IsWalkAlone topo.promises }
+        ensures { IfOk result (IsStart topo) }
+    {
+        let target = Target::opening(alloc, &topo)?;
+        let locks = LockTable::start(alloc, &topo)?;
+        let observed = opening_reports(alloc, &topo)?;
+        Ok(Control {
+            alloc,
+            topo,
+            target,
+            locks,
+            observed,
+            queue: Vec::new(alloc),
+            tickets: 0,
+            decided: 0,
+        })
+    }
+
+    /// The group.
+    pub fn topo(&self) -> &GroupTopo
+        ensures { result.now ≡ self.now.group }
+    {
+        &self.topo
+    }
+
+    /// The values of the target.
+    pub fn table(&self) -> &Table
+        ensures { result.now ≡ self.now.target.values }
+    {
+        self.target.table()
+    }
+
+    /// How many proposals wait.
+    pub fn pending(&self) -> usize
+        ensures { result ≡ length self.now.queue }
+    {
+        self.queue.len()
+    }
+
+    /// The sure entities.
+    pub fn sure(&self) -> Result<EntitySet, AllocError>
+        ensures of { IfOk result (MarksOf self.now.group) }
+        ensures sure { IfOk result (λ set. is_in set ≡ sure_in self.now.group (standing_in self.now)) }
+    {
+        sure_set(
+            self.alloc,
+            &self.topo,
+            self.target.table(),
+            self.observed.as_slice(),
+            self.target.stamps(),
+        )
+    }
+
+    /// Puts a proposal at the end of the queue, unless 64 wait: then it is dropped. At `Err` nothing has changed.
+    pub fn submit(&mut self, app: AppId, rows: Rows) -> Result<Put, AllocError>
+        requires fits { RowsFit self.old.group rows }
+        requires tickets { self.old.tickets + 1 < 2 ^ 32 }
+        ensures ok { IfOk result (λ put. (n : ℕ) → Moves self.old self.new n (Submit app rows) (reply_of_put put)) }
+        ensures err { OnErr result (self.new ≡ self.old) }
+    {
+        let pending = self.queue.len();
+        if pending >= MAX_PENDING {
+            return Ok(Put::Full {
+                pending: pending as u32,
+            });
+        }
+        self.queue.push(Proposal { app, rows })?;
+        self.tickets += 1;
+        Ok(Put::Ticket(self.tickets))
+    }
+
+    /// The first promise that would break while these entities change.
+    fn broken(&self, changed: &EntitySet) -> Result<Option<Broken>, AllocError>
+        requires { MarksOf self.now.group changed.now }
+        ensures { IfOk result (λ broken. broken ≡ first_broken self.now.group (sure_in self.now.group (standing_in self.now)) (λ e. sure_in self.now.group (standing_in self.now) e && not (is_in changed.now e)) 0 self.now.group.promises) }
+    {
+        let sure = self.sure()?;
+        let mut after = sure.copy(self.alloc)?;
+        take_out(&self.topo, &mut after, changed);
+        judge_pairs(self.alloc, &self.topo, &sure, &after)
+    }
+
+    /// The verdict on an application's rows, which alter these entities.
+    fn verdict(
+        &self,
+        app: AppId,
+        rows: &[Row],
+        changed: &EntitySet,
+    ) -> Result<Verdict, AllocError>
+        requires fits { RowsFit self.now.group rows.now }
+        requires marks { MarksOf self.now.group changed.now }
+        requires changed { is_in changed.now ≡ alters self.now.group (value_in self.now.target.values) rows.now }
+        requires version { self.now.target.version + 1 < 2 ^ 32 }
+        ensures { IfOk result (λ verdict. verdict ≡ verdict_in self.now.group (standing_in self.now) app rows.now) }
+    {
+        let refusal = judge_rows(
+            &self.topo,
+            self.observed.as_slice(),
+            self.target.table(),
+            &self.locks,
+            app,
+            rows,
+        )?;
+        if let Some(cause) = refusal {
+            return Ok(Verdict::Refused(cause));
+        }
+        match self.broken(changed)? {
+            Some(broken) => Ok(Verdict::Refused(Cause::Broken(broken))),
+            None => Ok(Verdict::Accepted {
+                version: self.target.version() + 1,
+            }),
+        }
+    }
+
+    /// The verdict on a proposal, and the entities that it alters.
+    fn judged(&self, proposal: &Proposal) -> Result<Judged, AllocError>
+        requires fits { RowsFit self.now.group proposal.now.rows }
+        requires version { self.now.target.version + 1 < 2 ^ 32 }
+        ensures { IfOk result (IsJudgedIn self.now proposal.now) }
+    {
+        let rows = proposal.rows.as_slice();
+        let changed = changed(self.alloc, &self.topo, self.target.table(), rows)?;
+        let verdict = self.verdict(proposal.app, rows, &changed)?;
+        Ok(Judged { verdict, changed })
+    }
+
+    /// Decides the oldest proposal that waits, as entry number `entry`. At `Err` nothing has changed.
+    pub fn check(&mut self, entry: u32) -> Result<Check, AllocError>
+        ensures ok { IfOk result (λ check. Moves self.old self.new entry check_event (reply_of_check check)) }
+        ensures err { OnErr result (self.new ≡ self.old) }
+    {
+        if self.queue.is_empty() {
+            return Ok(Check::Idle);
+        }
+        let Judged { verdict, changed } = self.judged(&self.queue[0])?;
+        // What follows cannot fail.
+        let proposal = self.queue.remove(0);
+        let rows = proposal.rows.as_slice();
+        self.target
+            .merge_accepted(&self.topo, rows, &changed, entry, &verdict);
+        self.decided += 1;
+        Ok(Check::Decided(Receipt {
+            ticket: self.decided,
+            entry,
+            verdict,
+        }))
+    }
 }

@@ -3,7 +3,8 @@
 #![tactic(auto)]
 
 mod control;
-mod judge;
 mod settled;
+mod sure;
+mod target;
 
 pub use control::{Check, Control, Put};

@@ -1,3 +1,4 @@
+pub mod Adapted
 pub mod Input
 pub mod Memory
 pub mod Output

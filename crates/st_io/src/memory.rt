@@ -1,4 +1,5 @@
-//! A source and a sink in memory that a test can make fail at chosen calls, and that give and take a few bytes at a time.
+//! A source and a sink in memory that a test can make fail at chosen calls, and that give and take a few bytes at a
+//! time.
 ghost use Rattle.std.specs.Prelude.{◌≡◌, ◌↔◌, ◌+◌, ◌<◌, ◌≤◌, [], ℕ, Some, length, OnOk, OnErr};
 ghost use Rattle.st_io.specs.Outside.{Gives, Takes, HasReadCause, HasWriteCause};
 ghost use Rattle.st_io.specs.Memory.{CountsCall, FailsNext, faults_of, taken_count};
@@ -10,8 +11,8 @@ use crate::unread::Unread;
 use std::alloc::{AllocError, Global};
 use std::marker::Model;
 
-/// Gives its bytes, at most `most` at a time, and fails at the calls that it was told. It is seen as the bytes that are
-/// left, `most`, and the plan of its faults.
+/// Gives its bytes, at most `most` at a time, and fails at the calls that it was told. It is seen as the bytes that
+/// are left, `most`, and the plan of its faults.
 #[derive(Drop)]
 pub struct MemorySource {
     unread: Unread,
@@ -31,8 +32,9 @@ impl Model for MemorySource {
 }
 
 impl MemorySource {
-    /// A source of these bytes. `most`, at least 1, bounds the bytes of one read, and `fails` lists the numbers, from 1, of
-    /// the reads that fail. The order of the list says nothing, and a number that stands twice in it is one failed read.
+    /// A source of these bytes. `most`, at least 1, bounds the bytes of one read, and `fails` lists the numbers,
+    /// from 1, of the reads that fail. The order of the list says nothing, and a number that stands twice in it is
+    /// one failed read.
     pub fn new(bytes: Vec<u8>, most: usize, fails: Vec<u32>) -> MemorySource
         requires { 0 < most }
         ensures left { result.rest ≡ bytes.items }
@@ -71,8 +73,8 @@ impl Source for MemorySource {
     }
 }
 
-/// Takes at most `most` bytes at a time, and fails at the calls that it was told. It is seen as what it took with its room,
-/// `most`, and the plan of its faults.
+/// Takes at most `most` bytes at a time, and fails at the calls that it was told. It is seen as what it took with
+/// its room, `most`, and the plan of its faults.
 #[derive(Drop)]
 pub struct MemorySink {
     held: Held,
@@ -92,9 +94,9 @@ impl Model for MemorySink {
 }
 
 impl MemorySink {
-    /// A sink that holds nothing yet. `most`, at least 1, bounds the bytes of one write, and `fails` lists the numbers, from
-    /// 1, of the writes that fail. The order of the list says nothing, and a number that stands twice in it is one failed
-    /// write.
+    /// A sink that holds nothing yet. `most`, at least 1, bounds the bytes of one write, and `fails` lists the
+    /// numbers, from 1, of the writes that fail. The order of the list says nothing, and a number that stands twice
+    /// in it is one failed write.
     pub fn new(alloc: Global, most: usize, fails: Vec<u32>) -> MemorySink
         requires { 0 < most }
         ensures held { result.store.bytes ≡ [] }
@@ -117,12 +119,13 @@ impl MemorySink {
         self.held.bytes()
     }
 
-    /// Makes room: after `Ok` no write answers `OutOfMemory` until `n` more bytes were taken. It counts as no write. After
-    /// `Err`, for want of memory, the sink is as it was.
+    /// Makes room: after `Ok` no write answers `OutOfMemory` until `n` more bytes were taken. It counts as no
+    /// write. After `Err`, for want of memory, the sink is as it was.
     pub fn reserve(&mut self, n: usize) -> Result<(), AllocError>
         ensures ok { OnOk result (n ≤ self.new.store.room) }
         ensures room { self.old.store.room ≤ self.new.store.room }
-        ensures rest { self.new ≡ record self.old { store = record self.old.store { room = self.new.store.room } } }
+        ensures rest { self.new ≡
+            record self.old { store = record self.old.store { room = self.new.store.room } } }
         ensures err { OnErr result (self.new ≡ self.old) }
     {
         self.held.reserve(n)
@@ -150,5 +153,50 @@ impl Sink for MemorySink {
             return WriteStep::Failed;
         }
         self.held.take(piece, self.most)
+    }
+}
+
+#[cfg(test)]
+mod tests {
+    use super::*;
+    use crate::{ReadEnd, Written, read_all, write_all};
+    use std::test::Fail;
+
+    const TEXT: &[u8] = b"accepted 1 entry 4\naccepted 2 entry 9\n";
+
+    #[test]
+    fn a_fault_ends_reading_and_loses_nothing(rt: HostRuntime) -> Result<(), Fail> {
+        let alloc = rt.alloc();
+        let fails = [2, 2].to_vec(alloc)?;
+        let mut source = MemorySource::new(TEXT.to_vec(alloc)?, 16, fails);
+        let first = read_all(alloc, &mut source)?;
+        assert_eq!(rt; first.end, ReadEnd::Failed);
+        assert_eq!(rt; first.bytes.as_slice(), b"accepted 1 entry".as_slice());
+
+        let second = read_all(alloc, &mut source)?;
+        assert_eq!(rt; second.end, ReadEnd::End);
+        assert_eq!(rt;
+            second.bytes.as_slice(),
+            b" 4\naccepted 2 entry 9\n".as_slice()
+        );
+        Ok(())
+    }
+
+    #[test]
+    fn a_fault_ends_writing_at_a_prefix(rt: HostRuntime) -> Result<(), Fail> {
+        let alloc = rt.alloc();
+        let mut sink = MemorySink::new(alloc, 16, [3].to_vec(alloc)?);
+        sink.reserve(100)?;
+        assert_eq!(rt; write_all(&mut sink, TEXT), Written::Failed);
+        assert_eq!(rt;
+            sink.bytes(),
+            b"accepted 1 entry 4\naccepted 2 en".as_slice()
+        );
+        assert_eq!(rt; write_all(&mut sink, b"!"), Written::All);
+        assert_eq!(rt;
+            sink.bytes(),
+            b"accepted 1 entry 4\naccepted 2 en!".as_slice()
+        );
+        Ok(())
     }
 }

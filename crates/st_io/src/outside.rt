@@ -1,5 +1,5 @@
-//! What a source and a sink promise, whatever stands behind them. Everything that reads or writes goes through these two
-//! traits, so that a contract can name the bytes that came in and went out.
+//! What a source and a sink promise, whatever stands behind them. Everything that reads or writes goes through
+//! these two traits, so that a contract can name the bytes that came in and went out.
 ghost use Rattle.std.specs.Prelude.{◌<◌, ℕ, List, Option, length};
 ghost use Rattle.st_io.specs.Outside.{Gives, Takes, HasReadCause, HasWriteCause};
 
@@ -37,8 +37,8 @@ pub trait Source {
     // How often it has failed. It may stop at the last number of 64 bits.
     ghost faults: { Self → ℕ };
 
-    /// Puts the next bytes at the front of `buf`. At `End` and at `Failed` the bytes that are left stay as they were, and
-    /// what `buf` holds then means nothing.
+    /// Puts the next bytes at the front of `buf`. At `End` and at `Failed` the bytes that are left stay as they
+    /// were, and what `buf` holds then means nothing.
     fn read(&mut self, buf: &mut [u8]) -> ReadStep
         requires { 0 < length buf.old }
         ensures step { Gives (left self.old) (left self.new) buf.new result }
@@ -53,7 +53,8 @@ pub trait Sink {
     // How often it has failed. It may stop at the last number of 64 bits.
     ghost faults: { Self → ℕ };
 
-    /// Takes bytes from the front of `piece`. At `Failed` and at `OutOfMemory` the bytes that it holds stay as they were.
+    /// Takes bytes from the front of `piece`. At `Failed` and at `OutOfMemory` the bytes that it holds stay as they
+    /// were.
     fn write(&mut self, piece: &[u8]) -> WriteStep
         requires { 0 < length piece.now }
         ensures step { Takes (held self.old) (held self.new) piece.now result }

@@ -4,8 +4,8 @@ ghost use Rattle.st_io.specs.Memory.{CountsCall, FailsNext, faults_of};
 
 use std::marker::Model;
 
-/// The numbers, from 1, of the calls that fail, in any order, and how many calls were made. The number of calls stands
-/// still at `u32::MAX`: the list can name no later call, so none fails.
+/// The numbers, from 1, of the calls that fail, in any order, and how many calls were made. The number of calls
+/// stands still at `u32::MAX`: the list can name no later call, so none fails.
 #[derive(Drop)]
 pub struct FaultPlan {
     fails: Vec<u32>,
@@ -33,7 +33,8 @@ impl FaultPlan {
     pub fn begin(&mut self) -> bool
         ensures fails { IsTrue result ↔ FailsNext self.old }
         ensures counted { CountsCall self.old self.new }
-        ensures faults { faults_of self.new ≡ (if result then faults_of self.old + 1 else faults_of self.old) }
+        ensures faults { faults_of self.new ≡
+            (if result then faults_of self.old + 1 else faults_of self.old) }
     {
         let Some(number) = self.calls.checked_add(1) else {
             return false;

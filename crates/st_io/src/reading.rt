@@ -34,8 +34,8 @@ pub struct Input {
     pub end: ReadEnd,
 }
 
-/// Reads to the end, to a fault, or to one byte more than an input may have. After `Err`, for want of memory, the bytes that
-/// were read are lost.
+/// Reads to the end, to a fault, or to one byte more than an input may have. After `Err`, for want of memory, the
+/// bytes that were read are lost.
 pub fn read_all<S: Source>(alloc: Global, source: &mut S) -> Result<Input, AllocError>
     ensures input { IfOk result (λ input. ReadsInput (S.left source.old) (S.left source.new)
         (S.faults source.old) (S.faults source.new) input.bytes.items input.end) }
@@ -90,5 +90,28 @@ fn read_some<S: Source>(
         }
         ReadStep::End => Ok(ReadStep::End),
         ReadStep::Failed => Ok(ReadStep::Failed),
+    }
+}
+
+#[cfg(test)]
+mod tests {
+    use super::*;
+    use crate::SureSource;
+    use std::test::Fail;
+
+    #[test]
+    fn one_byte_more_than_the_most_is_too_long(rt: HostRuntime) -> Result<(), Fail> {
+        let alloc = rt.alloc();
+        let mut bytes = vec![in alloc; b'x'; MAX_BYTES]?;
+        let most = read_all(alloc, &mut SureSource::new(bytes.clone()?))?;
+        assert_eq!(rt; most.end, ReadEnd::End);
+        assert_eq!(rt; most.bytes.len(), MAX_BYTES);
+
+        bytes.push(b'x')?;
+        bytes.push(b'x')?;
+        let long = read_all(alloc, &mut SureSource::new(bytes))?;
+        assert_eq!(rt; long.end, ReadEnd::TooLong);
+        assert_eq!(rt; long.bytes.len(), MAX_BYTES + 1);
+        Ok(())
     }
 }

@@ -44,8 +44,8 @@ impl Source for SureSource {
     }
 }
 
-/// Takes all bytes that there is memory for, and never fails. It is seen as the bytes that it took, and its room: how many
-/// more it takes before a write may answer `OutOfMemory`.
+/// Takes all bytes that there is memory for, and never fails. It is seen as the bytes that it took, and its room:
+/// how many more it takes before a write may answer `OutOfMemory`.
 #[derive(Drop)]
 pub struct SureSink {
     held: Held,
@@ -75,8 +75,8 @@ impl SureSink {
         self.held.bytes()
     }
 
-    /// Makes room: after `Ok` no write answers `OutOfMemory` until `n` more bytes were taken. After `Err`, for want of
-    /// memory, the sink is as it was.
+    /// Makes room: after `Ok` no write answers `OutOfMemory` until `n` more bytes were taken. After `Err`, for want
+    /// of memory, the sink is as it was.
     pub fn reserve(&mut self, n: usize) -> Result<(), AllocError>
         ensures ok { OnOk result (n ≤ self.new.room) }
         ensures room { self.old.room ≤ self.new.room }
@@ -101,5 +101,28 @@ impl Sink for SureSink {
         ensures room { self.old.room ≤ self.new.room + taken_count result }
     {
         self.held.take(piece, piece.len())
+    }
+}
+
+#[cfg(test)]
+mod tests {
+    use super::*;
+    use crate::{ReadEnd, Written, read_all, write_all};
+    use std::test::Fail;
+
+    #[test]
+    fn a_text_goes_through_whole(rt: HostRuntime) -> Result<(), Fail> {
+        let alloc = rt.alloc();
+        let mut source = SureSource::new(b"group dc1\n".to_vec(alloc)?);
+        let input = read_all(alloc, &mut source)?;
+        assert_eq!(rt; input.end, ReadEnd::End);
+        assert_eq!(rt; input.bytes.as_slice(), b"group dc1\n".as_slice());
+
+        let mut sink = SureSink::new(alloc);
+        sink.reserve(4)?;
+        assert_eq!(rt; write_all(&mut sink, &input.bytes), Written::All);
+        assert_eq!(rt; write_all(&mut sink, b""), Written::All);
+        assert_eq!(rt; sink.bytes(), b"group dc1\n".as_slice());
+        Ok(())
     }
 }

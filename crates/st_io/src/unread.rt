@@ -35,7 +35,8 @@ impl Unread {
         requires most { 0 < most }
         ensures step { Gives (Some self.old) (Some self.new) buf.new result }
         ensures failed { result ≢ ReadStep.Failed }
-        ensures got { (n : ℕ) → result ≡ ReadStep.Got n → n ≡ min (min most (length buf.old)) (length self.old) }
+        ensures got { (n : ℕ) → result ≡ ReadStep.Got n →
+            n ≡ min (min most (length buf.old)) (length self.old) }
     {
         let rest = self.bytes.len() - self.at;
         if rest == 0 {

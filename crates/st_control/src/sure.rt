@@ -1,0 +1,113 @@
+//! Sets of entities that are made by looking at each entity of a group in order.
+
+ghost use Rattle.std.specs.Prelude.{◌≡◌, ◌+◌, ◌<◌, ◌&&◌, not, ℕ, length, IfOk, if◌then◌else◌};
+ghost use Rattle.st_net.specs.Groups.{IsEntityOf};
+ghost use Rattle.st_net.specs.Sets.{is_in, MarksOf};
+ghost use Rattle.st_event.specs.Observed.{is_sure_by, is_settled_by};
+ghost use Rattle.st_overlay.specs.Values.{IsTableOf};
+ghost use Rattle.st_control.specs.Target.{entity_count, place_in, stamp_in};
+ghost use Rattle.st_control.specs.Sure.{sure_by};
+
+use crate::settled::is_sure;
+use st_net::{Entity, EntitySet, GroupTopo, Report};
+use st_overlay::Table;
+use std::alloc::{AllocError, Global};
+
+/// Where an entity stands in the order of entities.
+pub fn place_of(topo: &GroupTopo, entity: Entity) -> usize
+    requires { IsEntityOf topo.now entity }
+    ensures place { result ≡ place_in topo.now entity }
+    ensures within { result < entity_count topo.now }
+{
+    match entity {
+        Entity::Device(i) => i as usize,
+        Entity::Link(i) => topo.device_count() as usize + i as usize,
+    }
+}
+
+/// Whether an entity is sure.
+fn is_sure_at(
+    topo: &GroupTopo,
+    table: &Table,
+    observed: &[Report],
+    stamps: &[u32],
+    entity: Entity,
+) -> bool
+    requires entity { IsEntityOf topo.now entity }
+    requires table { IsTableOf topo.now table.now }
+    requires observed { length observed.now ≡ entity_count topo.now }
+    requires stamps { length stamps.now ≡ entity_count topo.now }
+    ensures { result ≡ sure_by topo.now observed.now stamps.now table.now entity }
+{
+    let place = place_of(topo, entity);
+    is_sure(entity, &observed[place], stamps[place], table.get(entity))
+}
+
+/// The sure entities.
+pub fn sure_set(
+    alloc: Global,
+    topo: &GroupTopo,
+    table: &Table,
+    observed: &[Report],
+    stamps: &[u32],
+) -> Result<EntitySet, AllocError>
+    requires table { IsTableOf topo.now table.now }
+    requires observed { length observed.now ≡ entity_count topo.now }
+    requires stamps { length stamps.now ≡ entity_count topo.now }
+    ensures of { IfOk result (MarksOf topo.now) }
+    ensures sure { IfOk result (λ set. is_in set ≡ sure_by topo.now observed.now stamps.now table.now) }
+{
+    let mut set = EntitySet::none(alloc, topo)?;
+    'devices: for i in 0..topo.device_count() {
+        let entity = Entity::Device(i);
+        if is_sure_at(topo, table, observed, stamps, entity) {
+            set.put(entity);
+        }
+    }
+    'links: for i in 0..topo.link_count() {
+        let entity = Entity::Link(i);
+        if is_sure_at(topo, table, observed, stamps, entity) {
+            set.put(entity);
+        }
+    }
+    Ok(set)
+}
+
+/// Takes all entities of one set out of another.
+pub fn take_out(topo: &GroupTopo, set: &mut EntitySet, out: &EntitySet)
+    requires set { MarksOf topo.now set.old }
+    requires out { MarksOf topo.now out.now }
+    ensures of { MarksOf topo.now set.new }
+    ensures left { is_in set.new ≡ (λ e. is_in set.old e && not (is_in out.now e)) }
+{
+    'devices: for i in 0..topo.device_count() {
+        if out.has(Entity::Device(i)) {
+            set.remove(Entity::Device(i));
+        }
+    }
+    'links: for i in 0..topo.link_count() {
+        if out.has(Entity::Link(i)) {
+            set.remove(Entity::Link(i));
+        }
+    }
+}
+
+/// Stamps all entities of a set.
+pub fn stamp_all(topo: &GroupTopo, stamps: &mut [u32], set: &EntitySet, stamp: u32)
+    requires stamps { length stamps.old ≡ entity_count topo.now }
+    requires set { MarksOf topo.now set.now }
+    ensures count { length stamps.new ≡ length stamps.old }
+    ensures stamps { stamp_in topo.now stamps.new ≡ (λ e. if is_in set.now e then stamp else stamp_in topo.now stamps.old e) }
+{
+    let devices = topo.device_count();
+    'devices: for i in 0..devices {
+        if set.has(Entity::Device(i)) {
+            stamps[i as usize] = stamp;
+        }
+    }
+    'links: for i in 0..topo.link_count() {
+        if set.has(Entity::Link(i)) {
+            stamps[devices as usize + i as usize] = stamp;
+        }
+    }
+}

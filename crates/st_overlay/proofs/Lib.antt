@@ -1,0 +1,4 @@
+pub mod RowSets
+pub mod Overlaying
+pub mod Openings
+pub mod Alterations

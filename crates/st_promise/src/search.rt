@@ -1,0 +1,191 @@
+//! The search from one device over the links of the up graph. It finds each device that a walk from there reaches, and keeps
+//! how it came to each: walks and cuts are read off what it found.
+
+ghost use Rattle.std.specs.Prelude.{◌≡◌, ◌<◌, ◌^◌, Bool, length, slice_index_or, IfOk, OnOk, IfSome, IfNone, Some, None};
+ghost use Rattle.st_net.specs.Groups.{Group, no_link};
+ghost use Rattle.st_net.specs.Sets.{Marks, is_in, MarksOf};
+ghost use Rattle.st_net.specs.UpGraph.{is_up_link};
+ghost use Rattle.st_net.specs.Cuts.{numbers_in};
+ghost use Rattle.st_promise.specs.Search.{Visits, is_found, entered, IsSearch, IsNext, IsOver, IsJoined, IsSettled, IsSettledBelow, Extends};
+
+use st_net::{Entity, EntitySet, GroupTopo, Side};
+use std::alloc::{AllocError, Global};
+use std::marker::Model;
+
+/// The link over which a device was found, and the place of the step that it leads from.
+#[derive(Clone, Copy, Debug, PartialEq, Eq)]
+pub struct Came {
+    pub link: u32,
+    pub from: u32,
+}
+
+/// A device that was found, and how: the search's start came over no link.
+#[derive(Clone, Copy, Debug, PartialEq, Eq)]
+pub struct Step {
+    pub device: u32,
+    pub came: Option<Came>,
+}
+
+/// What a search has found: its steps in order, and for each device the place of its step.
+#[derive(Drop)]
+pub struct Search {
+    root: u32,
+    places: Vec<Option<u32>>,
+    steps: Vec<Step>,
+}
+
+impl Model for Search {
+    ghost use Rattle.st_promise.specs.Search.{Visits};
+
+    ghost Value = { Visits };
+
+    ghost view = { λ s. record { root = s.root; places = s.places.items; steps = s.steps.items } };
+}
+
+/// Whether a link is up, with both its ends.
+fn is_up(topo: &GroupTopo, up: &EntitySet, link: u32) -> bool
+    requires link { link < length topo.now.links }
+    requires marks { MarksOf topo.now up.now }
+    ensures { result ≡ is_up_link (is_in up.now) link (slice_index_or topo.now.links link no_link) }
+{
+    topo.is_sound();
+    let (a, b) = topo.ends(link);
+    up.has(Entity::Link(link)) && up.has(Entity::Device(a)) && up.has(Entity::Device(b))
+}
+
+impl Search {
+    /// A search that has found its start alone.
+    fn start(alloc: Global, topo: &GroupTopo, root: u32) -> Result<Search, AllocError>
+        requires { root < length topo.now.devices }
+        ensures search { (up : Entity → Bool) → IfOk result (IsSearch (length topo.now.devices) topo.now.links up) }
+        ensures root { IfOk result (λ s. s.root ≡ root) }
+    {
+        let mut places = vec![in alloc; None; topo.device_count() as usize]?;
+        places[root as usize] = Some(0);
+        let steps = vec![in alloc;
+            Step {
+                device: root,
+                came: None
+            },
+        ]?;
+        Ok(Search {
+            root,
+            places,
+            steps,
+        })
+    }
+
+    /// Whether a device was found.
+    pub fn has(&self, device: u32) -> bool
+        requires { device < length self.now.places }
+        ensures { result ≡ is_found self.now device }
+    {
+        self.places[device as usize].is_some()
+    }
+
+    /// The devices that were found.
+    pub fn side(&self, alloc: Global) -> Result<Side, AllocError>
+        requires { length self.now.places < 2 ^ 32 }
+        ensures { IfOk result (λ side. side ≡ numbers_in (length self.now.places) (is_found self.now)) }
+    {
+        let mut devices = Vec::new(alloc);
+        for device in 0..self.places.len() {
+            if self.places[device].is_some() {
+                devices.push(device as u32)?;
+            }
+        }
+        Side::from_slice(alloc, devices.as_slice())
+    }
+
+    /// The step over a link from a device that was found to one that was not; None where the link is down or leads to none.
+    fn step_over(&self, topo: &GroupTopo, up: &EntitySet, link: u32) -> Option<Step>
+        requires link { link < length topo.now.links }
+        requires marks { MarksOf topo.now up.now }
+        requires search { IsSearch (length topo.now.devices) topo.now.links (is_in up.now) self.now }
+        ensures next { IfSome result (IsNext (length topo.now.devices) topo.now.links (is_in up.now) self.now) }
+        ensures over { IfSome result (IsOver topo.now.links self.now link) }
+        ensures none { IfNone result (IsJoined topo.now.links (is_in up.now) self.now link) }
+    {
+        topo.is_sound();
+        if !is_up(topo, up, link) {
+            return None;
+        }
+        let (a, b) = topo.ends(link);
+        match (self.places[a as usize], self.places[b as usize]) {
+            (Some(from), None) => Some(Step {
+                device: b,
+                came: Some(Came { link, from }),
+            }),
+            (None, Some(from)) => Some(Step {
+                device: a,
+                came: Some(Came { link, from }),
+            }),
+            (Some(_), Some(_)) | (None, None) => None,
+        }
+    }
+
+    /// Enters a step. After want of memory the search is as it was.
+    fn enter(&mut self, step: Step) -> Result<(), AllocError>
+        requires device { step.device < length self.old.places }
+        requires room { length self.old.steps < 2 ^ 32 }
+        ensures ok { OnOk result (self.new ≡ entered self.old step) }
+    {
+        let place = self.steps.len() as u32;
+        self.steps.push(step)?;
+        self.places[step.device as usize] = Some(place);
+        Ok(())
+    }
+
+    /// Follows a link from an end that was found to one that was not.
+    fn follow(&mut self, topo: &GroupTopo, up: &EntitySet, link: u32) -> Result<(), AllocError>
+        requires link { link < length topo.now.links }
+        requires marks { MarksOf topo.now up.now }
+        requires search { IsSearch (length topo.now.devices) topo.now.links (is_in up.now) self.old }
+        ensures search { OnOk result (IsSearch (length topo.now.devices) topo.now.links (is_in up.now) self.new) }
+        ensures more { OnOk result (Extends self.old self.new) }
+        ensures joined { OnOk result (IsJoined topo.now.links (is_in up.now) self.new link) }
+    {
+        topo.is_sound();
+        match self.step_over(topo, up, link) {
+            Some(step) => self.enter(step),
+            None => Ok(()),
+        }
+    }
+
+    /// Follows each link once.
+    fn pass(&mut self, topo: &GroupTopo, up: &EntitySet) -> Result<(), AllocError>
+        requires marks { MarksOf topo.now up.now }
+        requires search { IsSearch (length topo.now.devices) topo.now.links (is_in up.now) self.old }
+        ensures search { OnOk result (IsSearch (length topo.now.devices) topo.now.links (is_in up.now) self.new) }
+        ensures more { OnOk result (Extends self.old self.new) }
+        ensures settled { OnOk result (length self.new.steps ≡ length self.old.steps → IsSettled topo.now.links (is_in up.now) self.new) }
+    {
+        for link in 0..topo.link_count() {
+            self.follow(topo, up, link)?;
+        }
+        Ok(())
+    }
+
+    /// All that walks from a device reach.
+    pub fn run(
+        alloc: Global,
+        topo: &GroupTopo,
+        up: &EntitySet,
+        root: u32,
+    ) -> Result<Search, AllocError>
+        requires root { root < length topo.now.devices }
+        requires marks { MarksOf topo.now up.now }
+        ensures search { IfOk result (IsSearch (length topo.now.devices) topo.now.links (is_in up.now)) }
+        ensures root { IfOk result (λ s. s.root ≡ root) }
+        ensures settled { IfOk result (IsSettled topo.now.links (is_in up.now)) }
+    {
+        let mut search = Search::start(alloc, topo, root)?;
+        loop {
+            let count = search.steps.len();
+            search.pass(topo, up)?;
+            if search.steps.len() == count {
+                return Ok(search);
+            }
+        }
+    }
+}
