@@ -4,3 +4,8 @@ pub mod MergeLaws
 pub mod CutLaws
 pub mod WalkLaws
 pub mod SideLaws
+pub mod PairSteps
+pub mod NameSteps
+pub mod Sound
+pub mod SameLists
+pub mod GroupLaws

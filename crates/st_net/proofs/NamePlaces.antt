@@ -18,7 +18,7 @@ one_further p len =
     let one : 1 + p ≡ suc p = omega arith in
     rw (one, compare.suc-suc (suc p) len) (step_back (nat_lt p len) p)
 
-some_too : (o : Option ℕ) → is_some o ≡ is_some (option_map suc o)
+pub some_too : (o : Option ℕ) → is_some o ≡ is_some (option_map suc o)
 some_too None = refl
 some_too (Some n) = refl
 

@@ -1,6 +1,6 @@
 -- What is wrong with a group's parts. Of six faults the first in order that stands counts, at its first place. The place of a part counts the
 -- devices, then the links, then the promises, from 0.
-use Rattle.std.specs.Prelude.{◌≡◌, ℕ, ◌+◌, Bool, true, false, not, ◌&&◌, ◌||◌, nat_le, nat_lt, List, [], ◌∷◌, ◌++◌, length, map, Option, Some, None, option_map, unwrap_or, slice_get, bytes_eq, if◌then◌else◌}
+use Rattle.std.specs.Prelude.{◌≡◌, ℕ, ◌+◌, Bool, true, false, not, ◌&&◌, ◌||◌, nat_le, List, [], ◌∷◌, ◌++◌, length, map, Option, Some, None, option_map, unwrap_or, slice_get, bytes_eq, if◌then◌else◌}
 use Rattle.st_net.specs.declared.parts.Parts.{Parts}
 use Rattle.st_net.specs.declared.parts.EndPart.{EndPart}
 use Rattle.st_net.specs.declared.parts.DevicePart.{DevicePart}

@@ -10,4 +10,7 @@ pub mod UpGraph
 pub mod Cuts
 pub mod Promises
 pub mod Faults
+pub mod Pairs
+pub mod Building
 pub mod Holders
+pub mod Laws

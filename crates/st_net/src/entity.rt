@@ -2,7 +2,7 @@
 //! ask for rows of them, and all definitions speak of them.
 
 ghost use Rattle.std.specs.Prelude.{◌≡◌};
-ghost use Rattle.st_net.specs.Entities.{value_of, value_set, is_same_entity, is_same_vals, power_of};
+ghost use Rattle.st_net.specs.Entities.{value_of, value_set, is_same_entity, is_same_var, is_same_vals, place_of, power_of};
 
 /// A device or a link of a group, by its number from 0 in the order of declaration. Devices come first in the order of
 /// entities.
@@ -81,6 +81,29 @@ impl Entity {
     }
 }
 
+impl Var {
+    /// The place of this variable among all, from 0.
+    fn place(self) -> u32
+        ensures { result ≡ place_of self }
+    {
+        match self {
+            Var::Power => 0,
+            Var::Firmware => 1,
+            Var::Config => 2,
+            Var::Routing => 3,
+            Var::LinkPower => 4,
+            Var::Iface => 5,
+        }
+    }
+
+    /// Whether two variables are one.
+    pub fn is_same(self, other: Var) -> bool
+        ensures { result ≡ is_same_var self other }
+    {
+        self.place() == other.place()
+    }
+}
+
 impl Vals {
     /// The value of an entity's variable among these; 0 where the entity has no such variable.
     pub fn get(self, entity: Entity, var: Var) -> u32
@@ -103,12 +126,42 @@ impl Vals {
     {
         let Vals { v0, v1, v2, v3 } = self;
         match (entity, var) {
-            (Entity::Device(_), Var::Power) => Vals { v0: value, v1, v2, v3 },
-            (Entity::Device(_), Var::Firmware) => Vals { v0, v1: value, v2, v3 },
-            (Entity::Device(_), Var::Config) => Vals { v0, v1, v2: value, v3 },
-            (Entity::Device(_), Var::Routing) => Vals { v0, v1, v2, v3: value },
-            (Entity::Link(_), Var::LinkPower) => Vals { v0: value, v1, v2, v3 },
-            (Entity::Link(_), Var::Iface) => Vals { v0, v1: value, v2, v3 },
+            (Entity::Device(_), Var::Power) => Vals {
+                v0: value,
+                v1,
+                v2,
+                v3,
+            },
+            (Entity::Device(_), Var::Firmware) => Vals {
+                v0,
+                v1: value,
+                v2,
+                v3,
+            },
+            (Entity::Device(_), Var::Config) => Vals {
+                v0,
+                v1,
+                v2: value,
+                v3,
+            },
+            (Entity::Device(_), Var::Routing) => Vals {
+                v0,
+                v1,
+                v2,
+                v3: value,
+            },
+            (Entity::Link(_), Var::LinkPower) => Vals {
+                v0: value,
+                v1,
+                v2,
+                v3,
+            },
+            (Entity::Link(_), Var::Iface) => Vals {
+                v0,
+                v1: value,
+                v2,
+                v3,
+            },
             _ => self,
         }
     }

@@ -4,12 +4,16 @@
 
 mod build;
 mod entity;
+mod fault;
+mod law;
 mod level;
 mod message;
 mod name;
 mod names;
+mod pairs;
 mod parts;
 mod promise;
+mod range;
 mod set;
 mod topo;
 
@@ -22,6 +26,7 @@ pub use parts::{
     PromiseParts, TopoFault,
 };
 pub use promise::{Broken, BrokenKind, Promise, Side};
+pub use range::is_in_range;
 pub use set::EntitySet;
 pub use topo::{
     DeviceOpening, GroupTopo, LinkOpening, MAX_CAPACITY, MAX_DEVICES, MAX_LINKS, MAX_PERCENT,

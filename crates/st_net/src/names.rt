@@ -1,6 +1,6 @@
 //! The names of the parts of a group, numbered in the order of declaration, with an index.
 
-ghost use Rattle.std.specs.Prelude.{◌≡◌, ◌++◌, [], ◌∷◌, ◌<◌, OnOk, OnErr, IfSome, length, slice_get, Some, false};
+ghost use Rattle.std.specs.Prelude.{◌≡◌, ◌++◌, [], ◌∷◌, ◌<◌, ◌↔◌, IsTrue, OnOk, OnErr, IfOk, IfSome, length, slice_get, Some, false};
 ghost use Rattle.st_net.specs.Names.{place_of, is_among};
 
 use crate::name::Name;
@@ -24,6 +24,21 @@ impl Model for Names {
     ghost view = { λ n. map (λ key. key.items) n.keys.keys };
 
     ghost invariant = { λ n. n.names.items ≡ map (λ key. key.items) n.keys.keys };
+}
+
+/// Whether these are the same names in the same order.
+fn are_same(a: &[Name], b: &[Name]) -> bool
+    ensures { IsTrue result ↔ (a.now ≡ b.now) }
+{
+    if a.len() != b.len() {
+        return false;
+    }
+    for (i, name) in a.iter().enumerate() {
+        if !name.is_same(&b[i]) {
+            return false;
+        }
+    }
+    true
 }
 
 impl Names {
@@ -53,6 +68,13 @@ impl Names {
         self.keys.get_index_of(name)
     }
 
+    /// Whether a name is among them.
+    pub fn has(&self, name: &Name) -> bool
+        ensures { result ≡ is_among name.now self.now }
+    {
+        self.find(name.bytes()).is_some()
+    }
+
     /// The name at a place.
     pub fn get(&self, place: usize) -> &Name
         requires { place < length self.now }
@@ -75,5 +97,24 @@ impl Names {
             Ok(()) => Ok(()),
             Err(_) => unreachable!(),
         }
+    }
+
+    /// Equal names.
+    pub fn copy(&self, alloc: Global) -> Result<Names, AllocError>
+        ensures { IfOk result (λ copy. copy ≡ self.now) }
+    {
+        let keys = self.keys.clone()?;
+        let mut names = Vec::new(alloc);
+        for name in &self.names {
+            names.push(name.copy(alloc)?)?;
+        }
+        Ok(Names { alloc, keys, names })
+    }
+
+    /// Whether these are the same names in the same order.
+    pub fn is_same(&self, other: &Names) -> bool
+        ensures { IsTrue result ↔ (self.now ≡ other.now) }
+    {
+        are_same(self.names.as_slice(), other.names.as_slice())
     }
 }

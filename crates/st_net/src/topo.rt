@@ -4,6 +4,8 @@
 ghost use Rattle.std.specs.Prelude.{◌≡◌, ℕ, ◌<◌, ◌^◌, length, slice_index_or, slice_get, Some, IfOk, IfSome, IfNone};
 ghost use Rattle.st_net.specs.Groups.{Group, IsEntityOf, find_in, name_of as name_of_lem, no_device, no_link, no_promise, opening_of, health_of, IsSound};
 
+mod same;
+
 use crate::entity::{Entity, Vals};
 use crate::name::Name;
 use crate::names::Names;
@@ -13,12 +15,16 @@ use std::marker::Model;
 
 /// The most devices, ToRs, links and promises of a group.
 pub const MAX_DEVICES: usize = 512;
+
 pub const MAX_TORS: usize = 64;
+
 pub const MAX_LINKS: usize = 4_096;
+
 pub const MAX_PROMISES: usize = 2_016;
 
 /// The greatest capacity of a link, and the greatest percentage of a promise.
 pub const MAX_CAPACITY: u32 = 1_000_000;
+
 pub const MAX_PERCENT: u32 = 100;
 
 /// The most rows of a proposal.

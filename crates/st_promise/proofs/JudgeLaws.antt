@@ -1,6 +1,6 @@
 -- A search that is settled has found the least set with its start that no up link leaves, and that decides a promise of 0 percent.
-use Rattle.std.proofs.Common.{◌≡◌, ◌≢◌, ℕ, zero, suc, ◌+◌, ◌*◌, ◌/◌, ◌<◌, ◌≤◌, List, [], ◌∷◌, ◌++◌, length, refl, ap, ◌∙◌, sym, subst, arith}
-use Rattle.std.specs.Prelude.{Bool, true, false, ◌&&◌, ◌||◌, ◌==◌, not, Option, Some, None, is_some, MatchOption, slice_index_or, nat_le, max, if◌then◌else◌}
+use Rattle.std.proofs.Common.{◌≡◌, ◌≢◌, ℕ, zero, suc, ◌+◌, ◌<◌, ◌≤◌, List, [], ◌∷◌, length, refl, ap, ◌∙◌, sym, arith}
+use Rattle.std.specs.Prelude.{Bool, true, false, ◌&&◌, ◌==◌, not, Option, Some, None, is_some, MatchOption, slice_index_or, max, if◌then◌else◌}
 use Rattle.std.proofs.lemmas.Bool.Decides.{nat_tests}
 use Rattle.std.proofs.Math.Nat.{zero-mul}
 use Rattle.st_net.proofs.CutLaws.{both}
@@ -10,16 +10,14 @@ use Rattle.st_net.specs.declared.topo.DeviceOpening.{DeviceOpening}
 use Rattle.st_net.specs.declared.promise.Promise.{Promise}
 use Rattle.st_net.specs.declared.promise.Broken.{Broken}
 use Rattle.st_net.specs.declared.promise.BrokenKind.TheVariants.{CutOff, Short}
-use Rattle.st_net.specs.Groups.{Group, no_link, no_promise, promise_of, IsLink, AreLinks, IsPromiseAmong, ArePromises, IsSound}
+use Rattle.st_net.specs.Groups.{Group, no_link, no_promise, promise_of, AreLinks, IsPromiseAmong, ArePromises, IsSound}
 use Rattle.st_net.specs.UpGraph.{is_up_link, is_joint, Leads}
-use Rattle.st_net.specs.Cuts.{is_crossing, cut_value_from, cut_value, IsCut, least_cut, is_in_least_side, numbers_in}
-use Rattle.st_net.specs.Promises.{is_held, is_kept, need_of, broken_at, is_broken, first_broken}
+use Rattle.st_net.specs.Cuts.{is_crossing, cut_value_from, cut_value, least_cut, is_in_least_side, numbers_in}
+use Rattle.st_net.specs.Promises.{is_held, is_kept, need_of, broken_at}
 use Rattle.st_net.proofs.WalkLaws.{least_cut-below, least_cut-attained}
 use Rattle.st_net.proofs.SideLaws.{least_side-within, least_side-has}
-use Rattle.st_promise.specs.declared.search.Step.{Step}
 use Rattle.st_promise.specs.declared.search.Came.{Came}
-use Rattle.st_promise.specs.Search.{Visits, no_step, step_at, place_in, is_found, IsFoundBy, IsSearch, IsSettled}
-use Rattle.st_promise.proofs.SearchLaws.{link_at}
+use Rattle.st_promise.specs.Search.{Visits, step_at, place_in, is_found, IsSearch, IsSettled}
 use Rattle.st_promise.proofs.NumberLaws.{numbers_same}
 
 pub promise_at : (devices : List DeviceOpening) (ps : List Promise) (i : ℕ) → ArePromises devices ps → i < length ps → IsPromiseAmong devices (slice_index_or ps i no_promise)

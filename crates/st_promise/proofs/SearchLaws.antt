@@ -1,15 +1,15 @@
 -- What a step more keeps of a search, and what a search that is settled tells of cuts.
 use Rattle.std.proofs.Common.{◌≡◌, ◌≢◌, ℕ, zero, suc, ◌+◌, ◌<◌, ◌≤◌, List, [], ◌∷◌, ◌++◌, length, refl, ap, ◌∙◌, sym, subst, arith, length-append}
-use Rattle.std.specs.Prelude.{Bool, true, false, ◌&&◌, ◌||◌, ◌==◌, Option, Some, None, is_some, MatchOption, slice_index_or, slice_set, sum_by, if◌then◌else◌}
+use Rattle.std.specs.Prelude.{Bool, true, false, ◌||◌, ◌==◌, nat_lt, Option, Some, None, is_some, MatchOption, slice_index_or, slice_set, if◌then◌else◌}
 use Rattle.std.proofs.lemmas.Bool.Decides.{nat_tests}
-use Rattle.std.proofs.lemmas.List.{get_or_read, get_or-set_same, get_or-set_other, get_or_append_left}
+use Rattle.std.proofs.lemmas.List.{get_or_read, get_or_past, get_or-set_same, get_or-set_other, get_or_append_left}
 use Rattle.std.proofs.lemmas.List.Sums.{sum_by-set}
 use Rattle.std.proofs.Math.Seq.{get_or-append_seam}
 use Rattle.std.proofs.Math.ListN.{length-set}
 use Rattle.st_net.specs.declared.entity.Entity.{Entity}
 use Rattle.st_net.specs.declared.topo.LinkOpening.{LinkOpening}
 use Rattle.st_net.specs.Groups.{no_link, IsLink, AreLinks}
-use Rattle.st_net.specs.UpGraph.{is_up_link, is_joint, Leads}
+use Rattle.st_net.specs.UpGraph.{is_up_link, Leads}
 use Rattle.st_promise.specs.declared.search.Step.{Step}
 use Rattle.st_promise.specs.declared.search.Came.{Came}
 use Rattle.st_promise.specs.Search.{Visits, no_step, step_at, place_in, is_found, unfound, entered, IsFoundBy, IsSearch, IsNext, IsOver, IsJoined, Extends}
@@ -90,6 +90,17 @@ placed_at n links up s step is low d k false same here =
     let old = is.placed d k (sym (found_other s step d other) ∙ here) in
     (omega (arith, old.0, length-append s.steps (step ∷ [])), ap (λ (x : Step). x.device) (step_kept s step k old.0) ∙ old.1)
 
+each_at : (n : ℕ) (links : List LinkOpening) (up : Entity → Bool) (s : Visits) (step : Step) → IsSearch n links up s → step.device < length s.places → (k : ℕ) (p : Bool) → (k == length s.steps) ≡ p → k < length (s.steps ++ step ∷ []) → is_found (entered s step) (step_at (entered s step) k).device ≡ true
+each_at n links up s step is small k true same low =
+    let last : k ≡ length s.steps = grind (arith, nat_tests) in
+    let device = ap (λ (x : Step). x.device) (step_last s step k last) in
+    ap is_some (found_same s step _ small device)
+each_at n links up s step is small k false same low =
+    let other : k ≢ length s.steps = grind (arith, nat_tests) in
+    let before : k < length s.steps = omega (arith, other, length-append s.steps (step ∷ [])) in
+    let device = ap (λ (x : Step). x.device) (step_kept s step k before) in
+    ap (is_found (entered s step)) device ∙ found_kept s step (step_at s k).device small (is.each k before)
+
 found_at : (n : ℕ) (links : List LinkOpening) (up : Entity → Bool) (s : Visits) (step : Step) → IsSearch n links up s → IsNext n links up s step → (k : ℕ) (p : Bool) → (k == length s.steps) ≡ p → k < length (s.steps ++ step ∷ []) → IsFoundBy links up (entered s step) k (step_at (entered s step) k)
 found_at n links up s step is next k true same low =
     let last : k ≡ length s.steps = grind (arith, nat_tests) in
@@ -118,6 +129,7 @@ entered_is n links up s step is next =
       counted = (let count = counted_at s step (place_in s step.device) refl low next.new in omega (arith, count, is.counted, length-append s.steps (step ∷ [])));
       start = found_kept s step s.root low is.start;
       placed = λ d k. placed_at n links up s step is low d k (d == step.device) refl;
+      each = λ k. each_at n links up s step is low k (k == length s.steps) refl;
       found = λ k. found_at n links up s step is next k (k == length s.steps) refl;
     }
 
@@ -128,7 +140,7 @@ entered_more n links up s step is next =
       root = refl;
       kept = λ d. found_kept s step d low;
       more = omega (arith, length-append s.steps (step ∷ []));
-      same = λ same. absurd (omega (arith, same, length-append s.steps (step ∷ [])));
+      steps = step_kept s step;
     }
 
 pub entered_joins : (n : ℕ) (links : List LinkOpening) (up : Entity → Bool) (s : Visits) (step : Step) (i : ℕ) → IsSearch n links up s → IsNext n links up s step → IsOver links s i step → IsJoined links up (entered s step) i
@@ -144,5 +156,20 @@ extends_on a b c first second = record {
   root = second.root ∙ first.root;
   kept = λ d has. second.kept d (first.kept d has);
   more = omega (arith, first.more, second.more);
-  same = λ same. second.same (omega (arith, same, first.more, second.more)) ∙ first.same (omega (arith, same, first.more, second.more));
+  steps = λ k low. second.steps k (omega (arith, first.more)) ∙ first.steps k low;
 }
+
+-- what is found is a device
+found_low_at : (s : Visits) (d : ℕ) (p : Bool) → nat_lt d (length s.places) ≡ p → is_found s d ≡ true → d < length s.places
+found_low_at s d true low found = grind (arith, nat_tests)
+found_low_at s d false high found =
+    let past : length s.places ≤ d = grind (arith, nat_tests) in
+    let none = ap is_some (get_or_past s.places d None past) in
+    let clash : true ≡ false = sym found ∙ none in
+    absurd (cc)
+
+pub found_low : (s : Visits) (d : ℕ) → is_found s d ≡ true → d < length s.places
+found_low s d found = found_low_at s d (nat_lt d (length s.places)) refl found
+
+pub extends_none : (a : Visits) → Extends a a
+extends_none a = record { root = refl; kept = λ d has. has; more = omega arith; steps = λ k low. refl }

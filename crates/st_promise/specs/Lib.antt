@@ -1,1 +1,3 @@
+pub mod Incidence
 pub mod Search
+pub mod Reach

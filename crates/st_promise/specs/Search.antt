@@ -1,10 +1,11 @@
 -- A search over the up graph: what it has found, and what is known of that.
-use Rattle.std.specs.Prelude.{◌≡◌, ℕ, ◌+◌, ◌<◌, ◌≤◌, Bool, true, false, ◌&&◌, ◌||◌, ◌==◌, List, [], ◌∷◌, ◌++◌, length, slice_index_or, slice_set, sum_by, Option, Some, None, is_some, MatchOption, if◌then◌else◌}
+use Rattle.std.specs.Prelude.{◌≡◌, ℕ, ◌+◌, ◌<◌, ◌≤◌, Bool, true, false, ◌||◌, ◌==◌, List, [], ◌∷◌, ◌++◌, length, slice_index_or, slice_set, sum_by, Option, Some, None, is_some, MatchOption, if◌then◌else◌}
 use Rattle.st_net.specs.declared.entity.Entity.{Entity}
 use Rattle.st_net.specs.declared.topo.LinkOpening.{LinkOpening}
 use Rattle.st_net.specs.Groups.{no_link}
-use Rattle.st_net.specs.UpGraph.{is_up_link, Leads}
+use Rattle.st_net.specs.UpGraph.{is_up_link, Leads, IsWalk}
 use Rattle.st_promise.specs.declared.search.Step.{Step}
+use Rattle.st_promise.specs.Incidence.{has_end}
 
 -- the device that it starts from, for each device the place of its step, and the steps in the order in which devices were found
 pub record Visits : Type 0 where
@@ -44,7 +45,16 @@ pub record IsSearch (n : ℕ) (links : List LinkOpening) (up : Entity → Bool) 
   pub counted : unfound s.places + length s.steps ≡ n
   pub start : is_found s s.root ≡ true
   pub placed : (d k : ℕ) → place_in s d ≡ Some k → (k < length s.steps) × ((step_at s k).device ≡ d)
+  pub each : (k : ℕ) → k < length s.steps → is_found s (step_at s k).device ≡ true
   pub found : (k : ℕ) → k < length s.steps → IsFoundBy links up s k (step_at s k)
+
+-- the search is one of some group
+abbrev pub IsSearchOfSome : Visits → Type 0
+IsSearchOfSome s = (n : ℕ) × (links : List LinkOpening) × (up : Entity → Bool) × IsSearch n links up s
+
+-- in each group that the search is one of, the walk leads from its start to the device
+abbrev pub LeadsTo : Visits → ℕ → List ℕ → Type 0
+LeadsTo s device walk = (n : ℕ) (links : List LinkOpening) (up : Entity → Bool) → IsSearch n links up s → IsWalk links up s.root walk device
 
 -- a step to a device that was not found
 pub record IsNext (n : ℕ) (links : List LinkOpening) (up : Entity → Bool) (s : Visits) (step : Step) : Type 0 where
@@ -62,16 +72,21 @@ IsOver links s i step =
 abbrev pub IsJoined : List LinkOpening → (Entity → Bool) → Visits → ℕ → Type 0
 IsJoined links up s i = is_up_link up i (slice_index_or links i no_link) ≡ true → is_found s (slice_index_or links i no_link).a ≡ is_found s (slice_index_or links i no_link).b
 
--- of no link that is up exactly one end is found
-abbrev pub IsSettledBelow : List LinkOpening → (Entity → Bool) → Visits → ℕ → Type 0
-IsSettledBelow links up s n = (i : ℕ) → i < n → IsJoined links up s i
+-- the link is down, or both its ends are found
+abbrev pub IsWithin : List LinkOpening → (Entity → Bool) → Visits → ℕ → Type 0
+IsWithin links up s i = is_up_link up i (slice_index_or links i no_link) ≡ true → (is_found s (slice_index_or links i no_link).a ≡ true) × (is_found s (slice_index_or links i no_link).b ≡ true)
 
+-- both ends of each up link of a device are found
+abbrev pub IsVisited : List LinkOpening → (Entity → Bool) → Visits → ℕ → Type 0
+IsVisited links up s d = (i : ℕ) → i < length links → has_end d (slice_index_or links i no_link) ≡ true → IsWithin links up s i
+
+-- of no up link exactly one end is found
 abbrev pub IsSettled : List LinkOpening → (Entity → Bool) → Visits → Type 0
-IsSettled links up s = IsSettledBelow links up s (length links)
+IsSettled links up s = (i : ℕ) → i < length links → IsJoined links up s i
 
--- what was found stays found, and a search that found no more is as it was
+-- what was found stays found, by the same steps
 pub record Extends (old new : Visits) : Type 0 where
   pub root : new.root ≡ old.root
   pub kept : (d : ℕ) → is_found old d ≡ true → is_found new d ≡ true
   pub more : length old.steps ≤ length new.steps
-  pub same : length new.steps ≡ length old.steps → new ≡ old
+  pub steps : (k : ℕ) → k < length old.steps → step_at new k ≡ step_at old k

@@ -2,7 +2,12 @@
 //! Topologies come from the network's words; whoever judges a proposal asks here.
 #![tactic(auto)]
 
+mod incidence;
 mod judge;
+mod reaching;
 mod search;
+mod walk;
 
 pub use judge::{judge_pairs, promise_holds};
+pub use reaching::{Reached, reach};
+pub use walk::Walk;

@@ -1,13 +1,16 @@
 //! The search from one device over the links of the up graph. It finds each device that a walk from there reaches, and keeps
 //! how it came to each: walks and cuts are read off what it found.
 
-ghost use Rattle.std.specs.Prelude.{◌≡◌, ◌<◌, ◌^◌, Bool, length, slice_index_or, IfOk, OnOk, IfSome, IfNone, Some, None};
+ghost use Rattle.std.specs.Prelude.{◌≡◌, ◌<◌, ◌^◌, Bool, length, slice_index_or, IfOk, OnOk, IfSome, IfNone, is_some, Some, None};
 ghost use Rattle.st_net.specs.Groups.{Group, no_link};
 ghost use Rattle.st_net.specs.Sets.{Marks, is_in, MarksOf};
 ghost use Rattle.st_net.specs.UpGraph.{is_up_link};
 ghost use Rattle.st_net.specs.Cuts.{numbers_in};
-ghost use Rattle.st_promise.specs.Search.{Visits, is_found, entered, IsSearch, IsNext, IsOver, IsJoined, IsSettled, IsSettledBelow, Extends};
+ghost use Rattle.st_promise.specs.Search.{Visits, step_at, is_found, IsSearchOfSome, LeadsTo, entered, IsSearch, IsNext, IsOver, IsJoined, IsVisited, IsSettled, Extends};
+ghost use Rattle.st_promise.specs.Incidence.{IsIncidence};
 
+use crate::incidence::Incidence;
+use crate::walk::Walk;
 use st_net::{Entity, EntitySet, GroupTopo, Side};
 use std::alloc::{AllocError, Global};
 use std::marker::Model;
@@ -97,6 +100,35 @@ impl Search {
         Side::from_slice(alloc, devices.as_slice())
     }
 
+    /// The links over which a step was come to, from the search's start on.
+    fn walk_back(&self, alloc: Global, step: u32) -> Result<Walk, AllocError>
+        requires search { IsSearchOfSome self.now }
+        requires step { step < length self.now.steps }
+        ensures { IfOk result (LeadsTo self.now (step_at self.now step).device) }
+    {
+        let mut links = Vec::new(alloc);
+        let mut at = step;
+        while let Some(came) = self.steps[at as usize].came {
+            links.push(came.link)?;
+            at = came.from;
+        }
+        links.reverse();
+        Ok(Walk::over(links))
+    }
+
+    /// A walk from the start to a device; None where it was not found.
+    pub fn walk_to(&self, alloc: Global, device: u32) -> Result<Option<Walk>, AllocError>
+        requires search { IsSearchOfSome self.now }
+        requires device { device < length self.now.places }
+        ensures none { IfOk result (λ walk. is_some walk ≡ is_found self.now device) }
+        ensures walk { IfOk result (λ walk. IfSome walk (LeadsTo self.now device)) }
+    {
+        match self.places[device as usize] {
+            Some(step) => Ok(Some(self.walk_back(alloc, step)?)),
+            None => Ok(None),
+        }
+    }
+
     /// The step over a link from a device that was found to one that was not; None where the link is down or leads to none.
     fn step_over(&self, topo: &GroupTopo, up: &EntitySet, link: u32) -> Option<Step>
         requires link { link < length topo.now.links }
@@ -152,27 +184,40 @@ impl Search {
         }
     }
 
-    /// Follows each link once.
-    fn pass(&mut self, topo: &GroupTopo, up: &EntitySet) -> Result<(), AllocError>
+    /// Follows each link of a step's device.
+    fn visit(
+        &mut self,
+        topo: &GroupTopo,
+        incidence: &Incidence,
+        up: &EntitySet,
+        step: usize,
+    ) -> Result<(), AllocError>
+        requires incidence { IsIncidence (length topo.now.devices) topo.now.links incidence.now }
         requires marks { MarksOf topo.now up.now }
         requires search { IsSearch (length topo.now.devices) topo.now.links (is_in up.now) self.old }
+        requires step { step < length self.old.steps }
         ensures search { OnOk result (IsSearch (length topo.now.devices) topo.now.links (is_in up.now) self.new) }
         ensures more { OnOk result (Extends self.old self.new) }
-        ensures settled { OnOk result (length self.new.steps ≡ length self.old.steps → IsSettled topo.now.links (is_in up.now) self.new) }
+        ensures visited { OnOk result (IsVisited topo.now.links (is_in up.now) self.new (step_at self.old step).device) }
     {
-        for link in 0..topo.link_count() {
+        let device = self.steps[step].device;
+        let mut next = incidence.last(topo, device);
+        while let Some(link) = next {
             self.follow(topo, up, link)?;
+            next = incidence.before(topo, link, device);
         }
         Ok(())
     }
 
-    /// All that walks from a device reach.
+    /// All that walks from a device reach. Linear in devices and links.
     pub fn run(
         alloc: Global,
         topo: &GroupTopo,
+        incidence: &Incidence,
         up: &EntitySet,
         root: u32,
     ) -> Result<Search, AllocError>
+        requires incidence { IsIncidence (length topo.now.devices) topo.now.links incidence.now }
         requires root { root < length topo.now.devices }
         requires marks { MarksOf topo.now up.now }
         ensures search { IfOk result (IsSearch (length topo.now.devices) topo.now.links (is_in up.now)) }
@@ -180,12 +225,11 @@ impl Search {
         ensures settled { IfOk result (IsSettled topo.now.links (is_in up.now)) }
     {
         let mut search = Search::start(alloc, topo, root)?;
-        loop {
-            let count = search.steps.len();
-            search.pass(topo, up)?;
-            if search.steps.len() == count {
-                return Ok(search);
-            }
+        let mut next = 0;
+        while next < search.steps.len() {
+            search.visit(topo, incidence, up, next)?;
+            next += 1;
         }
+        Ok(search)
     }
 }

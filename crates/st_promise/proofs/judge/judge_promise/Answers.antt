@@ -23,4 +23,4 @@ returns c =
     let kept = found_is_kept c.args.topo.now _ c.args.i c.promise-promise.result c.in_ok-reached.reached c.is_sound.ensures c.requires.promise c.requires.percent c.promise-promise.ensures c.in_ok-reached.ensures.search c.in_ok-reached.ensures.root c.in_ok-reached.ensures.settled in
     let out = sym c.has.ensures ∙ c.if-has.false in
     let made = found_broken c.args.topo.now _ c.args.i c.promise-promise.result c.in_ok-reached.reached c.in_ok-side.field-0 c.is_sound.ensures c.requires.promise c.requires.percent c.promise-promise.ensures c.in_ok-reached.ensures.search c.in_ok-reached.ensures.root c.in_ok-reached.ensures.settled out c.in_ok-side.ensures in
-    broken_some _ _ _ _ (sym c.in_ok-promise_holds.ensures ∙ c.if-not-branch.false) (sym kept ∙ out) made
+    broken_some _ _ _ _ (sym c.in_ok-is_promise_held.ensures ∙ c.if-not-branch.false) (sym kept ∙ out) made

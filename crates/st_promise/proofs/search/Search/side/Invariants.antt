@@ -1,4 +1,4 @@
-use Rattle.std.proofs.Common.{◌≡◌, length}
+use Rattle.std.proofs.Common.{◌≡◌}
 use Rattle.st_net.specs.Cuts.{numbers_in}
 use Rattle.st_promise.specs.Search.{is_found}
 use Rattle.st_promise.proofs.search.Search.side.Given as goal

@@ -1,5 +1,5 @@
-use Rattle.std.proofs.Common.{◌≡◌, ◌<◌, length, Some, None, ap, sym, ◌∙◌, arith}
-use Rattle.st_promise.specs.Search.{Visits, place_in}
+use Rattle.std.proofs.Common.{ap, sym, ◌∙◌, arith}
+use Rattle.st_promise.specs.Search.{Visits}
 use Rattle.st_promise.proofs.SearchLaws.{link_at, place_read, next_over, next_back}
 use Rattle.st_promise.proofs.search.Search.step_over.Goals as goal
 

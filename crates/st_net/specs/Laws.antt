@@ -1,0 +1,44 @@
+-- What is true of the promises, cuts and sides of every sound group.
+use Rattle.std.specs.Prelude.{◌≡◌, ◌≢◌, ◌↔◌, ℕ, ◌<◌, ◌≤◌, Bool, true, List, length}
+use Rattle.st_net.specs.declared.entity.Entity.{Entity}
+use Rattle.st_net.specs.declared.topo.LinkOpening.{LinkOpening}
+use Rattle.st_net.specs.declared.promise.Promise.{Promise}
+use Rattle.st_net.specs.Groups.{Group, promise_of}
+use Rattle.st_net.specs.Sets.{IsWithin}
+use Rattle.st_net.specs.UpGraph.{IsWalk}
+use Rattle.st_net.specs.Cuts.{IsCut, cut_value, least_cut, is_in_least_side}
+use Rattle.st_net.specs.Promises.{Keeps, is_kept}
+
+-- a promise that holds goes on to hold with more entities up
+abbrev pub KeepsWithMore : Group → Type 0
+KeepsWithMore g = (up more : Entity → Bool) (p : Promise) → IsWithin up more → Keeps g up p → Keeps g more p
+
+-- the test tells of each promise whether it holds
+abbrev pub TellsKept : Group → Type 0
+TellsKept g = (up : Entity → Bool) (i : ℕ) → i < length g.promises → (is_kept g up (promise_of g i) ≡ true) ↔ Keeps g up (promise_of g i)
+
+-- some cut has the value, and none has less
+pub record IsLeastValue (links : List LinkOpening) (up : Entity → Bool) (a b value : ℕ) : Type 0 where
+  pub attained : (side : ℕ → Bool) × IsCut side a b × (cut_value links up side ≡ value)
+  pub below : (side : ℕ → Bool) → IsCut side a b → value ≤ cut_value links up side
+
+-- the least cut of any two devices is the least value of their cuts
+abbrev pub HasLeastCuts : Group → Type 0
+HasLeastCuts g = (up : Entity → Bool) (a b : ℕ) → a ≢ b → IsLeastValue g.links up a b (least_cut (length g.devices) g.links up a b)
+
+-- a walk joins two devices exactly where their least cut is not 0
+abbrev pub WalksWhereCut : Group → Type 0
+WalksWhereCut g = (up : Entity → Bool) (a b : ℕ) → a ≢ b → ((walk : List ℕ) × IsWalk g.links up a walk b) ↔ (0 < least_cut (length g.devices) g.links up a b)
+
+-- a cut of the least value
+pub record IsLeastCut (g : Group) (up : Entity → Bool) (a b : ℕ) (side : ℕ → Bool) : Type 0 where
+  pub cut : IsCut side a b
+  pub value : cut_value g.links up side ≡ least_cut (length g.devices) g.links up a b
+
+-- a device is in the least side exactly where it is in each cut of the least value
+abbrev pub TellsLeastSide : Group → Type 0
+TellsLeastSide g = (up : Entity → Bool) (a b d : ℕ) → a ≢ b → d < length g.devices → (is_in_least_side (length g.devices) g.links up a b d ≡ true) ↔ ((side : ℕ → Bool) → IsLeastCut g up a b side → side d ≡ true)
+
+-- a cut of the least value that each cut of the least value contains has the devices of the least side
+abbrev pub HasOneLeastSide : Group → Type 0
+HasOneLeastSide g = (up : Entity → Bool) (a b : ℕ) (side : ℕ → Bool) → a ≢ b → IsLeastCut g up a b side → ((other : ℕ → Bool) → IsLeastCut g up a b other → (d : ℕ) → side d ≡ true → other d ≡ true) → (d : ℕ) → d < length g.devices → is_in_least_side (length g.devices) g.links up a b d ≡ side d

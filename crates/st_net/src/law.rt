@@ -1,0 +1,45 @@
+//! Laws of every topology: what its soundness gives for promises, cuts and sides. The bodies do nothing; callers read the
+//! clauses.
+
+ghost use Rattle.st_net.specs.Laws.{KeepsWithMore, TellsKept, HasLeastCuts, WalksWhereCut, TellsLeastSide, HasOneLeastSide};
+
+use crate::topo::GroupTopo;
+
+impl GroupTopo {
+    /// A promise that holds with some entities up holds with more of them up.
+    pub fn keeps_with_more(&self)
+        ensures { KeepsWithMore self.now }
+    {
+        self.is_sound()
+    }
+
+    /// A promise holds exactly where the least cut of its pair is at least 1 and at least what the promise needs.
+    pub fn held_means_kept(&self)
+        ensures { TellsKept self.now }
+    {
+        self.is_sound()
+    }
+
+    /// The least cut of two devices is the value of one of their cuts, and no cut has less.
+    pub fn least_cut_is_least(&self)
+        ensures { HasLeastCuts self.now }
+    {
+        self.is_sound()
+    }
+
+    /// A walk joins two devices exactly where their least cut is not 0.
+    pub fn walks_where_cut(&self)
+        ensures { WalksWhereCut self.now }
+    {
+        self.is_sound()
+    }
+
+    /// The least side of two devices has what each cut of the least value has, and no other cut of the least value is
+    /// contained in all of them.
+    pub fn least_side_is_least(&self)
+        ensures tells { TellsLeastSide self.now }
+        ensures one { HasOneLeastSide self.now }
+    {
+        self.is_sound()
+    }
+}
