@@ -200,7 +200,7 @@ impl Control {
             &self.locks,
             app,
             rows,
-        )?;
+        );
         if let Some(cause) = refusal {
             return Ok(Verdict::Refused(cause));
         }
