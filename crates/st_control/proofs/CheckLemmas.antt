@@ -1,7 +1,7 @@
 -- What the verdict and the check of a proposal come to, over what a checker keeps.
-use Rattle.std.proofs.Common.{◌≡◌, ℕ, ◌+◌, ◌<◌, List, [], ◌∷◌, length, refl, sym, ◌∙◌, ap, subst, arith}
+use Rattle.std.proofs.Math.Seq.{take-append_seam}
+use Rattle.std.proofs.Common.{◌≡◌, ℕ, ◌+◌, ◌<◌, List, [], ◌∷◌, ◌++◌, length, take, refl, sym, ◌∙◌, ap, subst, arith}
 use Rattle.std.specs.Prelude.{Bool, true, false, not, ◌&&◌, Option, Some, None, Result, IfOk, option_map, if◌then◌else◌, slice_index_or, remove}
-use Rattle.std.specs.Prelude.{AllocError}
 use Rattle.st_net.specs.declared.entity.Entity.{Entity}
 use Rattle.st_net.specs.declared.entity.Var.{Var}
 use Rattle.st_net.specs.declared.entity.AppId.{AppId}
@@ -26,7 +26,7 @@ use Rattle.st_control.specs.Target.{TargetView, MergesAccepted, stamp_in}
 use Rattle.st_control.specs.Checker.{Checker, standing_in, verdict_in, IsJudgedIn, Moves}
 
 -- the first broken promise, of sets that are equal to these
-pub broken_is : (g : Group) (set copy after changed : Marks) (sure : Entity → Bool) (result : Result (Option Broken) AllocError) → is_in set ≡ sure → copy ≡ set → is_in after ≡ (λ e. is_in copy e && not (is_in changed e)) → IfOk result (λ broken. broken ≡ first_broken g (is_in set) (is_in after) 0 g.promises) → IfOk result (λ broken. broken ≡ first_broken g sure (λ e. sure e && not (is_in changed e)) 0 g.promises)
+pub broken_is : {E : Type 0} (g : Group) (set copy after changed : Marks) (sure : Entity → Bool) (result : Result (Option Broken) E) → is_in set ≡ sure → copy ≡ set → is_in after ≡ (λ e. is_in copy e && not (is_in changed e)) → IfOk result (λ broken. broken ≡ first_broken g (is_in set) (is_in after) 0 g.promises) → IfOk result (λ broken. broken ≡ first_broken g sure (λ e. sure e && not (is_in changed e)) 0 g.promises)
 broken_is g set copy after changed sure result is copied left answer =
     let without : is_in after ≡ (λ e. sure e && not (is_in changed e)) = left ∙ ap (λ (s : Marks). λ (e : Entity). is_in s e && not (is_in changed e)) copied ∙ ap (λ (f : Entity → Bool). λ (e : Entity). f e && not (is_in changed e)) is in
     subst (λ (f : Entity → Bool). IfOk result (λ broken. broken ≡ first_broken g sure f 0 g.promises)) without
@@ -78,3 +78,7 @@ check_moves k t rest p n judged queue is merges = record {
   standing = λ w. rw (queue, merges.merged, merges.stamped, merges.counted) refl;
   group = refl;
 }
+
+-- what was lent as a slice is written back whole
+pub whole : (n : ℕ) (new rest : List ℕ) → n ≡ length new → take n (new ++ rest) ≡ new
+whole n new rest is = rw is (take-append_seam new rest)
