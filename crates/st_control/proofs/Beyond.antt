@@ -14,7 +14,8 @@ use Rattle.st_event.specs.Observed.{opening_report, is_sure_by, is_settled_by}
 use Rattle.st_overlay.specs.Values.{Values}
 use Rattle.st_rows.specs.Reports.{report_in}
 use Rattle.st_control.specs.Target.{entity_count, stamp_in}
-use Rattle.st_control.specs.Sure.{sure_by, is_before_link}
+use Rattle.st_control.specs.Sure.{shown_by, is_before_link, MarksShown}
+use Rattle.st_control.specs.declared.settled.Shown.TheVariants.{Sure}
 
 not_less : (m n : ℕ) → nat_lt m n ≡ false → n ≤ m
 not_less m n is = grind (arith, nat_tests)
@@ -43,7 +44,7 @@ none_and true c is = is
 none_and false c is = refl
 
 -- it is not sure
-pub not_sure : (g : Group) (observed : List Report) (stamps : List ℕ) (values : Values) (e : Entity) → length observed ≡ entity_count g → is_before_link g (length g.links) e ≡ false → sure_by g observed stamps values e ≡ false
+pub not_sure : (g : Group) (observed : List Report) (stamps : List ℕ) (values : Values) (e : Entity) → length observed ≡ entity_count g → is_before_link g (length g.links) e ≡ false → shown_by Sure g observed stamps values e ≡ false
 not_sure g observed stamps values e count beyond = rw (opening_report_of g observed e count beyond) (none_and _ (carries e (opening_of g e) (opening_report g e).level) (carries_not g e (opening_report g e).level beyond))
 
 both_ways : (here p : Bool) (here_is : Bool) → here ≡ here_is → (here_is ≡ false → p ≡ false) → (here && p) ≡ p
@@ -75,3 +76,7 @@ stamp_ways false m true n o is none = cc
 pub all_stamped : (g : Group) (m : Entity → Bool) (stamp n : ℕ) (o : Entity → ℕ) (e : Entity) → n ≡ length g.links → (is_before_link g (length g.links) e ≡ false → m e ≡ false) → (if is_before_link g n e && m e then stamp else o e) ≡ (if m e then stamp else o e)
 all_stamped g m stamp n o e count beyond = rw count (stamp_ways (is_before_link g (length g.links) e) (m e) (is_before_link g (length g.links) e) stamp (o e) refl beyond)
 
+
+-- the marks of the sure entities are the set of these
+pub sure_is : (g : Group) (observed : List Report) (stamps : List ℕ) (values : Values) (set : Marks) → length observed ≡ entity_count g → MarksShown Sure g observed stamps values set → is_in set ≡ shown_by Sure g observed stamps values
+sure_is g observed stamps values set count marked = fun_ext (λ e. marked.shown_is e ∙ all_seen g (shown_by Sure g observed stamps values) (length g.links) e refl (not_sure g observed stamps values e count))

@@ -1,5 +1,5 @@
 pub mod EntityLoops
 pub mod Beyond
-pub mod StampLemmas
 pub mod Openings
 pub mod CheckLemmas
+pub mod ShownLemmas

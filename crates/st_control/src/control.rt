@@ -1,18 +1,20 @@
 //! The checker of one group. What it keeps is enough to answer an event as the group's whole journal calls for.
 
 ghost use Rattle.std.specs.Prelude.{◌≡◌, ℕ, ◌<◌, ◌^◌, ◌+◌, ◌&&◌, not, All, length, IfOk, OnErr};
+ghost use Rattle.st_net.specs.declared.entity.Entity.{Entity};
+ghost use Rattle.st_net.specs.Groups.{IsEntityOf};
 ghost use Rattle.st_net.specs.Merge.{alters};
 ghost use Rattle.st_net.specs.Promises.{first_broken};
 ghost use Rattle.st_net.specs.Ranges.{RowsFit};
 ghost use Rattle.st_net.specs.Sets.{is_in, MarksOf};
 ghost use Rattle.st_event.specs.declared.event.Event.TheVariants.{Submit, Check as check_event};
-ghost use Rattle.st_event.specs.Standing.{sure_in};
-ghost use Rattle.st_overlay.specs.Values.{value_in};
+ghost use Rattle.st_event.specs.Standing.{sure_in, settled_in};
+ghost use Rattle.st_overlay.specs.Values.{value_in, IsTableOf};
 ghost use Rattle.st_control.specs.Checker.{Moves, IsStart, standing_in, verdict_in, IsJudgedIn, reply_of_put, reply_of_check};
 ghost use Rattle.st_control.specs.Inside.{IsWalkAlone};
 
-use crate::settled::opening_reports;
-use crate::sure::{sure_set, take_out};
+use crate::settled::{Shown, opening_reports};
+use crate::sure::{shown_set, take_out};
 use crate::target::Target;
 use st_event::{Cause, MAX_PENDING, Proposal, Receipt, Reply, Rows, Verdict};
 use st_locks::LockTable;
@@ -116,16 +118,18 @@ impl Control {
         })
     }
 
-    /// The group.
+    /// The group, whose promises ask for a walk alone.
     pub fn topo(&self) -> &GroupTopo
-        ensures { result.now ≡ self.now.group }
+        ensures topo { result.now ≡ self.now.group }
+        ensures shares { All IsWalkAlone result.now.promises }
     {
         &self.topo
     }
 
-    /// The values of the target.
+    /// The values of the target, for each entity of the group.
     pub fn table(&self) -> &Table
-        ensures { result.now ≡ self.now.target.values }
+        ensures table { result.now ≡ self.now.target.values }
+        ensures of { IsTableOf self.now.group result.now }
     {
         self.target.table()
     }
@@ -142,8 +146,24 @@ impl Control {
         ensures of { IfOk result (MarksOf self.now.group) }
         ensures sure { IfOk result (λ set. is_in set ≡ sure_in self.now.group (standing_in self.now)) }
     {
-        sure_set(
+        shown_set(
             self.alloc,
+            Shown::Sure,
+            &self.topo,
+            self.target.table(),
+            self.observed.as_slice(),
+            self.target.stamps(),
+        )
+    }
+
+    /// The settled entities of the group.
+    pub fn settled(&self) -> Result<EntitySet, AllocError>
+        ensures of { IfOk result (MarksOf self.now.group) }
+        ensures settled { IfOk result (λ set. (e : Entity) → IsEntityOf self.now.group e → is_in set e ≡ settled_in self.now.group (standing_in self.now) e) }
+    {
+        shown_set(
+            self.alloc,
+            Shown::Settled,
             &self.topo,
             self.target.table(),
             self.observed.as_slice(),

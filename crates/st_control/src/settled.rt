@@ -4,23 +4,43 @@ ghost use Rattle.std.specs.Prelude.{◌≡◌, length, IfOk};
 ghost use Rattle.st_net.specs.Groups.{IsEntityOf};
 ghost use Rattle.st_event.specs.Observed.{is_settled_by, is_sure_by, opening_report};
 ghost use Rattle.st_rows.specs.Reports.{report_in};
+ghost use Rattle.st_control.specs.Sure.{is_shown_by};
 ghost use Rattle.st_control.specs.Target.{entity_count};
 
 use st_net::{Entity, GroupTopo, Report, Vals, carries, level_of};
 use std::alloc::{AllocError, Global};
 
+/// What is asked of an entity by its report.
+#[derive(Clone, Copy, Debug, PartialEq, Eq)]
+pub enum Shown {
+    /// That it is as the target has it.
+    Settled,
+    /// That it is settled and carries traffic.
+    Sure,
+}
+
 /// Whether a report shows that the command of this stamp was carried out, and these target values.
-pub fn is_settled(observed: &Report, stamp: u32, target: Vals) -> bool
+fn is_settled(observed: &Report, stamp: u32, target: Vals) -> bool
     ensures { result ≡ is_settled_by observed.now stamp target }
 {
     !observed.busy && observed.fence == stamp && observed.vals.is_same(target)
 }
 
 /// Whether an entity is settled, and seen to carry traffic.
-pub fn is_sure(entity: Entity, observed: &Report, stamp: u32, target: Vals) -> bool
+fn is_sure(entity: Entity, observed: &Report, stamp: u32, target: Vals) -> bool
     ensures { result ≡ is_sure_by entity observed.now stamp target }
 {
     is_settled(observed, stamp, target) && carries(entity, observed.vals, observed.level)
+}
+
+/// Whether an entity is settled, or sure.
+pub fn is_shown(shown: Shown, entity: Entity, observed: &Report, stamp: u32, target: Vals) -> bool
+    ensures { result ≡ is_shown_by shown entity observed.now stamp target }
+{
+    match shown {
+        Shown::Settled => is_settled(observed, stamp, target),
+        Shown::Sure => is_sure(entity, observed, stamp, target),
+    }
 }
 
 /// The report that stands for an entity before any.

@@ -3,12 +3,11 @@
 ghost use Rattle.std.specs.Prelude.{◌≡◌, ◌+◌, ◌<◌, ◌&&◌, not, ℕ, length, IfOk, if◌then◌else◌};
 ghost use Rattle.st_net.specs.Groups.{IsEntityOf};
 ghost use Rattle.st_net.specs.Sets.{is_in, MarksOf};
-ghost use Rattle.st_event.specs.Observed.{is_sure_by, is_settled_by};
 ghost use Rattle.st_overlay.specs.Values.{IsTableOf};
 ghost use Rattle.st_control.specs.Target.{entity_count, place_in, stamp_in};
-ghost use Rattle.st_control.specs.Sure.{sure_by};
+ghost use Rattle.st_control.specs.Sure.{shown_by, MarksShown};
 
-use crate::settled::is_sure;
+use crate::settled::{Shown, is_shown};
 use st_net::{Entity, EntitySet, GroupTopo, Report};
 use st_overlay::Table;
 use std::alloc::{AllocError, Global};
@@ -25,8 +24,9 @@ pub fn place_of(topo: &GroupTopo, entity: Entity) -> usize
     }
 }
 
-/// Whether an entity is sure.
-fn is_sure_at(
+/// Whether an entity is settled, or sure.
+fn is_shown_at(
+    shown: Shown,
     topo: &GroupTopo,
     table: &Table,
     observed: &[Report],
@@ -37,15 +37,16 @@ fn is_sure_at(
     requires table { IsTableOf topo.now table.now }
     requires observed { length observed.now ≡ entity_count topo.now }
     requires stamps { length stamps.now ≡ entity_count topo.now }
-    ensures { result ≡ sure_by topo.now observed.now stamps.now table.now entity }
+    ensures { result ≡ shown_by shown topo.now observed.now stamps.now table.now entity }
 {
     let place = place_of(topo, entity);
-    is_sure(entity, &observed[place], stamps[place], table.get(entity))
+    is_shown(shown, entity, &observed[place], stamps[place], table.get(entity))
 }
 
-/// The sure entities.
-pub fn sure_set(
+/// The entities of a group that are settled, or sure.
+pub fn shown_set(
     alloc: Global,
+    shown: Shown,
     topo: &GroupTopo,
     table: &Table,
     observed: &[Report],
@@ -54,19 +55,18 @@ pub fn sure_set(
     requires table { IsTableOf topo.now table.now }
     requires observed { length observed.now ≡ entity_count topo.now }
     requires stamps { length stamps.now ≡ entity_count topo.now }
-    ensures of { IfOk result (MarksOf topo.now) }
-    ensures sure { IfOk result (λ set. is_in set ≡ sure_by topo.now observed.now stamps.now table.now) }
+    ensures { IfOk result (MarksShown shown topo.now observed.now stamps.now table.now) }
 {
     let mut set = EntitySet::none(alloc, topo)?;
     'devices: for i in 0..topo.device_count() {
         let entity = Entity::Device(i);
-        if is_sure_at(topo, table, observed, stamps, entity) {
+        if is_shown_at(shown, topo, table, observed, stamps, entity) {
             set.put(entity);
         }
     }
     'links: for i in 0..topo.link_count() {
         let entity = Entity::Link(i);
-        if is_sure_at(topo, table, observed, stamps, entity) {
+        if is_shown_at(shown, topo, table, observed, stamps, entity) {
             set.put(entity);
         }
     }

@@ -83,7 +83,7 @@ reply_count test (entry ∷ past) = (if test entry.reply then 1 else 0) + reply_
 abbrev pub wire_line : Group → List Entry → List ℕ
 wire_line g past = line (codes "wire")
     (codes "commands" ∷ decimal (length (commands g past)) ∷ codes "reports" ∷ decimal (length (reports g past)) ∷
-     codes "stale" ∷ decimal (reply_count is_stale past) ∷ codes "old" ∷ decimal (reply_count is_old past) ∷ [])
+    codes "stale" ∷ decimal (reply_count is_stale past) ∷ codes "old" ∷ decimal (reply_count is_old past) ∷ [])
 
 -- how many of these promises hold while these entities are up
 abbrev pub kept_count : Group → (Entity → Bool) → List Promise → ℕ

@@ -1,2 +1,5 @@
 pub mod Words
+pub mod Printed
 pub mod GroupReport
+pub mod Counted
+pub mod Standing

@@ -1,0 +1,5 @@
+pub mod PrintLemmas
+pub mod JournalLemmas
+pub mod EntityLemmas
+pub mod PromiseLemmas
+pub mod GroupLemmas
