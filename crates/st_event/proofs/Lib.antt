@@ -14,3 +14,11 @@ pub mod AgentSteps
 pub mod Standings
 pub mod Greatest
 pub mod Turns
+pub mod LawLemmas
+pub mod Apart
+pub mod PromiseLaws
+pub mod Granted
+pub mod Unfolding
+pub mod InmostCut
+pub mod Ascending
+pub mod Unnamed

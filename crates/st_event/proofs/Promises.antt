@@ -34,7 +34,7 @@ use Rattle.st_event.proofs.SureIsUp.{sure_is_up}
 use Rattle.st_event.proofs.Targets.{IsAccepted, acceptance}
 use Rattle.st_event.proofs.SureSteps.{accepted_within, stays_or_names}
 
-promise_at : (ds : List DeviceOpening) (ps : List Promise) (i : ℕ) → ArePromises ds ps → i < length ps → IsPromiseAmong ds (slice_index_or ps i no_promise)
+pub promise_at : (ds : List DeviceOpening) (ps : List Promise) (i : ℕ) → ArePromises ds ps → i < length ps → IsPromiseAmong ds (slice_index_or ps i no_promise)
 promise_at ds [] i are low = absurd (omega arith)
 promise_at ds (p ∷ ps) zero are low = are.0
 promise_at ds (p ∷ ps) (suc i) are low = promise_at ds ps i are.1 (omega arith)

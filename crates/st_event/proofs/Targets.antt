@@ -53,7 +53,7 @@ check_same : (g : Group) (past : List Entry) (queue : List Proposal) (answer : R
 check_same g past [] answer first is refused = rw is refl
 check_same g past (p ∷ rest) answer first is refused = rw is (refused_same past (receipt_of g past p) p rest first (ap is_accepting (sym is) ∙ refused))
 
-accepted_same : (g : Group) (past : List Entry) (event : Event) (answer : Reply) → IsOrderly past → answer ≡ reply g past event → is_acceptance event answer ≡ false → accepted (record { event = event; reply = answer } ∷ past) ≡ accepted past
+pub accepted_same : (g : Group) (past : List Entry) (event : Event) (answer : Reply) → IsOrderly past → answer ≡ reply g past event → is_acceptance event answer ≡ false → accepted (record { event = event; reply = answer } ∷ past) ≡ accepted past
 accepted_same g past (Submit app rows) answer orderly is none = submit_same past app rows answer orderly
 accepted_same g past Check answer orderly is none = check_same g past (pending past) answer refl is none
 accepted_same g past _ answer orderly is none = refl
@@ -79,7 +79,7 @@ pub acceptance : (g : Group) (past : List Entry) (event : Event) (answer : Reply
 acceptance g past Check answer is accepts = accepted_at g past (pending past) answer refl is accepts
 acceptance g past _ answer is accepts = cc
 
-accepted_next : (past : List Entry) (receipt : Receipt) (p : Proposal) (rest : List Proposal) → pending past ≡ p ∷ rest → is_accepted receipt.verdict ≡ true → accepted (record { event = Check; reply = Decided receipt } ∷ past) ≡ accepted past ++ p.rows ∷ []
+pub accepted_next : (past : List Entry) (receipt : Receipt) (p : Proposal) (rest : List Proposal) → pending past ≡ p ∷ rest → is_accepted receipt.verdict ≡ true → accepted (record { event = Check; reply = Decided receipt } ∷ past) ≡ accepted past ++ p.rows ∷ []
 accepted_next past receipt p rest first accepts = rw (accepted_among-verdict (proposals past) (verdicts past) receipt.verdict p rest first, accepts) refl
 
 -- an acceptance overlays the target with the proposal's rows

@@ -1,5 +1,5 @@
 -- The verdict on a proposal.
-use Rattle.std.specs.Prelude.{ℕ, ◌+◌, ◌==◌, ◌&&◌, nat_lt, nat_le, Bool, not, List, [], ◌∷◌, length, Option, Some, None, option_map, if◌then◌else◌, slice_index_or}
+use Rattle.std.specs.Prelude.{ℕ, ◌+◌, ◌==◌, ◌&&◌, nat_lt, nat_le, Bool, not, List, [], ◌∷◌, Option, Some, None, option_map, if◌then◌else◌, slice_index_or}
 use Rattle.st_net.specs.declared.entity.AppId.{AppId}
 use Rattle.st_net.specs.declared.entity.Row.{Row}
 use Rattle.st_net.specs.declared.entity.Var.{Var}
@@ -7,10 +7,7 @@ use Rattle.st_net.specs.declared.entity.Var.TheVariants.{Power, Firmware, Config
 use Rattle.st_net.specs.declared.entity.Entity.{Entity}
 use Rattle.st_net.specs.declared.entity.Entity.TheVariants.{Device, Link}
 use Rattle.st_net.specs.declared.entity.Prio.{Prio}
-use Rattle.st_net.specs.declared.promise.Promise.{Promise}
 use Rattle.st_net.specs.declared.message.Report.{Report}
-use Rattle.st_net.specs.declared.promise.BrokenKind.TheVariants.{CutOff, Short}
-use Rattle.st_net.specs.declared.promise.Broken.{Broken}
 use Rattle.st_event.specs.declared.reply.Lack.{Lack}
 use Rattle.st_event.specs.declared.reply.Lack.TheVariants.{Level, PowerOff}
 use Rattle.st_event.specs.declared.reply.Cause.{Cause}
@@ -21,8 +18,7 @@ use Rattle.st_net.specs.declared.topo.LinkOpening.{LinkOpening}
 use Rattle.st_net.specs.Groups.{Group, no_link}
 use Rattle.st_net.specs.Merge.{target_with}
 use Rattle.st_net.specs.Holders.{Holding, effective_of}
-use Rattle.st_net.specs.Promises.{is_kept, need_of, first_broken}
-use Rattle.st_net.specs.Cuts.{least_cut, is_in_least_side, numbers_in}
+use Rattle.st_net.specs.Promises.{first_broken}
 
 -- the level that a row on the variable needs of its own entity
 abbrev pub needs_of : Var → ℕ

@@ -1,17 +1,11 @@
 -- Which journals are legal.
-use Rattle.std.specs.Prelude.{◌≡◌, ℕ, ◌<◌, ◌≤◌, ◌^◌, Bool, true, false, ◌&&◌, ◌==◌, not, nat_lt, nat_le, List, [], ◌∷◌, length, All}
-use Rattle.st_net.specs.declared.entity.Row.{Row}
+use Rattle.std.specs.Prelude.{◌≡◌, ℕ, ◌<◌, true, List, [], ◌∷◌, length}
 use Rattle.st_net.specs.declared.entity.Vals.{Vals}
-use Rattle.st_net.specs.declared.entity.Var.{Var}
-use Rattle.st_net.specs.declared.entity.Var.TheVariants.{Power, Firmware, Config, Routing, LinkPower, Iface}
 use Rattle.st_net.specs.declared.entity.Entity.{Entity}
-use Rattle.st_net.specs.declared.entity.Entity.TheVariants.{Device, Link}
 use Rattle.st_event.specs.declared.event.Event.{Event}
 use Rattle.st_event.specs.declared.event.Event.TheVariants.{Submit, Check, Lock, Unlock, Send, Deliver, Finish, Report as make_report, Hear, Fail}
 use Rattle.st_event.specs.declared.journal.Entry.{Entry}
 use Rattle.st_event.specs.declared.journal.TheConstants.{MAX_ENTRIES}
-use Rattle.st_net.specs.declared.topo.TheConstants.{MAX_ROWS}
-use Rattle.st_net.specs.Entities.{is_same_entity, is_same_var}
 use Rattle.st_net.specs.Groups.{Group, IsEntityOf}
 use Rattle.st_event.specs.Replies.{reply}
 use Rattle.st_net.specs.Ranges.{RowsFit, are_in_range, is_health_of}

@@ -13,3 +13,6 @@ pub mod Agents
 pub mod Heard
 pub mod Standing
 pub mod History
+pub mod Grants
+pub mod Services
+pub mod Laws

@@ -1,15 +1,13 @@
 -- Who holds the locks of an entity.
-use Rattle.std.specs.Prelude.{Bool, true, false, ◌==◌, ◌&&◌, List, [], ◌∷◌, Option, Some, None, if◌then◌else◌}
+use Rattle.std.specs.Prelude.{Bool, true, false, List, [], ◌∷◌, Option, Some, None, if◌then◌else◌}
 use Rattle.st_net.specs.declared.entity.AppId.{AppId}
 use Rattle.st_net.specs.declared.entity.Entity.{Entity}
 use Rattle.st_net.specs.declared.entity.Prio.{Prio}
-use Rattle.st_net.specs.declared.entity.Prio.TheVariants.{Low, High}
 use Rattle.st_event.specs.declared.event.Event.{Event}
 use Rattle.st_event.specs.declared.event.Event.TheVariants.{Lock, Unlock}
 use Rattle.st_event.specs.declared.reply.Reply.{Reply}
 use Rattle.st_event.specs.declared.reply.Reply.TheVariants.{Granted, Released}
 use Rattle.st_event.specs.declared.journal.Entry.{Entry}
-use Rattle.st_net.specs.Entities.{is_same_entity}
 use Rattle.st_net.specs.Holders.{holder_set, holder_freed}
 
 abbrev pub is_granted : Reply → Bool

@@ -2,7 +2,6 @@
 use Rattle.std.specs.Prelude.{ℕ, Bool, false, ◌&&◌, ◌||◌, ◌==◌, not, nat_lt, nat_le, List, [], ◌∷◌, Option, Some, None, if◌then◌else◌}
 use Rattle.st_net.specs.declared.entity.Entity.{Entity}
 use Rattle.st_net.specs.declared.entity.Row.{Row}
-use Rattle.st_net.specs.declared.entity.Var.{Var}
 use Rattle.st_net.specs.declared.entity.Vals.{Vals}
 use Rattle.st_net.specs.declared.message.Report.{Report}
 use Rattle.st_event.specs.declared.journal.Entry.{Entry}
@@ -10,7 +9,7 @@ use Rattle.st_net.specs.Entities.{is_same_entity, is_same_vals}
 use Rattle.st_net.specs.Levels.{carries, level_of}
 use Rattle.st_net.specs.Groups.{Group, opening_of, health_of}
 use Rattle.st_event.specs.Proposals.{target}
-use Rattle.st_net.specs.Merge.{vals_in, alters, without_altered}
+use Rattle.st_net.specs.Merge.{vals_in, without_altered}
 use Rattle.st_net.specs.Numbered.{nth}
 use Rattle.st_event.specs.Moments.{heard, report_by, stamp, reports, busy, vals, health, number, is_fail_of}
 

@@ -1,8 +1,7 @@
 -- The proposals of a journal. A journal stands here with its newest entry first: `entry ∷ past` is the
 -- journal `past` with one more entry.
-use Rattle.std.specs.Prelude.{ℕ, Bool, true, false, not, List, [], ◌∷◌, ◌++◌, length, drop, if◌then◌else◌}
+use Rattle.std.specs.Prelude.{ℕ, Bool, true, false, List, [], ◌∷◌, ◌++◌, length, drop, if◌then◌else◌}
 use Rattle.st_net.specs.declared.entity.Row.{Row}
-use Rattle.st_net.specs.declared.entity.Vals.{Vals}
 use Rattle.st_net.specs.declared.entity.Entity.{Entity}
 use Rattle.st_net.specs.declared.entity.Var.{Var}
 use Rattle.st_event.specs.declared.event.Event.{Event}
@@ -13,9 +12,8 @@ use Rattle.st_event.specs.declared.reply.Verdict.{Verdict}
 use Rattle.st_event.specs.declared.reply.Verdict.TheVariants.{Accepted, Refused}
 use Rattle.st_event.specs.declared.journal.Entry.{Entry}
 use Rattle.st_event.specs.declared.event.Proposal.{Proposal}
-use Rattle.st_net.specs.Entities.{vals_by, is_same_vals}
-use Rattle.st_net.specs.Groups.{Group, opening_of}
-use Rattle.st_net.specs.Merge.{merge_of, target_with}
+use Rattle.st_net.specs.Groups.{Group}
+use Rattle.st_net.specs.Merge.{merge_of}
 
 abbrev pub is_queued : Reply → Bool
 is_queued (Queued ticket) = true

@@ -4,9 +4,7 @@ use Rattle.st_net.specs.declared.entity.AppId.{AppId}
 use Rattle.st_net.specs.declared.entity.Row.{Row}
 use Rattle.st_net.specs.declared.entity.Vals.{Vals}
 use Rattle.st_net.specs.declared.entity.Var.{Var}
-use Rattle.st_net.specs.declared.entity.Var.TheVariants.{Power, Firmware, Config, Routing, LinkPower, Iface}
 use Rattle.st_net.specs.declared.entity.Entity.{Entity}
-use Rattle.st_net.specs.declared.entity.Entity.TheVariants.{Device, Link}
 use Rattle.st_event.specs.declared.event.Event.{Event}
 use Rattle.st_event.specs.declared.event.Event.TheVariants.{Submit, Check, Lock, Unlock, Send, Deliver, Finish, Report as make_report, Hear, Fail}
 use Rattle.st_event.specs.declared.reply.Reply.{Reply}

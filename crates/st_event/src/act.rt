@@ -10,11 +10,19 @@ use std::marker::Model;
 #[derive(Drop)]
 pub enum Act {
     /// Propose 1 to 16 rows.
-    Propose { group: u32, rows: Rows },
+    Propose {
+        group: u32,
+        rows: Rows,
+    },
     /// Check until the application's latest proposal in the group is decided.
-    Await { group: u32 },
+    Await {
+        group: u32,
+    },
     /// Make rounds, at most so many, until every entity is settled.
-    Settle { group: u32, rounds: u32 },
+    Settle {
+        group: u32,
+        rounds: u32,
+    },
     /// Ask for a lock.
     Lock {
         group: u32,
@@ -48,7 +56,10 @@ pub enum Act {
         rows: Rows,
     },
     /// Let an entity report, and hear what arrives.
-    Poll { group: u32, entity: Entity },
+    Poll {
+        group: u32,
+        entity: Entity,
+    },
 }
 
 /// What a command that reads saw.

@@ -11,25 +11,50 @@ use std::alloc::{AllocError, Global};
 #[derive(Drop)]
 pub enum Event {
     /// An application proposes rows: they wait in the group's queue.
-    Submit { app: AppId, rows: Rows },
+    Submit {
+        app: AppId,
+        rows: Rows,
+    },
     /// The checker decides the oldest proposal that waits.
     Check,
     /// An application asks for a lock of an entity.
-    Lock { app: AppId, entity: Entity, prio: Prio },
+    Lock {
+        app: AppId,
+        entity: Entity,
+        prio: Prio,
+    },
     /// An application gives a lock back.
-    Unlock { app: AppId, entity: Entity, prio: Prio },
+    Unlock {
+        app: AppId,
+        entity: Entity,
+        prio: Prio,
+    },
     /// The updater commands an entity to take its target's values.
-    Send { entity: Entity },
+    Send {
+        entity: Entity,
+    },
     /// A command that was sent, by its number from 1, reaches its agent.
-    Deliver { command: u32 },
+    Deliver {
+        command: u32,
+    },
     /// An entity's agent carries out the command that it has in work.
-    Finish { entity: Entity },
+    Finish {
+        entity: Entity,
+    },
     /// An entity's agent says how it is.
-    Report { entity: Entity },
+    Report {
+        entity: Entity,
+    },
     /// A report that was made, by its number from 1, reaches the monitor.
-    Hear { report: u32 },
+    Hear {
+        report: u32,
+    },
     /// An entity changes of itself: these are its values and its health from now on.
-    Fail { entity: Entity, vals: Vals, health: u32 },
+    Fail {
+        entity: Entity,
+        vals: Vals,
+        health: u32,
+    },
 }
 
 /// What an application asked for.
@@ -88,5 +113,52 @@ impl Proposal {
             app: self.app,
             rows: self.rows.copy(alloc)?,
         })
+    }
+}
+
+#[cfg(test)]
+mod tests {
+    use super::*;
+    use st_net::{Row, Var};
+    use std::test::Fail;
+
+    const ROWS: [Row; 2] = [
+        Row {
+            entity: Entity::Device(2),
+            var: Var::Firmware,
+            value: 2,
+        },
+        Row {
+            entity: Entity::Link(0),
+            var: Var::LinkPower,
+            value: 0,
+        },
+    ];
+
+    #[test]
+    fn a_copied_submit_has_the_same_rows(rt: HostRuntime) -> Result<(), Fail> {
+        let event = Event::Submit {
+            app: AppId(1),
+            rows: Rows::from_slice(rt.alloc(), ROWS.as_slice())?,
+        };
+        let copy = event.copy(rt.alloc())?;
+        let is_same = match &copy {
+            Event::Submit { app, rows } => *app == AppId(1) && rows.as_slice() == ROWS.as_slice(),
+            _ => false,
+        };
+        assert!(rt; is_same);
+        Ok(())
+    }
+
+    #[test]
+    fn a_copied_proposal_has_the_same_rows(rt: HostRuntime) -> Result<(), Fail> {
+        let proposal = Proposal {
+            app: AppId(1),
+            rows: Rows::from_slice(rt.alloc(), ROWS.as_slice())?,
+        };
+        let copy = proposal.copy(rt.alloc())?;
+        assert_eq!(rt; copy.app, AppId(1));
+        assert_eq!(rt; copy.rows.as_slice(), ROWS.as_slice());
+        Ok(())
     }
 }

@@ -78,3 +78,72 @@ impl Entries {
         self.entries
     }
 }
+
+#[cfg(test)]
+mod tests {
+    use super::*;
+    use crate::reply::{Cause, Receipt, Verdict};
+    use st_net::{Broken, BrokenKind, Side};
+    use std::test::Fail;
+
+    #[test]
+    fn a_copied_entry_names_the_same_side(rt: HostRuntime) -> Result<(), Fail> {
+        let entry = Entry {
+            event: Event::Check,
+            reply: Reply::Decided(Receipt {
+                ticket: 2,
+                entry: 4,
+                verdict: Verdict::Refused(Cause::Broken(Broken {
+                    promise: 0,
+                    kind: BrokenKind::CutOff,
+                    need: 10,
+                    has: 0,
+                    side: Side::from_slice(rt.alloc(), [0, 3].as_slice())?,
+                })),
+            }),
+        };
+        let copy = entry.copy(rt.alloc())?;
+        let is_same = match &copy.reply {
+            Reply::Decided(receipt) => match &receipt.verdict {
+                Verdict::Refused(Cause::Broken(broken)) => {
+                    receipt.ticket == 2
+                        && receipt.entry == 4
+                        && broken.need == 10
+                        && broken.side.as_slice() == [0, 3].as_slice()
+                }
+                _ => false,
+            },
+            _ => false,
+        };
+        assert!(rt; is_same);
+        Ok(())
+    }
+
+    #[test]
+    fn entries_stand_in_the_order_given(rt: HostRuntime) -> Result<(), Fail> {
+        let mut entries = Vec::new(rt.alloc());
+        entries.push(Entry {
+            event: Event::Check,
+            reply: Reply::Idle,
+        })?;
+        entries.push(Entry {
+            event: Event::Hear { report: 1 },
+            reply: Reply::NoSuch { sent: 0 },
+        })?;
+        let journal = Journal {
+            group: 0,
+            entries: Entries::new(entries),
+        };
+        let mut checks = 0;
+        let mut hears_after_check = 0;
+        for entry in journal.entries.as_slice() {
+            match &entry.event {
+                Event::Check => checks = 1,
+                Event::Hear { report } if checks == 1 => hears_after_check = *report,
+                _ => {}
+            }
+        }
+        assert_eq!(rt; hears_after_check, 1);
+        Ok(())
+    }
+}

@@ -5,6 +5,7 @@
 mod act;
 mod event;
 mod journal;
+pub mod laws;
 mod reply;
 mod rows;
 

@@ -19,7 +19,10 @@ pub enum Lack {
 #[derive(Drop)]
 pub enum Cause {
     /// The first row that can't be set, and what it lacks.
-    NotControllable { row: Row, lack: Lack },
+    NotControllable {
+        row: Row,
+        lack: Lack,
+    },
     /// The entity of the first row that another application's lock bars, with that application and which lock counts.
     Locked {
         entity: Entity,

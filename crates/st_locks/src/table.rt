@@ -169,3 +169,6 @@ impl LockTable {
         }
     }
 }
+
+#[cfg(test)]
+mod tests;

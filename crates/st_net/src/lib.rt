@@ -4,6 +4,8 @@
 
 mod build;
 mod entity;
+#[cfg(test)]
+mod examples;
 mod fault;
 mod law;
 mod level;

@@ -126,3 +126,6 @@ impl Table {
         vals
     }
 }
+
+#[cfg(test)]
+mod tests;

@@ -1,7 +1,7 @@
 //! The search from one device over the links of the up graph. It finds each device that a walk from there reaches, and keeps
 //! how it came to each: walks and cuts are read off what it found.
 
-ghost use Rattle.std.specs.Prelude.{◌≡◌, ◌<◌, ◌^◌, Bool, length, slice_index_or, IfOk, OnOk, IfSome, IfNone, is_some, Some, None};
+ghost use Rattle.std.specs.Prelude.{◌≡◌, ◌<◌, ◌^◌, Bool, length, slice_index_or, IfOk, OnOk, OnErr, IfSome, IfNone, is_some, Some, None};
 ghost use Rattle.st_net.specs.Groups.{Group, no_link};
 ghost use Rattle.st_net.specs.Sets.{Marks, is_in, MarksOf};
 ghost use Rattle.st_net.specs.UpGraph.{is_up_link};
@@ -65,12 +65,11 @@ impl Search {
     {
         let mut places = vec![in alloc; None; topo.device_count() as usize]?;
         places[root as usize] = Some(0);
-        let steps = vec![in alloc;
-            Step {
-                device: root,
-                came: None
-            },
-        ]?;
+        let first = Step {
+            device: root,
+            came: None,
+        };
+        let steps = vec![in alloc; first]?;
         Ok(Search {
             root,
             places,
@@ -161,6 +160,7 @@ impl Search {
         requires device { step.device < length self.old.places }
         requires room { length self.old.steps < 2 ^ 32 }
         ensures ok { OnOk result (self.new ≡ entered self.old step) }
+        ensures err { OnErr result (self.new ≡ self.old) }
     {
         let place = self.steps.len() as u32;
         self.steps.push(step)?;
@@ -168,7 +168,7 @@ impl Search {
         Ok(())
     }
 
-    /// Follows a link from an end that was found to one that was not.
+    /// Follows a link from an end that was found to one that was not. After want of memory the search is as it was.
     fn follow(&mut self, topo: &GroupTopo, up: &EntitySet, link: u32) -> Result<(), AllocError>
         requires link { link < length topo.now.links }
         requires marks { MarksOf topo.now up.now }
@@ -176,6 +176,7 @@ impl Search {
         ensures search { OnOk result (IsSearch (length topo.now.devices) topo.now.links (is_in up.now) self.new) }
         ensures more { OnOk result (Extends self.old self.new) }
         ensures joined { OnOk result (IsJoined topo.now.links (is_in up.now) self.new link) }
+        ensures err { OnErr result (self.new ≡ self.old) }
     {
         topo.is_sound();
         match self.step_over(topo, up, link) {
@@ -184,7 +185,7 @@ impl Search {
         }
     }
 
-    /// Follows each link of a step's device.
+    /// Follows each link of a step's device. After want of memory some of them are followed, and the search is of no use.
     fn visit(
         &mut self,
         topo: &GroupTopo,

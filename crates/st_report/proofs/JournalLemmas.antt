@@ -1,5 +1,5 @@
 -- What is counted and filtered in a journal from its oldest entry on, and what the definitions that look back at it give.
-use Rattle.std.proofs.Common.{◌≡◌, ℕ, suc, ◌+◌, ◌<◌, get_or, List, [], ◌∷◌, ◌++◌, length, map, take, cond, refl, sym, ◌∙◌, ap, append_assoc, zero-add, arith, Option, Some, None, Bool, true, false}
+use Rattle.std.proofs.Common.{◌≡◌, ℕ, ◌+◌, ◌<◌, get_or, List, [], ◌∷◌, ◌++◌, length, map, take, cond, refl, sym, ◌∙◌, ap, append_assoc, zero-add, arith, Option, Some, None, Bool, true, false}
 use Rattle.std.specs.Prelude.{reverse, count_by, option_map, slice_get, if◌then◌else◌}
 use Rattle.std.specs.Option.{option_to_list}
 use Rattle.std.specs.List.{filter_map, cons_option, zip}
@@ -18,7 +18,7 @@ use Rattle.st_event.specs.declared.reply.Reply.{Reply}
 use Rattle.st_event.specs.declared.reply.Reply.TheVariants.{Queued, Decided, Sent}
 use Rattle.st_event.specs.declared.reply.Verdict.{Verdict}
 use Rattle.st_event.specs.declared.journal.Entry.{Entry}
-use Rattle.st_event.specs.Proposals.{is_queued, is_accepted, proposals, proposals_after, verdicts, verdicts_after, accepted_among, version}
+use Rattle.st_event.specs.Proposals.{is_accepted, proposals, proposals_after, verdicts, verdicts_after, accepted_among, version}
 use Rattle.st_event.specs.Moments.{commands, commands_after, reports, reports_after}
 use Rattle.st_report.specs.GroupReport.{reply_count, receipt_lines}
 use Rattle.st_report.specs.Counted.{proposer_in, proposer_of, verdict_in, verdict_of, acceptance_of, is_command, sends_command, is_report, makes_report, receipt_line, line_where}

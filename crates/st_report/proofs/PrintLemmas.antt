@@ -1,8 +1,8 @@
 -- What stands in a text after one printing and a part of the next, and after some turns of a loop.
-use Rattle.std.proofs.Common.{◌≡◌, ℕ, ◌+◌, ◌<◌, ◌≤◌, List, [], ◌∷◌, ◌++◌, length, get_or, take, drop, refl, sym, ◌∙◌, ap, append_assoc, arith, decimal, codes}
+use Rattle.std.proofs.Common.{◌≡◌, ℕ, ◌+◌, ◌<◌, ◌≤◌, List, [], ◌∷◌, ◌++◌, length, get_or, take, drop, refl, sym, ◌∙◌, ap, append_assoc, decimal, codes}
 use Rattle.std.specs.Prelude.{reverse, Result, Ok, Err, OnErr, OnOk}
 use Rattle.std.proofs.lemmas.List.{append-nil, take_more, drop_more, take-append-drop, take_all, reverse-append}
-use Rattle.st_net.specs.declared.entity.Entity.TheVariants.{Device, Link}
+use Rattle.st_net.specs.declared.entity.Entity.TheVariants.{Device}
 use Rattle.st_net.specs.declared.promise.Broken.{Broken}
 use Rattle.st_net.specs.Groups.{Group, name_of, promise_of}
 use Rattle.st_report.specs.Words.{spaced, line, device_words, kind_word}

@@ -1,5 +1,5 @@
 -- The promises that hold, by their marks, and the lines that are printed by them.
-use Rattle.std.proofs.Common.{◌≡◌, ℕ, ◌+◌, ◌<◌, List, [], ◌∷◌, length, get_or, map, cond, refl, sym, ◌∙◌, ap, arith, Bool}
+use Rattle.std.proofs.Common.{◌≡◌, ℕ, ◌+◌, ◌<◌, List, [], ◌∷◌, length, get_or, map, cond, refl, sym, ◌∙◌, ap, Bool}
 use Rattle.std.specs.Prelude.{count_by, not, ◌&&◌, if◌then◌else◌}
 use Rattle.std.proofs.lemmas.List.{get_or-map}
 use Rattle.st_net.specs.declared.entity.Entity.{Entity}

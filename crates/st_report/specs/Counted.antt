@@ -1,10 +1,10 @@
 -- What the lines of a group count in its journal, and what a receipt's line takes from it.
-use Rattle.std.specs.Prelude.{◌≡◌, ℕ, ◌+◌, Bool, true, false, List, [], ◌∷◌, ◌++◌, length, decimal, codes, slice_get, Option, Some, None, option_map}
+use Rattle.std.specs.Prelude.{ℕ, Bool, true, false, List, [], ◌∷◌, ◌++◌, length, decimal, codes, Option, Some, None, option_map}
 use Rattle.st_net.specs.declared.entity.AppId.{AppId}
 use Rattle.st_event.specs.declared.event.Event.{Event}
 use Rattle.st_event.specs.declared.event.Event.TheVariants.{Submit, Check, Send, Report as make_report}
 use Rattle.st_event.specs.declared.reply.Reply.{Reply}
-use Rattle.st_event.specs.declared.reply.Reply.TheVariants.{Queued, Decided, Sent}
+use Rattle.st_event.specs.declared.reply.Reply.TheVariants.{Queued, Decided}
 use Rattle.st_event.specs.declared.reply.Verdict.{Verdict}
 use Rattle.st_event.specs.declared.journal.Entry.{Entry}
 use Rattle.st_net.specs.declared.entity.Entity.{Entity}

@@ -1,5 +1,5 @@
 -- What a printer adds to a text: the words that it is given, and a part of them where memory ends.
-use Rattle.std.specs.Prelude.{◌≡◌, ℕ, List, [], ◌∷◌, ◌++◌, decimal, map}
+use Rattle.std.specs.Prelude.{◌≡◌, ℕ, List, ◌∷◌, ◌++◌, decimal, map}
 use Rattle.st_net.specs.declared.entity.Var.{Var}
 use Rattle.st_report.specs.declared.words.Word.{Word}
 use Rattle.st_report.specs.declared.words.Word.TheVariants.{Plain, Number, Assignment}

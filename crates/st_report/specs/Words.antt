@@ -1,7 +1,6 @@
 -- How names, numbers, variables and rows are printed, and lines of words.
 use Rattle.std.specs.Prelude.{ℕ, List, [], ◌∷◌, ◌++◌, codes, decimal, map, slice_index_or, Option, Some, None}
 use Rattle.st_net.specs.declared.entity.AppId.{AppId}
-use Rattle.st_net.specs.declared.entity.Entity.{Entity}
 use Rattle.st_net.specs.declared.entity.Entity.TheVariants.{Device}
 use Rattle.st_net.specs.declared.entity.Prio.{Prio}
 use Rattle.st_net.specs.declared.entity.Prio.TheVariants.{Low, High}

@@ -1,4 +1,4 @@
-use Rattle.std.proofs.Common.{◌≡◌, ◌<◌, refl, length, ap, arith}
+use Rattle.std.proofs.Common.{◌<◌, refl, length, ap, arith}
 use Rattle.st_net.specs.Entities.{vars_of}
 use Rattle.st_overlay.specs.Values.{value_in}
 use Rattle.st_report.proofs.PrintLemmas.{by_next, by_part, err_of}

@@ -1,0 +1,174 @@
+-- Laws of legal journals, and of one entry more.
+use Rattle.std.specs.Prelude.{◌≡◌, ◌≢◌, ℕ, ◌+◌, ◌<◌, ◌≤◌, true, false, Bool, None, Some, List, [], ◌∷◌, ◌++◌, length, ◌⊎◌, ◌↔◌}
+use Rattle.st_net.specs.declared.entity.AppId.{AppId}
+use Rattle.st_net.specs.declared.entity.Entity.{Entity}
+use Rattle.st_net.specs.declared.entity.Prio.{Prio}
+use Rattle.st_net.specs.declared.entity.Var.{Var}
+use Rattle.st_net.specs.declared.message.Command.{Command}
+use Rattle.st_net.specs.declared.message.Report.{Report}
+use Rattle.st_event.specs.declared.event.Event.{Event}
+use Rattle.st_event.specs.declared.event.Event.TheVariants.{Check, Deliver, Hear}
+use Rattle.st_event.specs.declared.reply.Reply.TheVariants.{NoSuch}
+use Rattle.st_event.specs.declared.journal.Entry.{Entry}
+use Rattle.st_event.specs.declared.journal.TheConstants.{MAX_PENDING}
+use Rattle.st_net.specs.Entities.{value_of}
+use Rattle.st_net.specs.declared.topo.LinkOpening.{LinkOpening}
+use Rattle.st_net.specs.declared.promise.Promise.{Promise}
+use Rattle.st_net.specs.Groups.{Group, IsSound, AreLinks, opening_of, promise_of}
+use Rattle.st_net.specs.Merge.{target_with}
+use Rattle.st_net.specs.Numbered.{nth}
+use Rattle.st_net.specs.Sets.{IsWithin}
+use Rattle.st_net.specs.UpGraph.{IsWalk}
+use Rattle.st_net.specs.Cuts.{IsCut, cut_value, least_cut, is_in_least_side}
+use Rattle.st_net.specs.Promises.{Keeps, is_kept}
+use Rattle.st_event.specs.Proposals.{accepted, pending, first_rows, is_acceptance, target}
+use Rattle.st_event.specs.Moments.{stamp, fence, commands, reports}
+use Rattle.st_event.specs.Observed.{opening_report, observed, sure}
+use Rattle.st_event.specs.Replies.{reply}
+use Rattle.st_event.specs.Legal.{IsLegal, IsNext, AtEach}
+use Rattle.st_event.specs.Network.{KeepsPromises}
+use Rattle.st_event.specs.Facts.{AgentsAgree}
+use Rattle.st_event.specs.Agents.{agent_of, agent_after}
+use Rattle.st_event.specs.Heard.{WasHeard, WasTold}
+use Rattle.st_event.specs.Locks.{holder}
+use Rattle.st_event.specs.Grants.{IsLastGrant}
+use Rattle.st_event.specs.Services.{GroupEvent, journal_by, journals_by, events_of}
+use Rattle.st_event.specs.Standing.{standing_of, wires_of, standing_after, wires_after, reply_in}
+
+-- a legal journal keeps its group's promises, and did so at each moment
+abbrev pub LegalJournalsKeepPromises : Type 0
+LegalJournalsKeepPromises = (g : Group) (past : List Entry) → IsSound g → IsLegal g past → AtEach (KeepsPromises g) past
+
+-- a check takes no promise from the sure set
+abbrev pub ChecksTakeNoPromise : Type 0
+ChecksTakeNoPromise = (g : Group) (past : List Entry) (entry : Entry) (i : ℕ) → entry.event ≡ Check → IsSound g → IsLegal g past → IsNext g past entry → i < length g.promises → Keeps g (sure g past) (promise_of g i) → Keeps g (sure g (entry ∷ past)) (promise_of g i)
+
+-- commands, reports and agents agree with the target, at each moment of a legal journal
+abbrev pub LegalAgentsAgree : Type 0
+LegalAgentsAgree = (g : Group) (past : List Entry) → IsLegal g past → AtEach (AgentsAgree g) past
+
+-- an agent's fence never falls
+abbrev pub FencesNeverFall : Type 0
+FencesNeverFall = (g : Group) (past : List Entry) (entry : Entry) (e : Entity) → fence g past e ≤ fence g (entry ∷ past) e
+
+-- an entity's stamp never falls
+abbrev pub StampsNeverFall : Type 0
+StampsNeverFall = (g : Group) (past : List Entry) (entry : Entry) (e : Entity) → stamp g past e ≤ stamp g (entry ∷ past) e
+
+-- a stamp is the number of an entry that there is, or 0
+abbrev pub StampsAreEntries : Type 0
+StampsAreEntries = (g : Group) (past : List Entry) (e : Entity) → stamp g past e ≤ length past
+
+-- the target of no entry is the opening
+abbrev pub TargetOpens : Type 0
+TargetOpens = (g : Group) (e : Entity) (v : Var) → target g [] e v ≡ value_of e (opening_of g e) v
+
+-- an acceptance adds the oldest pending proposal's rows to what was accepted, and overlays the target with them; another entry does neither
+pub record MovesTarget (g : Group) (past : List Entry) (entry : Entry) : Type 0 where
+  pub listed : is_acceptance entry.event entry.reply ≡ true → accepted (entry ∷ past) ≡ accepted past ++ first_rows (pending past) ∷ []
+  pub overlaid : is_acceptance entry.event entry.reply ≡ true → target g (entry ∷ past) ≡ target_with (target g past) (first_rows (pending past))
+  pub same_list : is_acceptance entry.event entry.reply ≡ false → accepted (entry ∷ past) ≡ accepted past
+  pub same : is_acceptance entry.event entry.reply ≡ false → target g (entry ∷ past) ≡ target g past
+
+abbrev pub TargetMoves : Type 0
+TargetMoves = (g : Group) (past : List Entry) (entry : Entry) → IsLegal g past → IsNext g past entry → MovesTarget g past entry
+
+-- no more proposals wait than may
+abbrev pub FewWait : Type 0
+FewWait = (g : Group) (past : List Entry) → IsLegal g past → length (pending past) ≤ MAX_PENDING
+
+-- one entry moves the checker's part of a group, and the network's
+abbrev pub StandingMoves : Type 0
+StandingMoves = (g : Group) (past : List Entry) (entry : Entry) → IsLegal g past → IsNext g past entry → standing_of g (entry ∷ past) ≡ standing_after g (standing_of g past) (wires_of g past) (length past + 1) entry.event entry.reply
+
+abbrev pub WiresMove : Type 0
+WiresMove = (g : Group) (past : List Entry) (entry : Entry) → wires_of g (entry ∷ past) ≡ wires_after g (standing_of g past) (wires_of g past) entry.event entry.reply
+
+-- a reply is given from these two parts and the entry's number
+abbrev pub StandingReplies : Type 0
+StandingReplies = (g : Group) (past : List Entry) (event : Event) → reply g past event ≡ reply_in g (standing_of g past) (wires_of g past) (length past + 1) event
+
+-- one entry moves each agent by one step
+abbrev pub AgentsMove : Type 0
+AgentsMove = (g : Group) (past : List Entry) (entry : Entry) → agent_of g (entry ∷ past) ≡ (λ e. agent_after entry.event (nth (commands g past)) e (agent_of g past e))
+
+-- what is observed of an entity is of that entity, was heard or is its opening, and no report of it that was heard has a greater number
+pub record IsGreatestHeard (g : Group) (past : List Entry) (e : Entity) (r : Report) : Type 0 where
+  pub own : r.entity ≡ e
+  pub heard : (r ≡ opening_report g e) ⊎ WasHeard g past r
+  pub greatest : (other : Report) → WasHeard g past other → other.entity ≡ e → other.number ≤ r.number
+
+abbrev pub ObservedIsGreatest : Type 0
+ObservedIsGreatest = (g : Group) (past : List Entry) (e : Entity) → IsGreatestHeard g past e (observed g past e)
+
+-- of two reports of one entity the one that was made later has the greater number
+abbrev pub ReportsAscend : Type 0
+ReportsAscend = (g : Group) (past : List Entry) (m n : ℕ) (o r : Report) → nth (reports g past) m ≡ Some o → nth (reports g past) n ≡ Some r → o.entity ≡ r.entity → m < n → o.number < r.number
+
+-- a command of the entity, with this stamp, was delivered
+pub record WasBegunBy (g : Group) (past : List Entry) (e : Entity) (stamp : ℕ) : Type 0 where
+  pub command : Command
+  pub told : WasTold g past command
+  pub own : command.entity ≡ e
+  pub stamped : command.stamp ≡ stamp
+
+-- a fence is 0 or the stamp of a command that was delivered to the entity, and none that was has a greater one
+pub record IsGreatestTold (g : Group) (past : List Entry) (e : Entity) (fence : ℕ) : Type 0 where
+  pub told : (fence ≡ 0) ⊎ WasBegunBy g past e fence
+  pub greatest : (command : Command) → WasTold g past command → command.entity ≡ e → command.stamp ≤ fence
+
+abbrev pub FenceIsGreatest : Type 0
+FenceIsGreatest = (g : Group) (past : List Entry) (e : Entity) → IsGreatestTold g past e (fence g past e)
+
+-- who holds a lock is who was granted it last, unless that application released it since
+abbrev pub HolderIsLastGrant : Type 0
+HolderIsLastGrant = (past : List Entry) (e : Entity) (q : Prio) (app : AppId) → (holder past e q ≡ Some app) ↔ IsLastGrant past e q app
+
+-- a reply reads its group's topology and journal alone
+abbrev pub RepliesReadOneGroup : Type 0
+RepliesReadOneGroup = (g h : Group) (past other : List Entry) (event : Event) → g ≡ h → past ≡ other → reply g past event ≡ reply h other event
+
+-- each group's journal comes of its own events alone, whatever the other groups are and are asked
+abbrev pub JournalsAreApart : Type 0
+JournalsAreApart = (groups : ℕ → Group) (events : List GroupEvent) (journals : ℕ → List Entry) (k : ℕ) → journals_by groups events journals k ≡ journal_by (groups k) (events_of k events) (journals k)
+
+-- a promise that holds goes on to hold with more entities up
+abbrev pub MoreEntitiesKeepPromises : Type 0
+MoreEntitiesKeepPromises = (g : Group) (up more : Entity → Bool) (p : Promise) → IsWithin up more → Keeps g up p → Keeps g more p
+
+-- of a sound group, the test says that the promise holds
+abbrev pub TestsTellPromises : Type 0
+TestsTellPromises = (g : Group) (up : Entity → Bool) (i : ℕ) → IsSound g → i < length g.promises → (is_kept g up (promise_of g i) ≡ true) ↔ Keeps g up (promise_of g i)
+
+-- a cut of the least value that each cut of that value contains, of a group with n devices
+pub record IsLeastSide (n : ℕ) (links : List LinkOpening) (up : Entity → Bool) (a b : ℕ) (side : ℕ → Bool) : Type 0 where
+  pub cut : IsCut side a b
+  pub least : cut_value links up side ≡ least_cut n links up a b
+  pub inmost : (other : ℕ → Bool) → IsCut other a b → cut_value links up other ≡ least_cut n links up a b → (d : ℕ) → d < n → side d ≡ true → other d ≡ true
+
+-- the devices that each cut of the least value has are such a cut
+abbrev pub LeastSideIsCut : Type 0
+LeastSideIsCut = (n : ℕ) (links : List LinkOpening) (up : Entity → Bool) (a b : ℕ) → AreLinks n links → a ≢ b → b < n → IsLeastSide n links up a b (is_in_least_side n links up a b)
+
+-- there is no other such cut
+abbrev pub LeastSideIsOne : Type 0
+LeastSideIsOne = (n : ℕ) (links : List LinkOpening) (up : Entity → Bool) (a b : ℕ) (side : ℕ → Bool) → AreLinks n links → a ≢ b → IsLeastSide n links up a b side → (d : ℕ) → d < n → side d ≡ is_in_least_side n links up a b d
+
+-- the least cut of two devices is 0 exactly where no walk joins them
+abbrev pub NoWalkIsNoCut : Type 0
+NoWalkIsNoCut = (n : ℕ) (links : List LinkOpening) (up : Entity → Bool) (a b : ℕ) → AreLinks n links → a ≢ b → (least_cut n links up a b ≡ 0) ↔ ((walk : List ℕ) → IsWalk links up a walk b → ⊥)
+
+-- 0, or more than were made
+abbrev pub IsNoNumber : ℕ → ℕ → Type 0
+IsNoNumber made n = (n ≡ 0) ⊎ (made < n)
+
+-- a number names no message where it is no number of one, and just then the event that names it is answered NoSuch
+pub record NamesNone {M : Type 0} (g : Group) (past : List Entry) (event : Event) (messages : List M) (n : ℕ) : Type 0 where
+  pub names : (nth messages n ≡ None) ↔ IsNoNumber (length messages) n
+  pub told : (reply g past event ≡ NoSuch (length messages)) ↔ (nth messages n ≡ None)
+
+abbrev pub NoSuchCommand : Type 0
+NoSuchCommand = (g : Group) (past : List Entry) (n : ℕ) → NamesNone g past (Deliver n) (commands g past) n
+
+abbrev pub NoSuchReport : Type 0
+NoSuchReport = (g : Group) (past : List Entry) (n : ℕ) → NamesNone g past (Hear n) (reports g past) n
