@@ -76,7 +76,6 @@ stamp_ways false m true n o is none = cc
 pub all_stamped : (g : Group) (m : Entity → Bool) (stamp n : ℕ) (o : Entity → ℕ) (e : Entity) → n ≡ length g.links → (is_before_link g (length g.links) e ≡ false → m e ≡ false) → (if is_before_link g n e && m e then stamp else o e) ≡ (if m e then stamp else o e)
 all_stamped g m stamp n o e count beyond = rw count (stamp_ways (is_before_link g (length g.links) e) (m e) (is_before_link g (length g.links) e) stamp (o e) refl beyond)
 
-
 -- the marks of the sure entities are the set of these
 pub sure_is : (g : Group) (observed : List Report) (stamps : List ℕ) (values : Values) (set : Marks) → length observed ≡ entity_count g → MarksShown Sure g observed stamps values set → is_in set ≡ shown_by Sure g observed stamps values
 sure_is g observed stamps values set count marked = fun_ext (λ e. marked.shown_is e ∙ all_seen g (shown_by Sure g observed stamps values) (length g.links) e refl (not_sure g observed stamps values e count))

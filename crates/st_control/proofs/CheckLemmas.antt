@@ -59,8 +59,8 @@ pub verdict_by : (k : Checker) (app : AppId) (rows : List Row) (changed : Marks)
 verdict_by k app rows changed broken none is breaks =
     ap (λ (c : Option Cause). refusal_or_version c k.target.version)
     (ap (option_map broken_cause) breaks
-     ∙ ap (λ (f : Entity → Bool). option_map broken_cause (first_broken k.group (sure_in k.group (standing_in k)) f 0 k.group.promises)) (same_without k changed rows is)
-     ∙ sym (none_first (first_lack k.group (standing_in k).observed (target_with (value_in k.target.values) rows) rows) (first_locked (standing_in k).holder app rows) _ (sym none)))
+    ∙ ap (λ (f : Entity → Bool). option_map broken_cause (first_broken k.group (sure_in k.group (standing_in k)) f 0 k.group.promises)) (same_without k changed rows is)
+    ∙ sym (none_first (first_lack k.group (standing_in k).observed (target_with (value_in k.target.values) rows) rows) (first_locked (standing_in k).holder app rows) _ (sym none)))
 
 -- the stamps after a merge
 pub stamped_is : (g : Group) (s : Marks) (target : Entity → Var → ℕ) (rows : List Row) (n : ℕ) (old new : List ℕ) → is_in s ≡ alters g target rows → stamp_in g new ≡ (λ e. if is_in s e then n else stamp_in g old e) → stamp_in g new ≡ stamp_altered g target rows n (stamp_in g old)

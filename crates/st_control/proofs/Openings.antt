@@ -57,7 +57,7 @@ push_device g n reports more r low are is pushed =
     let all : take (length g.devices) reports ≡ reports = take_all (length g.devices) reports short in
     rw pushed (record {
       devices = λ j. rw (take_all (length g.devices) (reports ++ r ∷ []) (let c = are.count in let l = length-append reports (r ∷ []) in omega (arith, c, l, low)))
-        (push_default reports r (opening_report g (Device j)) j (λ here. is ∙ ap (λ (k : ℕ). opening_report g (Device k)) (sym (here ∙ are.count))) (rw (← all) (are.devices j)));
+          (push_default reports r (opening_report g (Device j)) j (λ here. is ∙ ap (λ (k : ℕ). opening_report g (Device k)) (sym (here ∙ are.count))) (rw (← all) (are.devices j)));
       links = λ j. rw (drop_of_length-le (reports ++ r ∷ []) {i = length g.devices} (let c = are.count in let l = length-append reports (r ∷ []) in omega (arith, c, l, low))) refl;
       count = let c = are.count in let l = length-append reports (r ∷ []) in omega (arith, c, l);
     })
@@ -69,7 +69,7 @@ push_link g n reports more r are is pushed =
     rw pushed (record {
       devices = λ j. rw (take-append-le (length g.devices) reports (r ∷ []) long) (are.devices j);
       links = λ j. rw (drop-append-le (length g.devices) reports (r ∷ []) long)
-        (push_default (drop (length g.devices) reports) r (opening_report g (Link j)) j (λ here. is ∙ ap (λ (k : ℕ). opening_report g (Link k)) (sym (here ∙ behind))) (are.links j));
+          (push_default (drop (length g.devices) reports) r (opening_report g (Link j)) j (λ here. is ∙ ap (λ (k : ℕ). opening_report g (Link k)) (sym (here ∙ behind))) (are.links j));
       count = let c = are.count in let l = length-append reports (r ∷ []) in omega (arith, c, l);
     })
 

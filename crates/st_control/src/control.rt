@@ -201,12 +201,7 @@ impl Control {
     }
 
     /// The verdict on an application's rows, which alter these entities.
-    fn verdict(
-        &self,
-        app: AppId,
-        rows: &[Row],
-        changed: &EntitySet,
-    ) -> Result<Verdict, AllocError>
+    fn verdict(&self, app: AppId, rows: &[Row], changed: &EntitySet) -> Result<Verdict, AllocError>
         requires fits { RowsFit self.now.group rows.now }
         requires marks { MarksOf self.now.group changed.now }
         requires changed { is_in changed.now ≡ alters self.now.group (value_in self.now.target.values) rows.now }

@@ -40,7 +40,13 @@ fn is_shown_at(
     ensures { result ≡ shown_by shown topo.now observed.now stamps.now table.now entity }
 {
     let place = place_of(topo, entity);
-    is_shown(shown, entity, &observed[place], stamps[place], table.get(entity))
+    is_shown(
+        shown,
+        entity,
+        &observed[place],
+        stamps[place],
+        table.get(entity),
+    )
 }
 
 /// The entities of a group that are settled, or sure.

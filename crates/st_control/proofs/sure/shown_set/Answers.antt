@@ -11,17 +11,27 @@ devices-init c = (c.in_ok-set.ensures.of, λ e. rw (c.in_ok-set.ensures.none, de
 
 pub devices-preserved : goal.devices-preserved
 devices-preserved c = elim c.if-is_shown_at.branch [
-    then-is_shown_at w ↦ rw w.set-is (marks_kept c.args.topo.now c.devices.set w.put.new.self c.devices.invariant.0 w.put.ensures.same,
-      put_device c.devices.i (is_in c.devices.set) (is_in w.put.new.self) (shown_by c.args.shown c.args.topo.now c.args.observed.now c.args.stamps.now c.args.table.now) w.put.ensures.members (sym c.is_shown_at.ensures ∙ w.if-is_shown_at.true) c.devices.invariant.1)
-  | else-is_shown_at w ↦ rw w.set-is (c.devices.invariant.0,
-      skip_device c.devices.i (is_in c.devices.set) (shown_by c.args.shown c.args.topo.now c.args.observed.now c.args.stamps.now c.args.table.now) (sym c.is_shown_at.ensures ∙ w.if-is_shown_at.false) c.devices.invariant.1) ]
+  | then-is_shown_at w ↦ rw w.set-is (
+    marks_kept c.args.topo.now c.devices.set w.put.new.self c.devices.invariant.0 w.put.ensures.same,
+    put_device c.devices.i (is_in c.devices.set) (is_in w.put.new.self) (shown_by c.args.shown c.args.topo.now c.args.observed.now c.args.stamps.now c.args.table.now) w.put.ensures.members (sym c.is_shown_at.ensures ∙ w.if-is_shown_at.true) c.devices.invariant.1,
+  )
+  | else-is_shown_at w ↦ rw w.set-is (
+    c.devices.invariant.0,
+    skip_device c.devices.i (is_in c.devices.set) (shown_by c.args.shown c.args.topo.now c.args.observed.now c.args.stamps.now c.args.table.now) (sym c.is_shown_at.ensures ∙ w.if-is_shown_at.false) c.devices.invariant.1,
+  )
+]
 
 pub links-preserved : goal.links-preserved
 links-preserved c = elim c.if-is_shown_at-2.branch [
-    then-is_shown_at-2 w ↦ rw w.set-is (marks_kept c.args.topo.now c.links.set w.put-then-is_shown_at-2.new.self c.links.invariant.0 w.put-then-is_shown_at-2.ensures.same,
-      put_link c.args.topo.now c.links.i (is_in c.links.set) (is_in w.put-then-is_shown_at-2.new.self) (shown_by c.args.shown c.args.topo.now c.args.observed.now c.args.stamps.now c.args.table.now) w.put-then-is_shown_at-2.ensures.members (sym c.is_shown_at-in-links.ensures ∙ w.if-is_shown_at-2.true) c.links.invariant.1)
-  | else-is_shown_at-2 w ↦ rw w.set-is (c.links.invariant.0,
-      skip_link c.args.topo.now c.links.i (is_in c.links.set) (shown_by c.args.shown c.args.topo.now c.args.observed.now c.args.stamps.now c.args.table.now) (sym c.is_shown_at-in-links.ensures ∙ w.if-is_shown_at-2.false) c.links.invariant.1) ]
+  | then-is_shown_at-2 w ↦ rw w.set-is (
+    marks_kept c.args.topo.now c.links.set w.put-then-is_shown_at-2.new.self c.links.invariant.0 w.put-then-is_shown_at-2.ensures.same,
+    put_link c.args.topo.now c.links.i (is_in c.links.set) (is_in w.put-then-is_shown_at-2.new.self) (shown_by c.args.shown c.args.topo.now c.args.observed.now c.args.stamps.now c.args.table.now) w.put-then-is_shown_at-2.ensures.members (sym c.is_shown_at-in-links.ensures ∙ w.if-is_shown_at-2.true) c.links.invariant.1,
+  )
+  | else-is_shown_at-2 w ↦ rw w.set-is (
+    c.links.invariant.0,
+    skip_link c.args.topo.now c.links.i (is_in c.links.set) (shown_by c.args.shown c.args.topo.now c.args.observed.now c.args.stamps.now c.args.table.now) (sym c.is_shown_at-in-links.ensures ∙ w.if-is_shown_at-2.false) c.links.invariant.1,
+  )
+]
 
 pub returns : goal.returns
 returns c = record {

@@ -27,12 +27,12 @@ returns-clause-ok c =
     let same : c.index.result.now ≡ c.remove-proposal.result = c.index.ensures ∙ get_or_default c.self.inside.queue.items 0 c.index.result.now c.remove-proposal.result some ∙ sym c.remove-proposal.ensures.value in
     let judged = subst (λ (p : Proposal). IsJudgedIn c.args.self.now p c.in_ok-verdict.field-0) same c.in_ok-verdict.ensures in
     let queue : c.self.inside.queue.items ≡ c.remove-proposal.result ∷ c.remove-proposal.new.self.items =
-        first_and_rest c.self.inside.queue.items c.remove-proposal.result some
-        ∙ ap (λ (p : Proposal). p ∷ remove c.self.inside.queue.items 0) (sym c.remove-proposal.ensures.value)
-        ∙ ap (λ (rest : List Proposal). c.remove-proposal.result ∷ rest) (sym c.remove-proposal.ensures.items) in
+    first_and_rest c.self.inside.queue.items c.remove-proposal.result some
+    ∙ ap (λ (p : Proposal). p ∷ remove c.self.inside.queue.items 0) (sym c.remove-proposal.ensures.value)
+    ∙ ap (λ (rest : List Proposal). c.remove-proposal.result ∷ rest) (sym c.remove-proposal.ensures.items) in
     let merges = subst (λ (rows : List Row). MergesAccepted c.self.inside.topo c.self.inside.target c.merge_accepted.new.self c.args.entry rows c.in_ok-verdict.field-0.verdict) c.as_slice-rows.ensures c.merge_accepted.ensures in
     subst (λ (k : Checker). Moves k (record (checker_of c.self.inside) { target = c.merge_accepted.new.self; queue = c.remove-proposal.new.self.items; decided = c.self.inside.decided + 1 }) c.args.entry Check (Decided (record { ticket = c.self.inside.decided + 1; entry = c.args.entry; verdict = c.in_ok-verdict.field-0.verdict })))
-      c.self.view_is
-      (check_moves (checker_of c.self.inside) c.merge_accepted.new.self c.remove-proposal.new.self.items c.remove-proposal.result c.args.entry c.in_ok-verdict.field-0 queue
-        (subst (λ (k : Checker). IsJudgedIn k c.remove-proposal.result c.in_ok-verdict.field-0) (sym c.self.view_is) judged)
-        merges)
+    c.self.view_is
+    (check_moves (checker_of c.self.inside) c.merge_accepted.new.self c.remove-proposal.new.self.items c.remove-proposal.result c.args.entry c.in_ok-verdict.field-0 queue
+    (subst (λ (k : Checker). IsJudgedIn k c.remove-proposal.result c.in_ok-verdict.field-0) (sym c.self.view_is) judged)
+    merges)

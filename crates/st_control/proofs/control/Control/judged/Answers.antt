@@ -15,5 +15,5 @@ returns c = record {
   decision = subst (λ (rows : List Row). c.in_ok-verdict.verdict ≡ verdict_in c.args.self.now.group (standing_in c.args.self.now) c.args.proposal.now.app rows) c.as_slice-rows.ensures c.in_ok-verdict.ensures;
   marks = subst (λ (k : Checker). MarksOf k.group c.in_ok-changed.changed) c.self.view_is c.in_ok-changed.ensures.of;
   altered = subst (λ (rows : List Row). is_in c.in_ok-changed.changed ≡ alters c.args.self.now.group (value_in c.args.self.now.target.values) rows) c.as_slice-rows.ensures
-    (rw (← c.self.view_is, ← c.table.ensures) c.in_ok-changed.ensures.altered);
+      (rw (← c.self.view_is, ← c.table.ensures) c.in_ok-changed.ensures.altered);
 }
