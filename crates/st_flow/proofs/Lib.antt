@@ -1,0 +1,12 @@
+pub mod Duality
+pub mod Closed
+pub mod Turned
+pub mod Pushing
+pub mod SearchLemmas
+pub mod Running
+pub mod Side
+pub mod Meetings
+pub mod Rounds
+pub mod Rows
+pub mod Checks
+pub mod Parts

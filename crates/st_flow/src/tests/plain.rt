@@ -1,0 +1,136 @@
+//! The plain way to a least cut, to compare with: one way after another, each found by going over all links again and
+//! again until no more nodes are reached.
+use std::alloc::{AllocError, Global};
+
+/// The ends of a link, and its capacity.
+pub(crate) type Link = (u32, u32, u32);
+
+/// A link on a way, and the end that the way enters.
+#[derive(Clone, Copy)]
+struct Hop {
+    link: usize,
+    into: u32,
+}
+
+/// How much more can flow into an end of a link that carries `amount` from its first end to its second.
+fn room(link: Link, amount: i64, into: u32) -> i64 {
+    let (_, v, capacity) = link;
+    if v == into {
+        i64::from(capacity).wrapping_sub(amount)
+    } else {
+        i64::from(capacity).wrapping_add(amount)
+    }
+}
+
+/// For each node that is reached from `a` the hop that led to it, itself for `a`.
+fn hops_from(
+    alloc: Global,
+    nodes: u32,
+    links: &[Link],
+    amounts: &[i64],
+    a: u32,
+) -> Result<Vec<Option<Hop>>, AllocError> {
+    let mut hops = vec![in alloc; None; nodes as usize]?;
+    if let Some(start) = hops.as_mut_slice().get_mut(a as usize) {
+        *start = Some(Hop { link: 0, into: a });
+    }
+    for _ in 0..nodes {
+        let mut found = false;
+        for (i, link) in links.iter().enumerate() {
+            let amount = amounts.get(i).copied().unwrap_or(0);
+            for (from, into) in [(link.0, link.1), (link.1, link.0)] {
+                if is_reached(hops.as_slice(), from)
+                    && !is_reached(hops.as_slice(), into)
+                    && room(*link, amount, into) > 0
+                {
+                    if let Some(hop) = hops.as_mut_slice().get_mut(into as usize) {
+                        *hop = Some(Hop { link: i, into });
+                        found = true;
+                    }
+                }
+            }
+        }
+        if !found {
+            break;
+        }
+    }
+    Ok(hops)
+}
+
+fn is_reached(hops: &[Option<Hop>], x: u32) -> bool {
+    hops.get(x as usize).copied().flatten().is_some()
+}
+
+/// The hops of the way from `a` to `b`, the last first.
+fn way_to(
+    alloc: Global,
+    links: &[Link],
+    hops: &[Option<Hop>],
+    a: u32,
+    b: u32,
+) -> Result<Vec<Hop>, AllocError> {
+    let mut way = Vec::new(alloc);
+    let mut x = b;
+    for _ in 0..hops.len() {
+        if x == a {
+            break;
+        }
+        if let Some(hop) = hops.get(x as usize).copied().flatten() {
+            way.push(hop)?;
+            if let Some((u, v, _)) = links.get(hop.link).copied() {
+                x = if v == x { u } else { v };
+            }
+        }
+    }
+    Ok(way)
+}
+
+/// Pushes what the narrowest hop of a way has room for along it, and says how much that is.
+fn push_along(links: &[Link], amounts: &mut [i64], way: &[Hop]) -> i64 {
+    let mut more = i64::MAX;
+    for hop in way {
+        if let Some(link) = links.get(hop.link).copied() {
+            more = more.min(room(link, amounts.get(hop.link).copied().unwrap_or(0), hop.into));
+        }
+    }
+    for hop in way {
+        if let Some((_, v, _)) = links.get(hop.link).copied() {
+            if let Some(amount) = amounts.get_mut(hop.link) {
+                *amount = if v == hop.into {
+                    amount.wrapping_add(more)
+                } else {
+                    amount.wrapping_sub(more)
+                };
+            }
+        }
+    }
+    more
+}
+
+/// The value of the least cut of `a` and `b`, and the nodes that are reached from `a` once no way has room.
+pub(crate) fn least_cut_plainly(
+    alloc: Global,
+    nodes: u32,
+    links: &[Link],
+    a: u32,
+    b: u32,
+) -> Result<(i64, Vec<u32>), AllocError> {
+    let mut amounts = vec![in alloc; 0i64; links.len()]?;
+    let mut value = 0i64;
+    let mut side = Vec::new(alloc);
+    // No network of the tests has so many ways.
+    for _ in 0..1000u32 {
+        let hops = hops_from(alloc, nodes, links, amounts.as_slice(), a)?;
+        if !is_reached(hops.as_slice(), b) {
+            for x in 0..nodes {
+                if is_reached(hops.as_slice(), x) {
+                    side.push(x)?;
+                }
+            }
+            break;
+        }
+        let way = way_to(alloc, links, hops.as_slice(), a, b)?;
+        value = value.wrapping_add(push_along(links, amounts.as_mut_slice(), way.as_slice()));
+    }
+    Ok((value, side))
+}
