@@ -22,7 +22,7 @@ fn network_of(alloc: Global, work: &str) -> Result<Option<Network>, AllocError> 
     }
 }
 
-/// Does a work so often, and prints what its last time found.
+/// Does a work so often, and once at least, and prints what its last time found.
 fn repeat(rt: &impl Runtime, alloc: Global, work: &str, times: u32) -> io::Result<()> {
     let Some(network) = network_of(alloc, work)? else {
         return println!(rt; "no work is called {work}");

@@ -1,0 +1,15 @@
+mod NameLemmas
+mod PairLemmas
+mod RowLemmas
+mod GroupLemmas
+mod PromiseLemmas
+mod FirstBad
+mod OpenLemmas
+mod SoundGroups
+mod SoundSteps
+mod SoundLines
+mod SoundActs
+mod SoundDrafts
+mod SoundDocs
+mod HealthLemmas
+mod WireLemmas

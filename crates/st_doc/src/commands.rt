@@ -1,0 +1,271 @@
+//! The commands of applications, and the wire lines: what a line of each word asks for. The reader adds it.
+
+ghost use Rattle.std.specs.Prelude.{◌≡◌, ◌<◌, ◌^◌, [], length, map, All, IfOk};
+ghost use Rattle.st_text.specs.Tokens.{token_in, IsTokenOf};
+ghost use Rattle.st_doc.specs.Steps.{Gives};
+ghost use Rattle.st_doc.specs.Lines.{rows_in, values_in, group_entity_in, propose_of, await_of, settle_of, lock_of, unlock_of, read_of, readat_of, fail_of, poll_of, act_of, drop_of, repeat_of, hold_of, wire_of};
+
+use crate::assignment::{most_health, new_value_in};
+use crate::fault::{DocKind, LineError};
+use crate::group::Group;
+use crate::keyword::{CommandWord, WireWord};
+use crate::limits::MAX_ROUNDS;
+use crate::reader::Reader;
+use crate::row_set::RowSet;
+use crate::spelling::{
+    four_of, known_name_in, number_above, number_from, number_in, number_within, one_of, prio_in,
+    three_of, two_of, wire_kind_in,
+};
+use st_event::{Act, Rows};
+use st_net::{Entity, MAX_ROWS};
+use st_text::Token;
+use st_wire::WireLine;
+use std::alloc::Global;
+
+/// The rows of assignments on different variables of a group.
+#[tactic(auto, unfolding(crate::specs::Lines::rows_in))]
+fn rows_in(alloc: Global, group: &Group, line: &[u8], tokens: &[Token]) -> Result<Rows, LineError>
+    requires { All (IsTokenOf line.now) tokens.now }
+    ensures { Gives (λ rows. rows) result (rows_in group.now [] (map (token_in line.now) tokens.now)) }
+{
+    let mut set = RowSet::new(alloc);
+    for token in tokens {
+        match group.new_assignment_in(&set, &line[token.start..token.end]) {
+            Ok(row) => set.add(row)?,
+            Err(error) => return Err(error),
+        }
+    }
+    Ok(set.into_rows())
+}
+
+/// The rows of values on different variables of an entity.
+#[tactic(auto, unfolding(crate::specs::Lines::values_in))]
+fn values_in(
+    alloc: Global,
+    entity: Entity,
+    line: &[u8],
+    tokens: &[Token],
+) -> Result<Rows, LineError>
+    requires { All (IsTokenOf line.now) tokens.now }
+    ensures { Gives (λ rows. rows) result (values_in entity [] (map (token_in line.now) tokens.now)) }
+{
+    let mut set = RowSet::new(alloc);
+    for token in tokens {
+        match new_value_in(entity, &set, &line[token.start..token.end]) {
+            Ok(row) => set.add(row)?,
+            Err(error) => return Err(error),
+        }
+    }
+    Ok(set.into_rows())
+}
+
+impl Reader {
+    /// The group of a name, with the entity of a name in it.
+    #[tactic(auto, unfolding(crate::specs::Lines::group_entity_in))]
+    fn group_entity_in(&self, group: &[u8], name: &[u8]) -> Result<(u32, Entity), LineError>
+        ensures { Gives (λ e. e) result (group_entity_in self.now group.now name.now) }
+    {
+        let (place, group) = self.group_in(group)?;
+        let entity = group.entity_in(name)?;
+        Ok((place, entity))
+    }
+
+    /// The proposal that a line asks for.
+    #[tactic(auto, unfolding(crate::specs::Lines::propose_of))]
+    fn propose_of(&self, line: &[u8], tokens: &[Token]) -> Result<Act, LineError>
+        requires { All (IsTokenOf line.now) tokens.now }
+        ensures { Gives (λ act. act) result (propose_of self.now (map (token_in line.now) tokens.now)) }
+    {
+        if tokens.len() < 2 {
+            return Err(LineError::Bad(DocKind::Count));
+        }
+        let (group, parts) = self.group_in(&line[tokens[0].start..tokens[0].end])?;
+        let rows = rows_in(self.memory(), parts, line, &tokens[1..])?;
+        if rows.as_slice().len() > MAX_ROWS {
+            return Err(LineError::Bad(DocKind::Limit));
+        }
+        Ok(Act::Propose { group, rows })
+    }
+
+    #[tactic(auto, unfolding(crate::specs::Lines::await_of))]
+    fn await_of(&self, line: &[u8], tokens: &[Token]) -> Result<Act, LineError>
+        requires { All (IsTokenOf line.now) tokens.now }
+        ensures { Gives (λ act. act) result (await_of self.now (map (token_in line.now) tokens.now)) }
+    {
+        let name = one_of(line, tokens)?;
+        let group = self.group_number(name)?;
+        Ok(Act::Await { group })
+    }
+
+    #[tactic(auto, unfolding(crate::specs::Lines::settle_of))]
+    fn settle_of(&self, line: &[u8], tokens: &[Token]) -> Result<Act, LineError>
+        requires { All (IsTokenOf line.now) tokens.now }
+        ensures { Gives (λ act. act) result (settle_of self.now (map (token_in line.now) tokens.now)) }
+    {
+        let (name, rounds) = two_of(line, tokens)?;
+        let group = self.group_number(name)?;
+        let rounds = number_within(1, MAX_ROUNDS, rounds)?;
+        Ok(Act::Settle { group, rounds })
+    }
+
+    #[tactic(auto, unfolding(crate::specs::Lines::lock_of))]
+    fn lock_of(&self, line: &[u8], tokens: &[Token]) -> Result<Act, LineError>
+        requires { All (IsTokenOf line.now) tokens.now }
+        ensures { Gives (λ act. act) result (lock_of self.now (map (token_in line.now) tokens.now)) }
+    {
+        let (group, name, prio) = three_of(line, tokens)?;
+        let (group, entity) = self.group_entity_in(group, name)?;
+        let prio = prio_in(prio)?;
+        Ok(Act::Lock {
+            group,
+            entity,
+            prio,
+        })
+    }
+
+    #[tactic(auto, unfolding(crate::specs::Lines::unlock_of))]
+    fn unlock_of(&self, line: &[u8], tokens: &[Token]) -> Result<Act, LineError>
+        requires { All (IsTokenOf line.now) tokens.now }
+        ensures { Gives (λ act. act) result (unlock_of self.now (map (token_in line.now) tokens.now)) }
+    {
+        let (group, name, prio) = three_of(line, tokens)?;
+        let (group, entity) = self.group_entity_in(group, name)?;
+        let prio = prio_in(prio)?;
+        Ok(Act::Unlock {
+            group,
+            entity,
+            prio,
+        })
+    }
+
+    #[tactic(auto, unfolding(crate::specs::Lines::read_of))]
+    fn read_of(&self, line: &[u8], tokens: &[Token]) -> Result<Act, LineError>
+        requires { All (IsTokenOf line.now) tokens.now }
+        ensures { Gives (λ act. act) result (read_of self.now (map (token_in line.now) tokens.now)) }
+    {
+        let (name, variable) = two_of(line, tokens)?;
+        let (group, parts) = self.group_in(name)?;
+        let (entity, var) = parts.variable_in(variable)?;
+        Ok(Act::Read { group, entity, var })
+    }
+
+    #[tactic(auto, unfolding(crate::specs::Lines::readat_of))]
+    fn readat_of(&self, line: &[u8], tokens: &[Token]) -> Result<Act, LineError>
+        requires { All (IsTokenOf line.now) tokens.now }
+        ensures { Gives (λ act. act) result (readat_of self.now (map (token_in line.now) tokens.now)) }
+    {
+        let (name, version, variable) = three_of(line, tokens)?;
+        let (group, parts) = self.group_in(name)?;
+        let version = number_in(version)?;
+        let (entity, var) = parts.variable_in(variable)?;
+        Ok(Act::ReadAt {
+            group,
+            version,
+            entity,
+            var,
+        })
+    }
+
+    #[tactic(auto, unfolding(crate::specs::Lines::fail_of))]
+    fn fail_of(&self, line: &[u8], tokens: &[Token]) -> Result<Act, LineError>
+        requires { All (IsTokenOf line.now) tokens.now }
+        ensures { Gives (λ act. act) result (fail_of self.now (map (token_in line.now) tokens.now)) }
+    {
+        if tokens.len() < 3 {
+            return Err(LineError::Bad(DocKind::Count));
+        }
+        let (name, entity, health) = three_of(line, &tokens[..3])?;
+        let (group, entity) = self.group_entity_in(name, entity)?;
+        let health = number_within(0, most_health(entity), health)?;
+        let rows = values_in(self.memory(), entity, line, &tokens[3..])?;
+        Ok(Act::Fail {
+            group,
+            entity,
+            health,
+            rows,
+        })
+    }
+
+    #[tactic(auto, unfolding(crate::specs::Lines::poll_of))]
+    fn poll_of(&self, line: &[u8], tokens: &[Token]) -> Result<Act, LineError>
+        requires { All (IsTokenOf line.now) tokens.now }
+        ensures { Gives (λ act. act) result (poll_of self.now (map (token_in line.now) tokens.now)) }
+    {
+        let (group, name) = two_of(line, tokens)?;
+        let (group, entity) = self.group_entity_in(group, name)?;
+        Ok(Act::Poll { group, entity })
+    }
+
+    /// What a command asks for.
+    pub fn act_of(&self, word: CommandWord, line: &[u8], tokens: &[Token]) -> Result<Act, LineError>
+        requires { All (IsTokenOf line.now) tokens.now }
+        ensures { Gives (λ act. act) result (act_of self.now word (map (token_in line.now) tokens.now)) }
+    {
+        match word {
+            CommandWord::Propose => self.propose_of(line, tokens),
+            CommandWord::Await => self.await_of(line, tokens),
+            CommandWord::Settle => self.settle_of(line, tokens),
+            CommandWord::Lock => self.lock_of(line, tokens),
+            CommandWord::Unlock => self.unlock_of(line, tokens),
+            CommandWord::Read => self.read_of(line, tokens),
+            CommandWord::ReadAt => self.readat_of(line, tokens),
+            CommandWord::Fail => self.fail_of(line, tokens),
+            CommandWord::Poll => self.poll_of(line, tokens),
+        }
+    }
+
+    #[tactic(auto, unfolding(crate::specs::Lines::drop_of))]
+    fn drop_of(&self, line: &[u8], tokens: &[Token]) -> Result<(u32, WireLine), LineError>
+        requires { All (IsTokenOf line.now) tokens.now }
+        ensures { Gives (λ wire. wire) result (drop_of self.now (map (token_in line.now) tokens.now)) }
+    {
+        let (name, kind, n) = three_of(line, tokens)?;
+        let group = self.group_number(name)?;
+        let kind = wire_kind_in(kind)?;
+        let n = number_from(1, n)?;
+        Ok((group, WireLine::Drop { kind, n }))
+    }
+
+    #[tactic(auto, unfolding(crate::specs::Lines::repeat_of))]
+    fn repeat_of(&self, line: &[u8], tokens: &[Token]) -> Result<(u32, WireLine), LineError>
+        requires { All (IsTokenOf line.now) tokens.now }
+        ensures { Gives (λ wire. wire) result (repeat_of self.now (map (token_in line.now) tokens.now)) }
+    {
+        let (name, kind, n, m) = four_of(line, tokens)?;
+        let group = self.group_number(name)?;
+        let kind = wire_kind_in(kind)?;
+        let n = number_from(1, n)?;
+        let m = number_from(n, m)?;
+        Ok((group, WireLine::Repeat { kind, n, m }))
+    }
+
+    #[tactic(auto, unfolding(crate::specs::Lines::hold_of))]
+    fn hold_of(&self, line: &[u8], tokens: &[Token]) -> Result<(u32, WireLine), LineError>
+        requires { All (IsTokenOf line.now) tokens.now }
+        ensures { Gives (λ wire. wire) result (hold_of self.now (map (token_in line.now) tokens.now)) }
+    {
+        let (name, kind, n, m) = four_of(line, tokens)?;
+        let group = self.group_number(name)?;
+        let kind = wire_kind_in(kind)?;
+        let n = number_from(1, n)?;
+        let m = number_above(n, m)?;
+        Ok((group, WireLine::Hold { kind, n, m }))
+    }
+
+    /// What a wire line says, with the number of its group.
+    pub fn wire_of(
+        &self,
+        word: WireWord,
+        line: &[u8],
+        tokens: &[Token],
+    ) -> Result<(u32, WireLine), LineError>
+        requires { All (IsTokenOf line.now) tokens.now }
+        ensures { Gives (λ wire. wire) result (wire_of self.now word (map (token_in line.now) tokens.now)) }
+    {
+        match word {
+            WireWord::Drop => self.drop_of(line, tokens),
+            WireWord::Repeat => self.repeat_of(line, tokens),
+            WireWord::Hold => self.hold_of(line, tokens),
+        }
+    }
+}

@@ -1,0 +1,158 @@
+-- How a call ends, and what that says of what was read, of the journals, and of what was written.
+use Rattle.std.specs.Prelude.{◌≡◌, ℕ, ◌+◌, ◌≤◌, List, [], ◌∷◌, ◌++◌, length, reverse, Option, Some, None, Result, Ok as read_ok, Err, codes, decimal, ◌⊎◌, Bool, true, false}
+use Rattle.std.specs.Io.KnownBytes.{Consumes, Appends, Keeps, IsAtEnd}
+use Rattle.st_io.specs.declared.reading.TheConstants.{MAX_BYTES}
+use Rattle.st_io.specs.Outside.{Rose}
+use Rattle.st_io.specs.Output.{AppendsPrefix}
+use Rattle.st_net.specs.declared.parts.Parts.{Parts}
+use Rattle.st_net.specs.Faults.{group_of}
+use Rattle.st_event.specs.declared.journal.Journal.{Journal}
+use Rattle.st_event.specs.Legal.{IsLegal, AtEach}
+use Rattle.st_event.specs.Network.{KeepsPromises}
+use Rattle.st_doc.specs.declared.doc.Doc.{Doc}
+use Rattle.st_doc.specs.declared.fault.DocFault.{DocFault}
+use Rattle.st_doc.specs.declared.fault.DocKind.{DocKind}
+use Rattle.st_doc.specs.declared.fault.DocKind.TheVariants as kinds
+use Rattle.st_doc.specs.Reading.{document_of}
+use Rattle.st_top.specs.declared.answer.Status.{Status}
+use Rattle.st_top.specs.declared.answer.Status.TheVariants.{Ok, Usage, ReadFault, TooLong, BadInput, NotYet, WriteFault, OutOfMemory}
+use Rattle.st_top.specs.declared.words.Command.{Command}
+use Rattle.st_top.specs.declared.words.Command.TheVariants.{Serial, Check}
+use Rattle.st_top.specs.Words.{command_of}
+use Rattle.st_top.specs.NotYet.{is_run}
+use Rattle.st_top.specs.Serial.{serial_run}
+use Rattle.st_top.specs.Output.{report_of, check_text}
+
+abbrev pub kind_word : DocKind → List ℕ
+kind_word kinds.Header = codes "header"
+kind_word kinds.Byte = codes "byte"
+kind_word kinds.Word = codes "word"
+kind_word kinds.Count = codes "count"
+kind_word kinds.Name = codes "name"
+kind_word kinds.Unknown = codes "unknown"
+kind_word kinds.Twice = codes "twice"
+kind_word kinds.Number = codes "number"
+kind_word kinds.Value = codes "value"
+kind_word kinds.Cross = codes "cross"
+kind_word kinds.Loop = codes "loop"
+kind_word kinds.Pair = codes "pair"
+kind_word kinds.Limit = codes "limit"
+
+-- the line that tells of a fault
+abbrev pub fault_text : Status → List ℕ
+fault_text Ok = []
+fault_text Usage = codes "fault usage" ++ 10 ∷ []
+fault_text ReadFault = codes "fault read" ++ 10 ∷ []
+fault_text TooLong = codes "fault long" ++ 10 ∷ []
+fault_text (BadInput line kind) = codes "fault input line " ++ decimal line ++ 32 ∷ kind_word kind ++ 10 ∷ []
+fault_text NotYet = codes "fault notyet" ++ 10 ∷ []
+fault_text WriteFault = []
+fault_text OutOfMemory = []
+
+-- the journal of a group is legal, and at each of its moments the group's promises were kept
+pub record IsKept (parts : Parts) (journal : Journal) : Type 0 where
+  pub legal : IsLegal (group_of parts) (reverse journal.entries)
+  pub promises : AtEach (KeepsPromises (group_of parts)) (reverse journal.entries)
+
+-- each group has its journal, and it is kept
+abbrev pub AreKept : List Parts → List Journal → Type 0
+AreKept [] [] = Unit {0}
+AreKept [] (journal ∷ journals) = ⊥
+AreKept (parts ∷ more) [] = ⊥
+AreKept (parts ∷ more) (journal ∷ journals) = IsKept parts journal × AreKept more journals
+
+-- a command was carried out on a document: the journals are those of the script order, legal, and kept, and this is the text
+pub record RunsSerial (doc : Doc) (journals : List Journal) (text : List ℕ) : Type 0 where
+  pub runnable : is_run doc ≡ true
+  pub order : journals ≡ serial_run doc
+  pub kept : AreKept doc.groups journals
+  pub report : text ≡ report_of doc journals
+
+pub record Counts (doc : Doc) (journals : List Journal) (text : List ℕ) : Type 0 where
+  pub none : journals ≡ []
+  pub report : text ≡ check_text doc
+
+abbrev pub Carries : Command → Doc → List Journal → List ℕ → Type 0
+Carries Serial = RunsSerial
+Carries Check = Counts
+
+-- what a command ends with on what was read to its end
+abbrev pub EndsOn : Command → Result Doc DocFault → List Journal → List ℕ → Status → Type 0
+EndsOn command (read_ok doc) journals text Ok = Carries command doc journals text
+EndsOn command (read_ok doc) journals text NotYet = (command ≡ Serial) × (is_run doc ≡ false) × (journals ≡ []) × (text ≡ fault_text NotYet)
+EndsOn command (read_ok doc) journals text _ = ⊥
+EndsOn command (Err fault) journals text (BadInput line kind) = (fault ≡ record { line = line; kind = kind }) × (journals ≡ []) × (text ≡ fault_text (BadInput line kind))
+EndsOn command (Err fault) journals text _ = ⊥
+
+-- what a source has left, and how often it has failed
+pub record SourceState : Type 0 where
+  pub left : Option (List ℕ)
+  pub faults : ℕ
+
+-- what a sink holds, and how often it has failed
+pub record SinkState : Type 0 where
+  pub held : Option (List ℕ)
+  pub faults : ℕ
+
+-- a command with its input: these bytes were read, and this status comes of it with these journals and this text
+pub record EndsAtEnd (command : Command) (old new : SourceState) (journals : List Journal) (text : List ℕ) (status : Status) : Type 0 where
+  pub bytes : List ℕ
+  pub consumed : Consumes old.left new.left bytes
+  pub ended : IsAtEnd new.left
+  pub few : length bytes ≤ MAX_BYTES
+  pub ends : EndsOn command (document_of bytes) journals text status
+
+pub record StopsAtFault (old new : SourceState) (journals : List Journal) (text : List ℕ) : Type 0 where
+  pub bytes : List ℕ
+  pub consumed : Consumes old.left new.left bytes
+  pub few : length bytes ≤ MAX_BYTES
+  pub rose : Rose old.faults new.faults
+  pub none : journals ≡ []
+  pub told : text ≡ fault_text ReadFault
+
+pub record StopsTooLong (old new : SourceState) (journals : List Journal) (text : List ℕ) : Type 0 where
+  pub bytes : List ℕ
+  pub consumed : Consumes old.left new.left bytes
+  pub many : length bytes ≡ MAX_BYTES + 1
+  pub none : journals ≡ []
+  pub told : text ≡ fault_text TooLong
+
+-- a list of words that is no command: nothing is read
+pub record IsNoCommand (old new : SourceState) (journals : List Journal) (text : List ℕ) : Type 0 where
+  pub left : Keeps old.left new.left
+  pub faults : new.faults ≡ old.faults
+  pub none : journals ≡ []
+  pub told : text ≡ fault_text Usage
+
+-- why a status comes, of the words, of the source before and after the call, with these journals and this text. WriteFault and OutOfMemory never come so
+abbrev pub ComesOf : Option Command → SourceState → SourceState → List Journal → List ℕ → Status → Type 0
+ComesOf None old new journals text Usage = IsNoCommand old new journals text
+ComesOf None old new journals text _ = ⊥
+ComesOf (Some command) old new journals text Usage = ⊥
+ComesOf (Some command) old new journals text ReadFault = StopsAtFault old new journals text
+ComesOf (Some command) old new journals text TooLong = StopsTooLong old new journals text
+ComesOf (Some command) old new journals text WriteFault = ⊥
+ComesOf (Some command) old new journals text OutOfMemory = ⊥
+ComesOf (Some command) old new journals text status = EndsAtEnd command old new journals text status
+
+abbrev pub Comes : List (List ℕ) → SourceState → SourceState → List Journal → List ℕ → Status → Type 0
+Comes words = ComesOf (command_of words)
+
+-- a status that came for its reason, and its text was written whole
+pub record HasWritten (words : List (List ℕ)) (old new : SourceState) (before now : SinkState) (journals : List Journal) (status : Status) : Type 0 where
+  pub text : List ℕ
+  pub comes : Comes words old new journals text status
+  pub held : Appends before.held now.held text
+
+-- a status whose text was being written: the sink holds what it held and a prefix of that text
+pub record WasWriting (words : List (List ℕ)) (old new : SourceState) (before now : SinkState) (journals : List Journal) : Type 0 where
+  pub status : Status
+  pub text : List ℕ
+  pub comes : Comes words old new journals text status
+  pub held : AppendsPrefix before.held now.held text
+
+-- how a call ends, of its words, of the source before and after it, and of the sink before and after it
+abbrev pub EndsWith : List (List ℕ) → SourceState → SourceState → SinkState → SinkState → List Journal → Status → Type 0
+EndsWith words old new before now journals WriteFault = WasWriting words old new before now journals × Rose before.faults now.faults
+EndsWith words old new before now journals OutOfMemory = Keeps before.held now.held ⊎ WasWriting words old new before now journals
+EndsWith words old new before now journals status = HasWritten words old new before now journals status

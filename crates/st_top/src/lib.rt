@@ -1,0 +1,17 @@
+//! The whole call that the program makes: words and bytes in, a report and the journals out.
+#![tactic(auto)]
+
+mod answer;
+mod not_yet;
+mod output;
+mod serial;
+mod top;
+mod words;
+mod world;
+
+pub use answer::{Journals, Outcome, Status};
+pub use top::statesman;
+pub use words::Command;
+
+#[cfg(test)]
+mod tests;

@@ -1,0 +1,130 @@
+//! What the commands write: the report of a group by its world, and the line of counts that `check` writes.
+
+ghost use Rattle.std.specs.Prelude.{◌≡◌, [], ◌∷◌, ◌++◌, ◌<◌, ◌^◌, length, sum_by, OnOk, IfOk, decimal};
+ghost use Rattle.st_net.specs.Sets.{is_in, MarksOf};
+ghost use Rattle.st_event.specs.Observed.{actual};
+ghost use Rattle.st_doc.specs.Sound.{IsSoundDoc};
+ghost use Rattle.st_report.specs.GroupReport.{group_report};
+ghost use Rattle.st_top.specs.Output.{app_names as app_names_lem, check_text as check_text_lem};
+
+use crate::world::World;
+use st_doc::{Doc, Script};
+use st_net::{EntitySet, Name, Parts};
+use st_report::{Standing, group_text};
+use st_text::Text;
+use std::alloc::{AllocError, Global};
+
+/// The names of a document's applications, in order.
+pub fn app_names(alloc: Global, doc: &Doc) -> Result<Vec<Name>, AllocError>
+    ensures { IfOk result (λ names. names.items ≡ app_names_lem doc.now) }
+{
+    let apps = doc.apps.as_slice();
+    let mut names = Vec::new(alloc);
+    for script in apps {
+        names.push(script.name.copy(alloc)?)?;
+    }
+    Ok(names)
+}
+
+/// Adds the lines of a group, of which these entities carried at the opening. In a run of one thread nothing is sent and
+/// nothing fails, so they still do.
+pub fn print_group(
+    alloc: Global,
+    world: &World,
+    up: &EntitySet,
+    apps: &[Name],
+    out: &mut Text,
+) -> Result<(), AllocError>
+    requires marks { MarksOf world.now.group up.now }
+    requires up { is_in up.now ≡ actual world.now.group [] }
+    ensures { OnOk result (out.new ≡ out.old ++ group_report world.now.group apps.now world.now.past) }
+{
+    world.keeps_promises();
+    let control = world.control();
+    let topo = control.topo();
+    let settled = control.settled()?;
+    let standing = Standing {
+        target: control.table(),
+        settled: &settled,
+        start: up,
+        now: up,
+    };
+    group_text(alloc, topo, apps, world.journal(), standing, out)
+}
+
+/// Adds a space, a word, a space and a number.
+fn print_count(word: &[u8], count: u64, out: &mut Text) -> Result<(), AllocError>
+    ensures { OnOk result (out.new ≡ out.old ++ (32 ∷ word.now ++ 32 ∷ decimal count)) }
+{
+    out.word(b" ")?;
+    out.word(word)?;
+    out.word(b" ")?;
+    out.num(count)
+}
+
+/// How many devices groups have together.
+fn device_count(groups: &[Parts]) -> u64
+    requires { sum_by (λ parts. length parts.devices) groups.now < 2 ^ 64 }
+    ensures { result ≡ sum_by (λ parts. length parts.devices) groups.now }
+{
+    let mut count = 0;
+    for parts in groups {
+        count += parts.devices.as_slice().len() as u64;
+    }
+    count
+}
+
+/// How many links groups have together.
+fn link_count(groups: &[Parts]) -> u64
+    requires { sum_by (λ parts. length parts.links) groups.now < 2 ^ 64 }
+    ensures { result ≡ sum_by (λ parts. length parts.links) groups.now }
+{
+    let mut count = 0;
+    for parts in groups {
+        count += parts.links.as_slice().len() as u64;
+    }
+    count
+}
+
+/// How many promises groups have together.
+fn promise_count(groups: &[Parts]) -> u64
+    requires { sum_by (λ parts. length parts.promises) groups.now < 2 ^ 64 }
+    ensures { result ≡ sum_by (λ parts. length parts.promises) groups.now }
+{
+    let mut count = 0;
+    for parts in groups {
+        count += parts.promises.as_slice().len() as u64;
+    }
+    count
+}
+
+/// How many commands applications have together.
+fn command_count(apps: &[Script]) -> u64
+    requires { sum_by (λ script. length script.acts) apps.now < 2 ^ 64 }
+    ensures { result ≡ sum_by (λ script. length script.acts) apps.now }
+{
+    let mut count = 0;
+    for script in apps {
+        count += script.acts.as_slice().len() as u64;
+    }
+    count
+}
+
+/// The line that counts a document's parts.
+pub fn check_text(alloc: Global, doc: &Doc) -> Result<Text, AllocError>
+    requires { IsSoundDoc doc.now }
+    ensures { IfOk result (λ text. text ≡ check_text_lem doc.now) }
+{
+    let groups = doc.groups.as_slice();
+    let apps = doc.apps.as_slice();
+    let mut out = Text::new(alloc);
+    out.word(b"ok")?;
+    print_count(b"groups", groups.len() as u64, &mut out)?;
+    print_count(b"devices", device_count(groups), &mut out)?;
+    print_count(b"links", link_count(groups), &mut out)?;
+    print_count(b"promises", promise_count(groups), &mut out)?;
+    print_count(b"apps", apps.len() as u64, &mut out)?;
+    print_count(b"commands", command_count(apps), &mut out)?;
+    out.word(b"\n")?;
+    Ok(out)
+}
