@@ -14,6 +14,14 @@ const TWO_PATHS: &[u8] =
 
 const PROMISE: &[u8] = b"promise t1 t2 0\n";
 
+const HALF: &[u8] = b"promise t1 t2 50\n";
+
+const HALF_WITH_CR: &[u8] = b"promise t1 t2 50\r\n";
+
+const TO_A_SWITCH: &[u8] = b"promise t1 a1 50\n";
+
+const HEADER: &[u8] = b"statesman 1";
+
 const FIRST: &[u8] = b"app up\npropose dc1 a1.firmware=2\n";
 
 const SECOND: &[u8] = b"propose dc1 a2.firmware=2\n";
@@ -28,6 +36,7 @@ const UNPROMISED: &[u8] =
     b"statesman report 1\ngroup dc1\nversion 1\nentries 2\nreceipt 1 up accepted 1\ntarget a1.firmware=2\nunsettled a1\nwire commands 0 reports 0 stale 0 old 0\npromises 0 start 0 now 0\nend\n";
 
 /// How a call ended, and what it wrote.
+#[derive(Drop)]
 struct Called {
     outcome: Outcome,
     text: Vec<u8>,
@@ -131,7 +140,7 @@ fn a_proposal_that_would_cut_off_a_pair_is_refused(rt: HostRuntime) -> Result<()
 #[test]
 fn a_document_without_a_group_has_an_empty_report(rt: HostRuntime) -> Result<(), Fail> {
     let alloc = rt.alloc();
-    let called = call(alloc, &["serial"], &[b"statesman 1"])?;
+    let called = call(alloc, &["serial"], &[HEADER])?;
     ends_as(
         &rt,
         alloc,
@@ -146,11 +155,7 @@ fn a_document_without_a_group_has_an_empty_report(rt: HostRuntime) -> Result<(),
 #[test]
 fn parts_are_counted(rt: HostRuntime) -> Result<(), Fail> {
     let alloc = rt.alloc();
-    let called = call(
-        alloc,
-        &["check"],
-        &[TWO_PATHS, b"promise t1 t2 50\r\n", FIRST],
-    )?;
+    let called = call(alloc, &["check"], &[TWO_PATHS, HALF_WITH_CR, FIRST])?;
     let line = b"ok groups 1 devices 4 links 4 promises 1 apps 1 commands 1\n";
     ends_as(&rt, alloc, &called, Status::Ok, line, &[])?;
     Ok(())
@@ -159,11 +164,7 @@ fn parts_are_counted(rt: HostRuntime) -> Result<(), Fail> {
 #[test]
 fn a_share_above_0_is_not_yet_run(rt: HostRuntime) -> Result<(), Fail> {
     let alloc = rt.alloc();
-    let called = call(
-        alloc,
-        &["serial"],
-        &[TWO_PATHS, b"promise t1 t2 50\n", FIRST],
-    )?;
+    let called = call(alloc, &["serial"], &[TWO_PATHS, HALF, FIRST])?;
     ends_as(&rt, alloc, &called, Status::NotYet, b"fault notyet\n", &[])?;
     Ok(())
 }
@@ -184,7 +185,7 @@ fn bad_input_is_told_by_its_line(rt: HostRuntime) -> Result<(), Fail> {
         b"fault input line 1 header\n",
         &[],
     )?;
-    let called = call(alloc, &["serial"], &[TWO_PATHS, b"promise t1 a1 50\n"])?;
+    let called = call(alloc, &["serial"], &[TWO_PATHS, TO_A_SWITCH])?;
     let pair = Status::BadInput {
         line: 11,
         kind: DocKind::Pair,
