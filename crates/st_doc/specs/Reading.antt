@@ -1,5 +1,5 @@
 -- What a document declares, or its first bad line and that line's kind.
-use Rattle.std.specs.Prelude.{◌≡◌, ℕ, ◌+◌, List, [], ◌∷◌, ◌++◌, reverse, map, ◌⊎◌, if◌then◌else◌, Result, Ok, Err, None, length, true, false}
+use Rattle.std.specs.Prelude.{◌≡◌, ℕ, ◌+◌, List, [], ◌∷◌, ◌++◌, reverse, map, ◌⊎◌, if◌then◌else◌, Result, Ok, Err, Option, Some, None, length, true, false}
 use Rattle.st_text.specs.Lines.{lines_of}
 use Rattle.st_doc.specs.declared.fault.DocKind.{DocKind}
 use Rattle.st_doc.specs.declared.fault.DocKind.TheVariants as kinds
@@ -7,8 +7,6 @@ use Rattle.st_doc.specs.declared.fault.DocFault.{DocFault}
 use Rattle.st_doc.specs.declared.doc.Doc.{Doc}
 use Rattle.st_doc.specs.declared.doc.DocRead.{DocRead}
 use Rattle.st_doc.specs.declared.doc.DocRead.TheVariants as reads
-use Rattle.st_doc.specs.declared.reading.Read.{Read}
-use Rattle.st_doc.specs.declared.reading.Read.TheVariants as drafts
 use Rattle.st_doc.specs.Draft.{Draft, nothing, groups_of, apps_of, parts_of}
 use Rattle.st_doc.specs.Lines.{line_of}
 use Rattle.st_doc.specs.Steps.{◌>>=◌}
@@ -33,19 +31,23 @@ abbrev pub read_on : Draft → ℕ → List (List ℕ) → Result Draft DocFault
 read_on d n [] = if d.begun then Ok d else Err (record { line = n; kind = kinds.Header })
 read_on d n (line ∷ lines) = on_line n (line_of d line) >>= λ next. read_on next (n + 1) lines
 
+-- the document of what was declared, or the fault
+abbrev pub doc_from : Result Draft DocFault → Result Doc DocFault
+doc_from read = read >>= λ d. Ok (doc_of d)
+
 -- the document that the bytes declare, or their fault
 abbrev pub document_of : List ℕ → Result Doc DocFault
-document_of bytes = read_on nothing 1 (lines_of bytes) >>= λ d. Ok (doc_of d)
+document_of bytes = doc_from (read_on nothing 1 (lines_of bytes))
 
 -- what was read is the document, or the fault
 abbrev pub Reads : DocRead → Result Doc DocFault → Type 0
 Reads (reads.Doc doc) read = read ≡ Ok doc
 Reads (reads.Fault fault) read = read ≡ Err fault
 
--- the lines that were read are the draft, or the fault
-abbrev pub ReadsDraft : Read → Result Draft DocFault → Type 0
-ReadsDraft (drafts.Lines d) read = read ≡ Ok d
-ReadsDraft (drafts.Fault fault) read = read ≡ Err fault
+-- reading ended with this draft, or with a fault
+abbrev pub Ends : Option DocFault → Draft → Result Draft DocFault → Type 0
+Ends None d read = read ≡ Ok d
+Ends (Some fault) d read = read ≡ Err fault
 
 -- these lines, one after another, declare d: each is good over what those before it declare. The newest stands first
 abbrev pub Declares : List (List ℕ) → Draft → Type 0

@@ -1,16 +1,15 @@
 //! Documents are read here: the bytes are cut into lines, the reader takes them one after another, and the first bad one
 //! ends the reading.
 
-ghost use Rattle.std.specs.Prelude.{◌≡◌, ◌<◌, length, IfOk, false};
-ghost use Rattle.st_text.specs.Lines.{lines_of};
-ghost use Rattle.st_doc.specs.Reading.{document_of, read_on, Reads, ReadsDraft, Tells};
-ghost use Rattle.st_doc.specs.Draft.{nothing};
+ghost use Rattle.std.specs.Prelude.{◌≡◌, ◌<◌, All, length, map, IfOk, MatchOption, Ok, Err, false};
+ghost use Rattle.st_text.specs.Lines.{lines_of, line_in, IsLineWithin};
+ghost use Rattle.st_doc.specs.Reading.{document_of, doc_from, doc_of, read_on, Reads, Ends, Tells};
 ghost use Rattle.st_doc.specs.Sound.{IsSoundRead};
 
 use crate::doc::DocRead;
 use crate::fault::{DocFault, DocKind, LineError};
 use crate::reader::Reader;
-use st_text::lines;
+use st_text::{Line, lines};
 use std::alloc::{AllocError, Global};
 
 /// Reads a document, or names its first bad line and that line's kind. Takes time and memory in the bytes, and `Err` is for
@@ -34,43 +33,59 @@ fn read_text(alloc: Global, bytes: &[u8]) -> Result<DocRead, AllocError>
     requires { length bytes.now < 4294967295 }
     ensures { IfOk result (λ read. Reads read (document_of bytes.now)) }
 {
-    match read_lines(alloc, bytes)? {
-        Read::Lines(reader) => Ok(DocRead::Doc(reader.finish()?)),
-        Read::Fault(fault) => Ok(DocRead::Fault(fault)),
+    let places = lines(alloc, bytes)?;
+    read_at(Reader::new(alloc), bytes, places.as_slice())
+}
+
+/// Reads the lines at these places over what was declared.
+fn read_at(mut reader: Reader, bytes: &[u8], places: &[Line]) -> Result<DocRead, AllocError>
+    requires within { All (IsLineWithin bytes.now) places.now }
+    requires few { length places.now < 4294967295 }
+    ensures { IfOk result (λ read. Reads read (doc_from (read_on reader 1 (map (line_in bytes.now) places.now)))) }
+{
+    match read_lines(&mut reader, bytes, places) {
+        Ok(end) => ended(reader, end),
+        Err(error) => Err(error),
     }
 }
 
-/// What the lines declare, or the first bad one.
-#[derive(Drop)]
-pub enum Read {
-    Lines(Reader),
-    Fault(DocFault),
+/// The document that was declared, or the fault with which its reading ended.
+fn ended(reader: Reader, end: Option<DocFault>) -> Result<DocRead, AllocError>
+    ensures { IfOk result (λ read. MatchOption end (Reads read (Ok (doc_of reader))) (λ fault. Reads read (Err fault))) }
+{
+    match end {
+        Some(fault) => Ok(DocRead::Fault(fault)),
+        None => Ok(DocRead::Doc(reader.finish()?)),
+    }
 }
 
-/// Reads all lines.
-fn read_lines(alloc: Global, bytes: &[u8]) -> Result<Read, AllocError>
-    requires { length bytes.now < 4294967295 }
-    ensures { IfOk result (λ read. ReadsDraft read (read_on nothing 1 (lines_of bytes.now))) }
+/// Takes the lines at these places, one after another, up to the first bad one. The header is missing behind the last.
+fn read_lines(
+    reader: &mut Reader,
+    bytes: &[u8],
+    places: &[Line],
+) -> Result<Option<DocFault>, AllocError>
+    requires within { All (IsLineWithin bytes.now) places.now }
+    requires few { length places.now < 4294967295 }
+    ensures { IfOk result (λ fault. Ends fault reader.new (read_on reader.old 1 (map (line_in bytes.now) places.now))) }
 {
-    let places = lines(alloc, bytes)?;
-    let mut reader = Reader::new(alloc);
     for (n, place) in places.iter().enumerate() {
         match reader.line(&bytes[place.start..place.end]) {
             Ok(()) => {}
             Err(LineError::Memory) => return Err(AllocError),
             Err(LineError::Bad(kind)) => {
-                return Ok(Read::Fault(DocFault {
+                return Ok(Some(DocFault {
                     line: n as u32 + 1,
                     kind,
                 }));
             }
         }
     }
-    if !reader.has_begun() {
-        return Ok(Read::Fault(DocFault {
-            line: places.len() as u32 + 1,
-            kind: DocKind::Header,
-        }));
+    if reader.has_begun() {
+        return Ok(None);
     }
-    Ok(Read::Lines(reader))
+    Ok(Some(DocFault {
+        line: places.len() as u32 + 1,
+        kind: DocKind::Header,
+    }))
 }

@@ -1,9 +1,8 @@
 use Rattle.std.proofs.Common.{◌≡◌, ◌+◌, drop, map}
-use Rattle.st_text.specs.Lines.{line_in, lines_of}
-use Rattle.st_doc.specs.Draft.{nothing}
+use Rattle.st_text.specs.Lines.{line_in}
 use Rattle.st_doc.specs.Reading.{read_on}
 use Rattle.st_doc.proofs.reading.read_lines.Given as goal
 
 -- what is left, over what was declared, gives what all gives
 abbrev pub invariant-loop-n : goal.invariant-loop-n
-invariant-loop-n l = read_on l.reader (l.n + 1) (map (line_in l.bytes) (drop l.n l.place-items)) ≡ read_on nothing 1 (lines_of l.bytes)
+invariant-loop-n l = read_on l.reader (l.n + 1) (map (line_in l.bytes) (drop l.n l.places)) ≡ read_on l.fn.reader 1 (map (line_in l.bytes) l.places)
