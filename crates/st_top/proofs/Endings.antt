@@ -128,8 +128,8 @@ ends_written words old new before now ending outcome comes writing =
     subst (λ (js : List Journal). EndsWith words old new before now js outcome.status) (sym writing.journals_are) with_status
 
 -- where memory was refused before anything was written the sink is as it was
-pub ends_unwritten : (words : List (List ℕ)) (old new : SourceState) (sink : SinkState) (journals : List Journal) → EndsWith words old new sink sink journals OutOfMemory
-ends_unwritten words old new sink journals = inl (stays sink.held)
+pub ends_unwritten : (words : List (List ℕ)) (old new : SourceState) (sink : SinkState) → EndsWith words old new sink sink [] OutOfMemory
+ends_unwritten words old new sink = inl (record { held = stays sink.held; none = refl })
 
 rises : (before now : ℕ) → now ≡ before → before < 2 ^ 64 - 1 → Rose before now → ⊥
 rises before now same low rose = omega arith

@@ -151,8 +151,18 @@ pub record WasWriting (words : List (List ℕ)) (old new : SourceState) (before 
   pub comes : Comes words old new journals text status
   pub held : AppendsPrefix before.held now.held text
 
+-- memory was refused before anything was written: the sink holds what it held, and there is no journal
+pub record WasRefused (before now : SinkState) (journals : List Journal) : Type 0 where
+  pub held : Keeps before.held now.held
+  pub none : journals ≡ []
+
+-- nothing was read
+pub record IsUnread (old new : SourceState) : Type 0 where
+  pub left : Keeps old.left new.left
+  pub faults : new.faults ≡ old.faults
+
 -- how a call ends, of its words, of the source before and after it, and of the sink before and after it
 abbrev pub EndsWith : List (List ℕ) → SourceState → SourceState → SinkState → SinkState → List Journal → Status → Type 0
 EndsWith words old new before now journals WriteFault = WasWriting words old new before now journals × Rose before.faults now.faults
-EndsWith words old new before now journals OutOfMemory = Keeps before.held now.held ⊎ WasWriting words old new before now journals
+EndsWith words old new before now journals OutOfMemory = WasRefused before now journals ⊎ WasWriting words old new before now journals
 EndsWith words old new before now journals status = HasWritten words old new before now journals status

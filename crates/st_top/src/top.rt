@@ -1,6 +1,6 @@
 //! The whole call: all that is to be written is decided first, and then it is written once.
 
-ghost use Rattle.std.specs.Prelude.{◌≡◌, ◌≢◌, ◌≤◌, ◌<◌, ◌-◌, ◌^◌, [], ◌∷◌, Ok as read_ok, Some, length, map, string_bytes, true, IfOk};
+ghost use Rattle.std.specs.Prelude.{◌≡◌, ◌≢◌, ◌≤◌, ◌<◌, ◌-◌, ◌^◌, [], ◌∷◌, Ok as read_ok, Some, None, length, map, string_bytes, true, IfOk};
 ghost use Rattle.st_net.specs.Faults.{group_of};
 ghost use Rattle.st_io.specs.declared.reading.TheConstants.{MAX_BYTES};
 ghost use Rattle.st_doc.specs.Reading.{document_of};
@@ -8,7 +8,7 @@ ghost use Rattle.st_doc.specs.Sound.{IsSoundGroup, IsSoundDoc};
 ghost use Rattle.st_top.specs.declared.words.Command.TheVariants.{Serial as serial_command, Check as check_command};
 ghost use Rattle.st_top.specs.Words.{command_of as command_of_lem};
 ghost use Rattle.st_top.specs.NotYet.{is_run as is_run_lem};
-ghost use Rattle.st_top.specs.Answer.{EndsWith};
+ghost use Rattle.st_top.specs.Answer.{EndsWith, IsUnread};
 ghost use Rattle.st_top.specs.Ending.{TellsFault, IsEndOn, IsCalledFor, RunsGroups, WritesEnding, told as told_lem};
 
 use crate::answer::{Journals, Outcome, Status, fault_text};
@@ -188,6 +188,9 @@ fn prepare<S: Source>(alloc: Global, words: &[String], source: &mut S) -> Result
         (record { left = S.left source.old; faults = S.faults source.old })
         (record { left = S.left source.new; faults = S.faults source.new })) }
     ensures later { S.faults source.old ≤ S.faults source.new }
+    ensures idle { command_of_lem (map string_bytes words.now) ≡ None → IsUnread
+        (record { left = S.left source.old; faults = S.faults source.old })
+        (record { left = S.left source.new; faults = S.faults source.new }) }
 {
     match command_of(words) {
         Some(command) => command_ending(alloc, command, source),
@@ -234,6 +237,11 @@ pub fn statesman<S: Source, K: Sink>(
         (record { held = K.held sink.old; faults = K.faults sink.old })
         (record { held = K.held sink.new; faults = K.faults sink.new })
         result.journals result.status }
+
+    // Where the words are no command nothing is read, whatever the status.
+    ensures idle { command_of_lem (map string_bytes words.now) ≡ None → IsUnread
+        (record { left = S.left source.old; faults = S.faults source.old })
+        (record { left = S.left source.new; faults = S.faults source.new }) }
 
     // Neither count of faults falls.
     ensures source_later { S.faults source.old ≤ S.faults source.new }

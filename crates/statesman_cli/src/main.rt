@@ -6,6 +6,7 @@ use st_io::{StdSink, StdSource};
 use st_top::{Status, statesman};
 use std::alloc::AllocGlobal;
 use std::env::Env;
+use std::io::ErrorKind;
 use std::process::ExitCode;
 use std::{env, io};
 
@@ -19,13 +20,16 @@ fn words(rt: &(impl Env + AllocGlobal)) -> io::Result<Vec<String>> {
 }
 
 fn main(rt: HostRuntime) -> ExitCode {
-    let status = match words(&rt) {
-        Ok(words) => {
-            let mut source = StdSource::new(rt.stdin());
-            let mut sink = StdSink::new(rt.stdout());
-            statesman(rt.alloc(), words.as_slice(), &mut source, &mut sink).status
+    let words = match words(&rt) {
+        Ok(words) => words,
+        Err(error) if error.kind() == ErrorKind::OutOfMemory => {
+            return ExitCode::from(Status::OutOfMemory.exit_code());
         }
-        Err(_) => Status::OutOfMemory,
+        // A word that is not text is no word of a command: then there are none.
+        Err(_) => Vec::new(rt.alloc()),
     };
-    ExitCode::from(status.exit_code())
+    let mut source = StdSource::new(rt.stdin());
+    let mut sink = StdSink::new(rt.stdout());
+    let outcome = statesman(rt.alloc(), words.as_slice(), &mut source, &mut sink);
+    ExitCode::from(outcome.status.exit_code())
 }
