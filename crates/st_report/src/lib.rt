@@ -17,6 +17,3 @@ pub use locks::lock_lines;
 pub use promises::promise_lines;
 pub use receipts::receipt_lines;
 pub use state::{target_lines, unsettled_lines};
-
-#[cfg(test)]
-mod tests;
