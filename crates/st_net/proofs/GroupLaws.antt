@@ -1,13 +1,12 @@
 -- The laws of sound groups, from those of lists of links.
-use Rattle.std.proofs.Common.{◌≡◌, ◌≢◌, ℕ, zero, suc, ◌<◌, ◌≤◌, List, [], ◌∷◌, length, refl, sym, ◌∙◌, arith}
+use Rattle.std.proofs.Common.{◌≡◌, ℕ, zero, suc, ◌<◌, List, [], ◌∷◌, length, refl, sym, arith}
 use Rattle.std.specs.Prelude.{Bool, true, false, slice_index_or}
-use Rattle.st_net.specs.declared.entity.Entity.{Entity}
 use Rattle.st_net.specs.declared.promise.Promise.{Promise}
 use Rattle.st_net.specs.declared.topo.DeviceOpening.{DeviceOpening}
 use Rattle.st_net.specs.Groups.{Group, promise_of, no_promise, IsPromiseAmong, ArePromises, IsSound}
-use Rattle.st_net.specs.Cuts.{IsCut, cut_value, least_cut, is_in_least_side}
+use Rattle.st_net.specs.Cuts.{is_in_least_side}
 use Rattle.st_net.specs.Promises.{need_of}
-use Rattle.st_net.specs.Laws.{KeepsWithMore, TellsKept, HasLeastCuts, WalksWhereCut, IsLeastCut, TellsLeastSide, HasOneLeastSide}
+use Rattle.st_net.specs.Laws.{KeepsWithMore, TellsKept, HasLeastCuts, WalksWhereCut, TellsLeastSide, HasOneLeastSide}
 use Rattle.st_net.proofs.CutLaws.{Holds-more}
 use Rattle.st_net.proofs.WalkLaws.{least_cut-below, least_cut-attained, least_cut-joins, walk-least_cut, is_held-holds, holds-is_held}
 use Rattle.st_net.proofs.SideLaws.{least_side-within, least_side-has}

@@ -124,44 +124,13 @@ impl Vals {
     pub fn with(self, entity: Entity, var: Var, value: u32) -> Vals
         ensures { result ≡ value_set entity self var value }
     {
-        let Vals { v0, v1, v2, v3 } = self;
         match (entity, var) {
-            (Entity::Device(_), Var::Power) => Vals {
-                v0: value,
-                v1,
-                v2,
-                v3,
-            },
-            (Entity::Device(_), Var::Firmware) => Vals {
-                v0,
-                v1: value,
-                v2,
-                v3,
-            },
-            (Entity::Device(_), Var::Config) => Vals {
-                v0,
-                v1,
-                v2: value,
-                v3,
-            },
-            (Entity::Device(_), Var::Routing) => Vals {
-                v0,
-                v1,
-                v2,
-                v3: value,
-            },
-            (Entity::Link(_), Var::LinkPower) => Vals {
-                v0: value,
-                v1,
-                v2,
-                v3,
-            },
-            (Entity::Link(_), Var::Iface) => Vals {
-                v0,
-                v1: value,
-                v2,
-                v3,
-            },
+            (Entity::Device(_), Var::Power) => Vals { v0: value, ..self },
+            (Entity::Device(_), Var::Firmware) => Vals { v1: value, ..self },
+            (Entity::Device(_), Var::Config) => Vals { v2: value, ..self },
+            (Entity::Device(_), Var::Routing) => Vals { v3: value, ..self },
+            (Entity::Link(_), Var::LinkPower) => Vals { v0: value, ..self },
+            (Entity::Link(_), Var::Iface) => Vals { v1: value, ..self },
             _ => self,
         }
     }

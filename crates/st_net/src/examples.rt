@@ -1,4 +1,4 @@
-//! Names, a small group and its faults, worked by hand.
+//! Names, worked by hand.
 use crate::*;
 use std::alloc::Global;
 use std::test::Fail;
