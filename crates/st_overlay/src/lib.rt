@@ -1,5 +1,5 @@
-//! The values of a group in a table, and rows set in it: the last writer wins. A table opens by a topology of `st_net`, and
-//! the checker, the versions and the published target keep one each.
+//! The values of a group in a table, and rows set in it: the last writer wins. A table opens by a topology of `st_net`, and a
+//! group's target is one.
 #![tactic(auto)]
 
 mod changes;

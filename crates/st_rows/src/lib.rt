@@ -1,5 +1,5 @@
 //! Whether rows can be set and who may set them: the dependency model and the locks, over a group's kept reports, its target and
-//! its lock table. The checker asks it first of each proposal, and the updater of the row that an entity waits for.
+//! its lock table. The checker asks it first of each proposal.
 #![tactic(auto)]
 
 mod controllable;

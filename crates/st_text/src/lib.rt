@@ -1,6 +1,6 @@
 //! The lowest layer of every text that is read or written: where its lines and the tokens of a line stand, which bytes
 //! a line may hold, numbers, and a text that is printed piece by piece. It takes bytes and gives places and values; the
-//! readers and printers of documents, journals and reports stand on it.
+//! crates that read and print texts stand on it.
 #![tactic(auto)]
 
 mod allowed;

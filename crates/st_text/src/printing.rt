@@ -1,5 +1,4 @@
-//! A text that is printed piece by piece. The printers of documents, journals and reports fill one, and its bytes are then
-//! written out, or read again by `lines` and `tokens`.
+//! A text that is printed piece by piece: its lines are added word by word, and its bytes are then written out.
 
 ghost use Rattle.std.specs.Prelude.{◌≡◌, ◌++◌, [], OnOk, OnErr, decimal};
 

@@ -1,5 +1,5 @@
-//! Laws on what is printed and read again. Each function does nothing: its contract is the law, for the proofs of the
-//! crates that print a text and claim that it reads as what was printed.
+//! Laws on what is printed and read again. Each function does nothing: its contract is the law, for proofs that a text
+//! reads as what was printed.
 
 ghost use Rattle.st_text.specs.ReadingBack.{CutsLinesAgain, CutsTokensAgain, ReadsNumbersAgain, ReadsPrintedAlone, PrintsNumbersAsWords, CutsWordLinesAgain, CutsWordsAgain, AllowsWords};
 
