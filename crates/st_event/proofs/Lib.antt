@@ -22,3 +22,4 @@ pub mod Unfolding
 pub mod InmostCut
 pub mod Ascending
 pub mod Unnamed
+pub mod Versions

@@ -108,7 +108,7 @@ breaks kind need has = Refused (broken_cause (record { promise = 0; kind = kind;
 need_is_half_of_twenty : need_of q (promise_of q 0) ≡ 10
 need_is_half_of_twenty = refl
 
--- the second switch may not change while the first does: a printed journal
+-- the second switch may not change while the first does
 second_switch_waits : replies q (propose up a1 Firmware 2 ∷ propose up a2 Firmware 2 ∷ Check ∷ Check ∷ []) ≡
     Queued 1 ∷ Queued 2 ∷ decided 1 3 (Accepted 1) ∷ decided 2 4 (breaks CutOff 10 0) ∷ []
 second_switch_waits = refl
@@ -277,7 +277,7 @@ turn = Send a1 ∷ Deliver 1 ∷ Finish a1 ∷ make_report a1 ∷ Hear 1 ∷ []
 abbrev unreported : List Event
 unreported = dead ∷ drain ∷ Check ∷ turn
 
--- a failure that was not reported: a printed journal
+-- a failure that was not reported
 untold_failure : replies q unreported ≡ Changed ∷ Queued 1 ∷ decided 1 3 (Accepted 1) ∷ Sent 1 ∷ Begun ∷ Done ∷ Reported 1 ∷ Taken ∷ []
 untold_failure = refl
 

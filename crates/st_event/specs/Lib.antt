@@ -12,6 +12,7 @@ pub mod Facts
 pub mod Agents
 pub mod Heard
 pub mod Standing
+pub mod Versions
 pub mod History
 pub mod Grants
 pub mod Services

@@ -39,7 +39,7 @@ pub record Standing : Type 0 where
   pub stamp : Entity → ℕ
   pub observed : Entity → Report
 
--- what the simulated network is
+-- what the network has: the messages that were made, and the agents
 pub record Wires : Type 0 where
   pub commands : List Command
   pub reports : List Report

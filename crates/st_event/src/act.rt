@@ -1,9 +1,10 @@
 //! What an application's script asks for, and what its log saw.
 
-ghost use Rattle.std.specs.Prelude.{◌≡◌};
+ghost use Rattle.std.specs.Prelude.{◌≡◌, [], ◌∷◌, ◌++◌, OnOk, OnErr};
 
 use crate::rows::Rows;
 use st_net::{AppId, Entity, Prio, Var};
+use std::alloc::{AllocError, Global};
 use std::marker::Model;
 
 /// One command of a script. Groups are named by their numbers from 0 in the order of the document.
@@ -35,7 +36,7 @@ pub enum Act {
         entity: Entity,
         prio: Prio,
     },
-    /// Log a variable's value in the published target.
+    /// Log a variable's value in the target.
     Read {
         group: u32,
         entity: Entity,
@@ -65,7 +66,7 @@ pub enum Act {
 /// What a command that reads saw.
 #[derive(Clone, Copy, Debug, PartialEq, Eq)]
 pub enum LogSaw {
-    /// The published target has this version, and the variable this value.
+    /// The target has this version, and the variable this value.
     Seen { version: u32, value: u32 },
     /// At the version that was asked for the variable has this value.
     At { version: u32, value: u32 },
@@ -110,6 +111,24 @@ impl LogEntries {
         ensures { result ≡ entries.items }
     {
         LogEntries { entries }
+    }
+
+    /// No line.
+    pub fn none(alloc: Global) -> LogEntries
+        ensures { result ≡ [] }
+    {
+        LogEntries {
+            entries: Vec::new(alloc),
+        }
+    }
+
+    /// Adds a line at the end. At `Err` nothing has changed.
+    pub fn add(&mut self, entry: LogEntry) -> Result<(), AllocError>
+        ensures ok { OnOk result (self.new ≡ self.old ++ entry ∷ []) }
+        ensures err { OnErr result (self.new ≡ self.old) }
+    {
+        self.entries.push(entry)?;
+        Ok(())
     }
 
     /// The lines, in order.

@@ -29,7 +29,7 @@ pub enum Event {
         entity: Entity,
         prio: Prio,
     },
-    /// The updater commands an entity to take its target's values.
+    /// An entity is to take its target's values: a command is sent to its agent.
     Send {
         entity: Entity,
     },
@@ -45,7 +45,7 @@ pub enum Event {
     Report {
         entity: Entity,
     },
-    /// A report that was made, by its number from 1, reaches the monitor.
+    /// A report that was made, by its number from 1, is heard by the checker.
     Hear {
         report: u32,
     },
