@@ -1,6 +1,6 @@
 -- A part with one health set: its name and its kind stay.
-use Rattle.std.proofs.Common.{◌≡◌, ℕ, zero, suc, ◌+◌, ◌<◌, ◌≤◌, List, [], ◌∷◌, ◌++◌, length, map, get_or, set, ap, sym, ◌∙◌, subst, refl, arith}
-use Rattle.std.specs.Prelude.{Bool, true, false, cond}
+use Rattle.std.proofs.Common.{◌≡◌, ℕ, zero, suc, ◌<◌, List, [], ◌∷◌, ◌++◌, length, get_or, set, ap, sym, ◌∙◌, subst, refl, arith}
+use Rattle.std.specs.Prelude.{Bool, true, false}
 use Rattle.std.specs.List.{AllByRecursion}
 use Rattle.st_net.specs.declared.entity.Entity.{Entity}
 use Rattle.st_net.specs.declared.entity.Entity.TheVariants.{Device, Link}
@@ -10,7 +10,7 @@ use Rattle.st_net.specs.declared.parts.PromisePart.{PromisePart}
 use Rattle.st_net.specs.Faults.{device_names, link_names}
 use Rattle.st_doc.specs.declared.pairs.Pair.{Pair}
 use Rattle.st_doc.specs.Draft.{GroupDraft, IsEntityIn, with_health, tors, device_told, link_told}
-use Rattle.st_doc.specs.GroupInside.{HasIndexes, HasPairs, HasKnownEnds, pair_by}
+use Rattle.st_doc.specs.GroupInside.{HasIndexes, HasPairs, HasKnownEnds}
 
 pub device_health_set : (ds : List DevicePart) (i : ℕ) (d : DevicePart) (h : ℕ) → d ≡ get_or ds i d → i < length ds → set ds i (record d { health = h }) ≡ device_told ds i h
 device_health_set [] i d h is less = absurd (omega arith)

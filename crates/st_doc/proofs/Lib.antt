@@ -13,3 +13,14 @@ mod SoundDrafts
 mod SoundDocs
 mod HealthLemmas
 mod WireLemmas
+mod SoundParts
+mod PrintSteps
+mod PrintedTokens
+mod PrintedParts
+mod PrintedOpenings
+mod PrintedHealths
+mod PrintedGroups
+mod PrintedWires
+mod PrintedActs
+pub mod PrintedDocs
+mod TextLemmas

@@ -1,5 +1,5 @@
 -- Names that are declared are spelled as names.
-use Rattle.std.proofs.Common.{◌≡◌, ℕ, suc, List, [], ◌∷◌, ◌++◌, Bool, true, false, cond, ◌&&◌, Option, Some, None, OnSome, option_map, is_some, bytes_eq, subst, sym, refl}
+use Rattle.std.proofs.Common.{◌≡◌, ℕ, suc, List, [], ◌∷◌, ◌++◌, Bool, true, false, cond, Option, Some, None, OnSome, option_map, is_some, bytes_eq, subst, sym, refl}
 use Rattle.std.proofs.lemmas.Slice.Eq.{bytes_eq-Decides}
 use Rattle.st_net.proofs.Tests.{both}
 use Rattle.st_net.specs.Names.{place_of, is_name}

@@ -1,6 +1,6 @@
 -- A part with one opening value set: its name and its kind stay.
-use Rattle.std.proofs.Common.{◌≡◌, ℕ, zero, suc, ◌+◌, ◌<◌, ◌≤◌, List, [], ◌∷◌, ◌++◌, length, map, get_or, set, ap, sym, ◌∙◌, subst, refl, arith}
-use Rattle.std.specs.Prelude.{Bool, true, false, cond}
+use Rattle.std.proofs.Common.{◌≡◌, ℕ, zero, suc, ◌<◌, List, [], ◌∷◌, length, get_or, set, ap, sym, ◌∙◌, subst, refl, arith}
+use Rattle.std.specs.Prelude.{Bool, true, false}
 use Rattle.std.specs.List.{AllByRecursion}
 use Rattle.st_net.specs.declared.entity.Var.{Var}
 use Rattle.st_net.specs.declared.entity.Vals.{Vals}
@@ -9,12 +9,11 @@ use Rattle.st_net.specs.declared.entity.Entity.TheVariants.{Device, Link}
 use Rattle.st_net.specs.declared.parts.DevicePart.{DevicePart}
 use Rattle.st_net.specs.declared.parts.LinkPart.{LinkPart}
 use Rattle.st_net.specs.declared.parts.PromisePart.{PromisePart}
-use Rattle.st_net.specs.declared.topo.TheConstants.{MAX_DEVICES, MAX_LINKS}
 use Rattle.st_net.specs.Entities.{device_value_set, link_value_set, value_set}
 use Rattle.st_net.specs.Faults.{device_names, link_names}
 use Rattle.st_doc.specs.declared.pairs.Pair.{Pair}
 use Rattle.st_doc.specs.Draft.{GroupDraft, IsEntityIn, opened, tors, device_opened, link_opened}
-use Rattle.st_doc.specs.GroupInside.{HasIndexes, HasPairs, HasKnownEnds, pair_by}
+use Rattle.st_doc.specs.GroupInside.{HasIndexes, HasPairs, HasKnownEnds}
 
 pub device_set : (ds : List DevicePart) (i : ℕ) (d : DevicePart) (v : Var) (x : ℕ) → d ≡ get_or ds i d → i < length ds → set ds i (record d { vals = device_value_set d.vals v x }) ≡ device_opened ds i v x
 device_set [] i d v x is less = absurd (omega arith)

@@ -1,14 +1,14 @@
 -- The promised pairs, by the places of their devices.
-use Rattle.std.proofs.Common.{◌≡◌, ℕ, zero, suc, List, [], ◌∷◌, ◌++◌, map, ap, sym, ◌∙◌, subst, refl, arith, inl, inr}
+use Rattle.std.proofs.Common.{◌≡◌, ℕ, suc, List, [], ◌∷◌, ◌++◌, map, ap, sym, ◌∙◌, subst, refl, arith, inl, inr}
 use Rattle.std.specs.Prelude.{Bool, true, false, cond, ◌&&◌, ◌||◌, ◌==◌, ◌⊎◌, Option, Some, None, option_map, is_some, unwrap_or, bytes_eq}
 use Rattle.std.specs.List.{AllByRecursion}
-use Rattle.std.proofs.lemmas.List.{map_push, map-append}
+use Rattle.std.proofs.lemmas.List.{map_push}
 use Rattle.std.proofs.lemmas.Slice.Eq.{bytes_eq-Decides}
 use Rattle.st_net.proofs.Tests.{equal_self, equal_numbers}
 use Rattle.st_net.specs.declared.parts.DevicePart.{DevicePart}
 use Rattle.st_net.specs.declared.parts.PromisePart.{PromisePart}
 use Rattle.st_net.specs.Names.{place_of, is_among}
-use Rattle.st_net.specs.Faults.{device_names, number_of, is_on_names, was_promised}
+use Rattle.st_net.specs.Faults.{device_names, number_of, was_promised}
 use Rattle.st_doc.specs.declared.pairs.Pair.{Pair}
 use Rattle.st_doc.specs.Places.{has_pair, pair_of}
 use Rattle.st_doc.specs.GroupInside.{pair_by, HasKnownEnds, HasPairs}

@@ -1,5 +1,5 @@
 -- Whether a variable is set, by the index of variables.
-use Rattle.std.proofs.Common.{◌≡◌, ℕ, List, [], ◌∷◌, ◌++◌, map, refl, arith, ap, ◌∙◌}
+use Rattle.std.proofs.Common.{◌≡◌, ℕ, List, [], ◌∷◌, ◌++◌, map, refl, arith, ◌∙◌}
 use Rattle.std.specs.Prelude.{Bool, true, false, not, ◌&&◌, ◌||◌, ◌==◌}
 use Rattle.std.specs.List.{AllByRecursion}
 use Rattle.std.proofs.lemmas.List.{map_push}
@@ -13,7 +13,7 @@ use Rattle.st_net.specs.declared.entity.Row.{Row}
 use Rattle.st_net.specs.Entities.{place_of, is_same_entity, is_same_var}
 use Rattle.st_net.specs.Ranges.{is_in_range, is_free_of}
 use Rattle.st_doc.specs.declared.pairs.Pair.{Pair}
-use Rattle.st_doc.specs.Places.{has_pair, pair_of}
+use Rattle.st_doc.specs.Places.{has_pair}
 use Rattle.st_doc.specs.Draft.{number_of}
 use Rattle.st_doc.specs.RowsInside.{variable_of, IsInRange, HasVariables}
 

@@ -1,13 +1,13 @@
 -- What a good line of an application says of its command.
 use Rattle.std.proofs.Common.{◌≡◌, ℕ, zero, suc, ◌+◌, ◌<◌, ◌≤◌, List, [], ◌∷◌, ◌++◌, length, map, ap, sym, ◌∙◌, subst, refl, arith}
-use Rattle.std.specs.Prelude.{Bool, true, false, not, cond, if◌then◌else◌, ◌&&◌, ◌||◌, ◌==◌, nat_le, nat_lt, Option, Some, None, option_map, is_some, slice_get, Result, Ok, Err, ok_or, All, bytes_eq, codes, ◌^◌}
+use Rattle.std.specs.Prelude.{Bool, true, false, not, cond, ◌&&◌, ◌==◌, nat_le, Option, Some, None, slice_get, Ok, ok_or, bytes_eq, codes}
 use Rattle.std.specs.Option.{IsSomeAnd}
 use Rattle.std.specs.List.{AllByRecursion}
 use Rattle.std.proofs.lemmas.Bool.{leb-true}
 use Rattle.std.proofs.lemmas.Bool.Decides.{nat_tests}
-use Rattle.std.proofs.lemmas.List.{length-map, length_push, append_assoc}
+use Rattle.std.proofs.lemmas.List.{length-map, length_push}
 use Rattle.std.proofs.lemmas.List.Elements.{All-from_recursion}
-use Rattle.st_net.proofs.Tests.{both, turned, less_is}
+use Rattle.st_net.proofs.Tests.{both}
 use Rattle.st_net.specs.declared.entity.Entity.{Entity}
 use Rattle.st_net.specs.declared.entity.Entity.TheVariants.{Device, Link}
 use Rattle.st_net.specs.declared.entity.Var.{Var}
@@ -30,7 +30,6 @@ use Rattle.st_doc.specs.declared.keyword.CommandWord.{CommandWord}
 use Rattle.st_doc.specs.declared.keyword.CommandWord.TheVariants as command_words
 use Rattle.st_doc.specs.declared.keyword.WireWord.{WireWord}
 use Rattle.st_doc.specs.declared.keyword.WireWord.TheVariants as wire_words
-use Rattle.st_doc.specs.Steps.{◌>>=◌}
 use Rattle.st_doc.specs.Draft.{GroupDraft, Draft, IsEntityIn, MaySet, groups_of, group_names, parts_of}
 use Rattle.st_doc.specs.Places.{cut_at}
 use Rattle.st_doc.specs.Spelling.{name_in, known_name_in, new_assignment_in, entity_in, number_in, number_within, number_from, number_above, prio_in, wire_kind_in, var_named, var_in, assigned_in, variable_by, variable_in, dotted_variable_in, undotted_variable_in, new_value_in, most_health}
@@ -49,16 +48,16 @@ pub row_fits : (g : GroupDraft) (set : List Row) (row : Row) → MaySet g set ro
 row_fits g set row s = record { entity = entity_of g row.entity s.entity; range = s.range }
 
 -- one more row on another variable
-flipped : (m n : ℕ) → (m == n) ≡ (n == m)
+pub flipped : (m n : ℕ) → (m == n) ≡ (n == m)
 flipped m n = grind (arith, nat_tests)
 
-same_flipped : (e f : Entity) → is_same_entity e f ≡ is_same_entity f e
+pub same_flipped : (e f : Entity) → is_same_entity e f ≡ is_same_entity f e
 same_flipped (Device i) (Device j) = flipped i j
 same_flipped (Link i) (Link j) = flipped i j
 same_flipped (Device i) (Link j) = refl
 same_flipped (Link i) (Device j) = refl
 
-free_last : (e : Entity) (v : Var) (rows : List Row) (row : Row) → is_free_of e v rows ≡ true → not (is_same_entity row.entity e && is_same_var row.var v) ≡ true → is_free_of e v (rows ++ row ∷ []) ≡ true
+pub free_last : (e : Entity) (v : Var) (rows : List Row) (row : Row) → is_free_of e v rows ≡ true → not (is_same_entity row.entity e && is_same_var row.var v) ≡ true → is_free_of e v (rows ++ row ∷ []) ≡ true
 free_last e v [] row free apart = rw apart refl
 free_last e v (r ∷ rows) row free apart =
     let parts = both (not (is_same_entity r.entity e && is_same_var r.var v)) (is_free_of e v rows) free in

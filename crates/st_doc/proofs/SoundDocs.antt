@@ -1,22 +1,19 @@
 -- A document that is read is sound.
-use Rattle.std.proofs.Common.{◌≡◌, ℕ, ◌+◌, ◌<◌, ◌≤◌, List, [], ◌∷◌, ◌++◌, length, map, ap, sym, ◌∙◌, subst, refl, arith}
-use Rattle.std.specs.Prelude.{Bool, true, false, cond, Result, Ok, Err, All}
+use Rattle.std.proofs.Common.{◌≡◌, ℕ, ◌+◌, ◌<◌, List, [], ◌∷◌, length, map, ap, subst, refl}
+use Rattle.std.specs.Prelude.{Result, Ok, Err}
 use Rattle.std.specs.List.{AllByRecursion}
 use Rattle.std.proofs.lemmas.List.{length-map}
 use Rattle.std.proofs.lemmas.List.Elements.{All-from_recursion}
 use Rattle.st_text.specs.Lines.{lines_of}
 use Rattle.st_net.specs.declared.parts.Parts.{Parts}
 use Rattle.st_net.specs.declared.parts.LinkPart.{LinkPart}
-use Rattle.st_net.specs.Groups.{are_new}
 use Rattle.st_net.specs.Faults.{device_names}
 use Rattle.st_doc.specs.declared.fault.DocKind.{DocKind}
 use Rattle.st_doc.specs.declared.fault.DocKind.TheVariants as kinds
-use Rattle.st_doc.specs.declared.fault.DocFault.{DocFault}
 use Rattle.st_doc.specs.declared.doc.Doc.{Doc}
 use Rattle.st_doc.specs.declared.doc.Script.{Script}
 use Rattle.st_doc.specs.declared.doc.DocRead.{DocRead}
 use Rattle.st_doc.specs.declared.doc.DocRead.TheVariants as reads
-use Rattle.st_doc.specs.Steps.{◌>>=◌}
 use Rattle.st_doc.specs.Draft.{GroupDraft, Draft, nothing, groups_of, apps_of, parts_of}
 use Rattle.st_doc.specs.Lines.{line_of}
 use Rattle.st_doc.specs.Reading.{on_line, read_on, doc_of, document_of, Reads}
@@ -37,7 +34,8 @@ read_good (line ∷ lines) n d last s e =
     let step = came_from (on_line n (line_of d line)) (λ next. read_on next (n + 1) lines) last e in
     read_good lines (n + 1) step.0 last (line_good d step.0 line (line_was n (line_of d line) step.0 step.1) s) step.2
 
-names_of : (gs : List GroupDraft) → map (λ (g : Parts). g.name) (map parts_of gs) ≡ map (λ (g : GroupDraft). g.name) gs
+-- the names of groups are those of their parts
+pub names_of : (gs : List GroupDraft) → map (λ (g : Parts). g.name) (map parts_of gs) ≡ map (λ (g : GroupDraft). g.name) gs
 names_of [] = refl
 names_of (g ∷ gs) = ap (λ (ns : List (List ℕ)). g.name ∷ ns) (names_of gs)
 
@@ -46,6 +44,9 @@ own_ends names l s = record { a = s.a_own; b = s.b_own }
 
 group_good : (g : GroupDraft) → IsSoundDraftGroup g → IsSoundGroup (parts_of g)
 group_good g s = record {
+  name = s.spelled;
+  named_devices = s.spelled_devices;
+  named_links = s.spelled_links;
   built = can_be_built g s;
   ends = All-from_recursion HasOwnEnds g.links (each (IsSoundLink (device_names g.devices)) HasOwnEnds (own_ends (device_names g.devices)) g.links s.links);
 }
@@ -59,7 +60,7 @@ wires_good [] all = tt
 wires_good (g ∷ gs) all = (record { few = all.0.few_wires; each = All-from_recursion IsSoundWire g.wires all.0.wires }, wires_good gs all.1)
 
 script_good : (groups : List Parts) (app : Script) → HasSoundActs groups app → IsSoundScript groups app
-script_good groups app s = record { few = s.few; acts = All-from_recursion (IsSoundAct groups) app.acts s.acts }
+script_good groups app s = record { name = s.name; few = s.few; acts = All-from_recursion (IsSoundAct groups) app.acts s.acts }
 
 doc_good : (d : Draft) → IsSoundDraft d → IsSoundDoc (doc_of d)
 doc_good d s =

@@ -1,16 +1,14 @@
 -- What the lines of a document keep: what they declare is sound.
 use Rattle.std.proofs.Common.{◌≡◌, ℕ, zero, suc, ◌+◌, ◌<◌, ◌≤◌, List, [], ◌∷◌, ◌++◌, length, map, ap, sym, ◌∙◌, subst, refl, arith}
-use Rattle.std.specs.Prelude.{Bool, true, false, not, cond, if◌then◌else◌, ◌&&◌, ◌||◌, nat_le, nat_lt, Option, Some, None, is_some, option_to_list, option_map, slice_get, Result, Ok, Err, ok_or, All}
+use Rattle.std.specs.Prelude.{Bool, true, false, cond, nat_le, nat_lt, Option, Some, None, option_to_list, option_map, slice_get, Result, Ok, ok_or}
 use Rattle.std.specs.List.{AllByRecursion}
-use Rattle.std.proofs.lemmas.List.{length-map, length_push, append_assoc, append-nil, length-append, map_push, map-append}
-use Rattle.std.proofs.lemmas.List.Elements.{All-from_recursion}
-use Rattle.std.proofs.lemmas.Bool.{leb-true}
+use Rattle.std.proofs.lemmas.List.{length-map, length_push, length-append, map_push, map-append}
 use Rattle.std.proofs.lemmas.Bool.Decides.{nat_tests}
 use Rattle.st_net.proofs.Tests.{both, less_is}
 use Rattle.st_text.specs.AllowedBytes.{has_allowed_bytes}
 use Rattle.st_text.specs.Tokens.{tokens_of}
 use Rattle.st_net.specs.declared.parts.Parts.{Parts}
-use Rattle.st_net.specs.Names.{place_of, is_among}
+use Rattle.st_net.specs.Names.{place_of, is_among, is_name}
 use Rattle.st_net.specs.Groups.{are_new}
 use Rattle.st_event.specs.declared.act.Act.{Act}
 use Rattle.st_wire.specs.declared.line.WireLine.{WireLine}
@@ -20,18 +18,18 @@ use Rattle.st_doc.specs.declared.keyword.Keyword.{Keyword}
 use Rattle.st_doc.specs.declared.keyword.Keyword.TheVariants as keywords
 use Rattle.st_doc.specs.declared.limits.TheConstants.{MAX_GROUPS, MAX_APPS, MAX_ACTS, MAX_WIRE_LINES}
 use Rattle.st_doc.specs.declared.doc.Script.{Script}
-use Rattle.st_doc.specs.Steps.{◌>>=◌}
 use Rattle.st_doc.specs.Draft.{GroupDraft, Draft, nothing, empty_group, empty_script, groups_of, apps_of, group_names, app_names, parts_of, with_wire, wired}
 use Rattle.st_doc.specs.Spelling.{name_in, new_name_in, known_name_in}
 use Rattle.st_doc.specs.Lines.{one_of, some_of, begun_name, group_line, app_line, known_names_in, order_line, phase_of, has_section, is_allowed, into_group, part_line, wire_of, wire_count_of, wire_count, with_wire_line, wire_line, with_act, act_added, act_line, act_of, declared_by, keyword_of, phased_line, keyword_line, is_header, header_line, is_comment, tokens_line, line_of}
-use Rattle.st_doc.specs.Sound.{IsSoundAct, IsSoundScript, IsSoundWire}
+use Rattle.st_doc.specs.Sound.{IsSoundAct, IsSoundWire}
 use Rattle.st_doc.proofs.SoundGroups.{IsSoundDraftGroup, each}
 use Rattle.st_doc.proofs.SoundSteps.{pushed_all, begun_sound, new_last, wire_sound}
-use Rattle.st_doc.proofs.SoundLines.{came_from, chose, chosen, refused, was_some, IsNewName, new_name, MakesSound, part_good, place_below}
+use Rattle.st_doc.proofs.SoundLines.{came_from, chose, chosen, was_some, new_name, MakesSound, part_good, place_below}
 use Rattle.st_doc.proofs.SoundActs.{command_good, wire_read}
 
--- the commands of an application, each sound
+-- the name of an application, and its commands, each sound
 pub record HasSoundActs (groups : List Parts) (app : Script) : Type 0 where
+  pub name : is_name app.name ≡ true
   pub few : length app.acts ≤ MAX_ACTS
   pub acts : AllByRecursion (IsSoundAct groups) app.acts
 
@@ -101,6 +99,7 @@ group_changed d next line good early e s =
 
 -- a new section's name
 record IsNewSection (names : List (List ℕ)) (most : ℕ) (name : List ℕ) : Type 0 where
+  spelled : is_name name ≡ true
   fresh : is_among name names ≡ false
   room : nat_lt (length names) most ≡ true
 
@@ -111,7 +110,7 @@ section_begun names most args name e =
     let named = came_from (new_name_in (is_among word.0 names) word.0) _ name word.2 in
     let room = chose (nat_lt (length names) most) named.0 name kinds.Limit named.2 in
     let new = new_name (is_among word.0 names) word.0 named.0 named.1 in
-    subst (IsNewSection names most) room.1 (record { fresh = ap (λ (n : List ℕ). is_among n names) new.same ∙ new.fresh; room = room.0 })
+    subst (IsNewSection names most) room.1 (record { spelled = new.spelled; fresh = ap (λ (n : List ℕ). is_among n names) new.same ∙ new.fresh; room = room.0 })
 
 group_begun : (d next : Draft) (args : List (List ℕ)) → IsEarly d → group_line d args ≡ Ok next → IsSoundDraft d → Grows d next
 unfolding group_line
@@ -125,7 +124,7 @@ group_begun d next args early e s =
       apps = refl;
       order = refl;
       sound = record {
-        groups = pushed_all IsSoundDraftGroup (groups_of d) (empty_group name.0) s.groups (begun_sound name.0);
+        groups = pushed_all IsSoundDraftGroup (groups_of d) (empty_group name.0) s.groups (begun_sound name.0 new.spelled);
         few_groups = rw (length_push (groups_of d) (empty_group name.0)) (omega arith);
         group_names = rw (map_push (λ (g : GroupDraft). g.name) (groups_of d) (empty_group name.0)) (new_last (group_names d) name.0 s.group_names new.fresh);
         apps = rw early.apps tt;
@@ -151,7 +150,7 @@ app_begun d next args e s =
       groups = s.groups;
       few_groups = s.few_groups;
       group_names = s.group_names;
-      apps = pushed_all (HasSoundActs (map parts_of (groups_of d))) (apps_of d) (empty_script name.0) s.apps (record { few = omega arith; acts = tt });
+      apps = pushed_all (HasSoundActs (map parts_of (groups_of d))) (apps_of d) (empty_script name.0) s.apps (record { name = new.spelled; few = omega arith; acts = tt });
       few_apps = rw longer (omega arith);
       app_names = rw (map_push (λ (a : Script). a.name) (apps_of d) (empty_script name.0)) (new_last (app_names d) name.0 s.app_names new.fresh);
       order = order_wider (length (apps_of d)) (length (apps_of d ++ empty_script name.0 ∷ [])) d.order (omega arith) s.order;
@@ -174,6 +173,7 @@ act_good d next act e sound s =
       few_groups = s.few_groups;
       group_names = s.group_names;
       apps = pushed_all (HasSoundActs (map parts_of (groups_of d))) d.apps (with_act app.0 act) front.0 (record {
+        name = front.1.name;
         few = rw (length_push app.0.acts act) (omega arith);
         acts = pushed_all (IsSoundAct (map parts_of (groups_of d))) app.0.acts act front.1.acts sound;
       });

@@ -1,17 +1,17 @@
 -- What every group that lines declare keeps, and that such a group can be built.
-use Rattle.std.proofs.Common.{◌≡◌, ℕ, zero, suc, ◌+◌, ◌<◌, ◌≤◌, List, [], ◌∷◌, ◌++◌, length, map, ap, sym, ◌∙◌, subst, refl, arith}
-use Rattle.std.specs.Prelude.{Bool, true, false, not, cond, if◌then◌else◌, ◌&&◌, ◌||◌, ◌==◌, nat_le, nat_lt, Option, Some, None, option_map, is_some, unwrap_or, slice_get, bytes_eq}
+use Rattle.std.proofs.Common.{◌≡◌, ℕ, ◌+◌, ◌<◌, ◌≤◌, List, [], ◌∷◌, ◌++◌, length, ap, refl, arith}
+use Rattle.std.specs.Prelude.{Bool, true, false, not, ◌&&◌, nat_le, Option, Some, None, is_some, unwrap_or, slice_get, bytes_eq}
 use Rattle.std.specs.List.{AllByRecursion}
 use Rattle.std.proofs.lemmas.Bool.Decides.{nat_tests}
-use Rattle.st_net.proofs.Tests.{both, neither, turned}
+use Rattle.st_net.proofs.Tests.{both, turned}
 use Rattle.st_net.specs.declared.parts.DevicePart.{DevicePart}
 use Rattle.st_net.specs.declared.parts.LinkPart.{LinkPart}
 use Rattle.st_net.specs.declared.parts.PromisePart.{PromisePart}
 use Rattle.st_net.specs.declared.parts.TopoFault.{TopoFault}
 use Rattle.st_net.specs.declared.topo.TheConstants.{MAX_DEVICES, MAX_TORS, MAX_LINKS, MAX_PROMISES, MAX_CAPACITY, MAX_PERCENT}
-use Rattle.st_net.specs.Names.{place_of, is_among}
-use Rattle.st_net.specs.Groups.{are_new, are_device_vals, are_link_vals}
-use Rattle.st_net.specs.Faults.{device_names, link_names, first_twice, first_link, first_promise, has_unknown_end, has_unknown_tor, is_loop, is_cross, device_limit, link_limit, promise_limit, limit_or, tors_with, first_device_limit, first_link_limit, first_promise_limit, is_tor, is_tor_name, is_bad_pair, was_promised, first_bad_pair, fault_of}
+use Rattle.st_net.specs.Names.{place_of, is_among, is_name}
+use Rattle.st_net.specs.Groups.{are_new, are_names, are_device_vals, are_link_vals}
+use Rattle.st_net.specs.Faults.{device_names, link_names, first_twice, first_link, first_promise, has_unknown_end, has_unknown_tor, is_loop, is_cross, device_limit, limit_or, tors_with, first_device_limit, first_link_limit, first_promise_limit, is_tor, is_tor_name, was_promised, first_bad_pair, fault_of}
 use Rattle.st_doc.specs.declared.limits.TheConstants.{MAX_WIRE_LINES}
 use Rattle.st_doc.specs.Draft.{GroupDraft, tors, parts_of}
 use Rattle.st_doc.specs.Sound.{IsSoundWire}
@@ -42,6 +42,9 @@ AreOtherPairs before [] = Unit {0}
 AreOtherPairs before (p ∷ ps) = (was_promised p.a p.b before ≡ false) × AreOtherPairs (before ++ p ∷ []) ps
 
 pub record IsSoundDraftGroup (g : GroupDraft) : Type 0 where
+  pub spelled : is_name g.name ≡ true
+  pub spelled_devices : are_names (device_names g.devices) ≡ true
+  pub spelled_links : are_names (link_names g.links) ≡ true
   pub named : are_new [] (device_names g.devices ++ link_names g.links) ≡ true
   pub few_devices : length g.devices ≤ MAX_DEVICES
   pub few_tors : length (tors g.devices) ≤ MAX_TORS

@@ -1,35 +1,32 @@
 -- What a line that is good says of what it declares.
-use Rattle.std.proofs.Common.{◌≡◌, ℕ, zero, suc, ◌+◌, ◌<◌, ◌≤◌, List, [], ◌∷◌, ◌++◌, length, map, ap, sym, ◌∙◌, subst, refl, arith}
-use Rattle.std.specs.Prelude.{Bool, true, false, not, cond, if◌then◌else◌, ◌&&◌, ◌||◌, ◌==◌, nat_le, nat_lt, Option, Some, None, option_map, is_some, unwrap_or, slice_get, bytes_eq, Result, Ok, Err, ok_or, All, ◌^◌}
-use Rattle.std.specs.List.{AllByRecursion}
+use Rattle.std.proofs.Common.{◌≡◌, ℕ, suc, ◌<◌, ◌≤◌, List, [], ◌∷◌, ◌++◌, length, ap, sym, ◌∙◌, subst, refl, arith}
+use Rattle.std.specs.Prelude.{Bool, true, false, not, cond, ◌&&◌, nat_le, nat_lt, Option, Some, None, option_map, bytes_eq, Result, Ok, Err, ok_or, ◌^◌}
 use Rattle.std.specs.Str.{all_ascii_digits}
 use Rattle.std.specs.Str.Parse.{digits_value}
 use Rattle.std.proofs.lemmas.Bool.{leb-true}
 use Rattle.st_text.specs.Numbers.{number_of, is_number, has_leading_zero}
-use Rattle.st_net.proofs.Tests.{both, neither, turned, less_is}
+use Rattle.st_net.proofs.Tests.{both, less_is}
 use Rattle.st_net.specs.declared.parts.DevicePart.{DevicePart}
 use Rattle.st_net.specs.declared.parts.LinkPart.{LinkPart}
-use Rattle.st_net.specs.declared.parts.PromisePart.{PromisePart}
 use Rattle.st_net.specs.declared.entity.Row.{Row}
 use Rattle.st_net.specs.declared.entity.Var.{Var}
 use Rattle.st_net.specs.declared.entity.Entity.{Entity}
 use Rattle.st_net.specs.declared.entity.Entity.TheVariants.{Device, Link}
 use Rattle.st_net.specs.Groups.{entity_or}
 use Rattle.std.proofs.lemmas.List.{length-map}
-use Rattle.st_net.specs.declared.topo.TheConstants.{MAX_DEVICES, MAX_TORS, MAX_LINKS, MAX_PROMISES, MAX_CAPACITY, MAX_PERCENT}
+use Rattle.st_net.specs.declared.topo.TheConstants.{MAX_LINKS, MAX_PROMISES, MAX_CAPACITY, MAX_PERCENT}
 use Rattle.st_net.specs.Names.{is_name, place_of, is_among}
 use Rattle.st_net.specs.Ranges.{is_in_range, is_free_of}
 use Rattle.st_net.specs.Faults.{device_names, link_names, is_bad_pair}
-use Rattle.st_doc.specs.declared.fault.DocKind.{DocKind}
 use Rattle.st_doc.specs.declared.fault.DocKind.TheVariants as kinds
 use Rattle.st_doc.specs.declared.keyword.PartWord.{PartWord}
 use Rattle.st_doc.specs.declared.keyword.PartWord.TheVariants as part_words
 use Rattle.st_doc.specs.Steps.{◌>>=◌}
 use Rattle.st_doc.specs.Places.{cut_at}
-use Rattle.st_doc.specs.Draft.{GroupDraft, Draft, is_entity_name, empty_group, with_device, with_link, with_promise, with_open, opened, with_health, IsEntityIn, MaySet, group_names, app_names, tors}
-use Rattle.st_doc.specs.Spelling.{name_in, new_name_in, known_name_in, device_in, number_within, number_in, is_tor_word, cross_end_in, end_by, end_in, entity_named, entity_in, var_in, set_in, unset_in, assigned_by, dotted_in, undotted_in, assignment_by, assignment_in, new_assignment_in, untold_in, most_health, number_from, number_above}
-use Rattle.st_doc.specs.Lines.{one_of, two_of, three_of, four_of, has_device_room, new_device, device_of, device_line, new_link, link_of, link_line, new_promise, promise_of, promise_line, open_of, open_line, health_of, health_line, part_line, begun_name}
-use Rattle.st_doc.proofs.SoundGroups.{IsSoundDevice, IsSoundLink, IsSoundPromise, IsSoundDraftGroup}
+use Rattle.st_doc.specs.Draft.{GroupDraft, is_entity_name, with_device, with_link, with_promise, with_open, opened, with_health, IsEntityIn, MaySet}
+use Rattle.st_doc.specs.Spelling.{name_in, new_name_in, device_in, number_within, number_in, is_tor_word, cross_end_in, end_by, end_in, entity_named, entity_in, var_in, set_in, unset_in, assigned_by, dotted_in, undotted_in, assignment_by, assignment_in, new_assignment_in, untold_in, most_health, number_from, number_above}
+use Rattle.st_doc.specs.Lines.{one_of, two_of, three_of, four_of, has_device_room, new_device, device_of, device_line, new_link, link_of, link_line, new_promise, promise_of, promise_line, open_of, open_line, health_of, health_line, part_line}
+use Rattle.st_doc.proofs.SoundGroups.{IsSoundDraftGroup}
 use Rattle.st_doc.proofs.SoundSteps.{device_sound, link_sound, promise_sound, opened_sound, health_sound}
 
 -- a step that came to a value came from one
@@ -134,7 +131,7 @@ device_good g h args e s =
     let room = chose (has_device_room g kind.0) (new_device named.0 kind.0) line.0 kinds.Limit kind.2 in
     let name = new_name (is_entity_name g words.0.0) words.0.0 named.0 named.1 in
     let made : with_device g (new_device named.0 kind.0) ≡ h = cc in
-    subst (MakesSound g) made (record { sound = device_sound g (new_device named.0 kind.0) s (ap (is_entity_name g) name.same ∙ name.fresh) room.0 (record { vals = refl; health = refl }); name = refl })
+    subst (MakesSound g) made (record { sound = device_sound g (new_device named.0 kind.0) s name.spelled (ap (is_entity_name g) name.same ∙ name.fresh) room.0 (record { vals = refl; health = refl }); name = refl })
 
 pub link_good : (g h : GroupDraft) (args : List (List ℕ)) → link_line g args ≡ Ok h → IsSoundDraftGroup g → MakesSound g h
 unfolding link_line link_of
@@ -150,7 +147,7 @@ link_good g h args e s =
     let name = new_name (is_entity_name g words.0.0) words.0.0 named.0 named.1 in
     let made : with_link g (new_link named.0 a.0 b.0 capacity.0) ≡ h = cc in
     subst (MakesSound g) made (record {
-      sound = link_sound g (new_link named.0 a.0 b.0 capacity.0) s (ap (is_entity_name g) name.same ∙ name.fresh) room.0 (record {
+      sound = link_sound g (new_link named.0 a.0 b.0 capacity.0) s name.spelled (ap (is_entity_name g) name.same ∙ name.fresh) room.0 (record {
         a_own = refl;
         b_own = refl;
         a_known = end_known g words.0.1 a.0 (cut_at 47 words.0.1) a.1;
@@ -251,7 +248,7 @@ open_good g h args is s =
     let word = came_from (one_of args) _ line.0 line.1 in
     let row = new_row_fits g g.opens word.0 line.0 word.2 in
     let made : with_open g line.0 ≡ h = cc in
-    let set : IsSoundDraftGroup (record g { opens = g.opens ++ line.0 ∷ [] }) = record { named = s.named; few_devices = s.few_devices; few_tors = s.few_tors; few_links = s.few_links; few_promises = s.few_promises; devices = s.devices; links = s.links; promises = s.promises; pairs = s.pairs; few_wires = s.few_wires; wires = s.wires } in
+    let set : IsSoundDraftGroup (record g { opens = g.opens ++ line.0 ∷ [] }) = record { spelled = s.spelled; spelled_devices = s.spelled_devices; spelled_links = s.spelled_links; named = s.named; few_devices = s.few_devices; few_tors = s.few_tors; few_links = s.few_links; few_promises = s.few_promises; devices = s.devices; links = s.links; promises = s.promises; pairs = s.pairs; few_wires = s.few_wires; wires = s.wires } in
     subst (MakesSound g) made (record {
       sound = opened_sound (record g { opens = g.opens ++ line.0 ∷ [] }) line.0.entity line.0.var line.0.value row.range set;
       name = name_opened (record g { opens = g.opens ++ line.0 ∷ [] }) line.0.entity line.0.var line.0.value;

@@ -1,5 +1,5 @@
 -- What one more line makes of a sound group.
-use Rattle.std.proofs.Common.{◌≡◌, ℕ, zero, suc, ◌+◌, ◌<◌, ◌≤◌, List, [], ◌∷◌, ◌++◌, length, map, ap, sym, ◌∙◌, subst, refl, arith}
+use Rattle.std.proofs.Common.{◌≡◌, ℕ, zero, suc, ◌+◌, ◌<◌, ◌≤◌, List, [], ◌∷◌, ◌++◌, length, ap, sym, ◌∙◌, subst, refl, arith}
 use Rattle.std.specs.Prelude.{Bool, true, false, not, cond, if◌then◌else◌, ◌&&◌, ◌||◌, ◌==◌, nat_le, nat_lt, Option, Some, None, option_map, is_some, unwrap_or, slice_get, bytes_eq, ◌^◌}
 use Rattle.std.specs.List.{AllByRecursion}
 use Rattle.std.proofs.lemmas.List.{append_assoc, append-nil, map_push, length_push}
@@ -10,17 +10,16 @@ use Rattle.st_net.specs.declared.entity.Entity.TheVariants.{Device, Link}
 use Rattle.st_net.specs.declared.entity.Var.{Var}
 use Rattle.st_net.specs.declared.entity.Var.TheVariants.{Power, Firmware, Config, Routing, LinkPower, Iface}
 use Rattle.st_net.specs.declared.entity.Vals.{Vals}
-use Rattle.st_net.specs.declared.entity.Row.{Row}
 use Rattle.st_net.specs.declared.parts.DevicePart.{DevicePart}
 use Rattle.st_net.specs.declared.parts.LinkPart.{LinkPart}
 use Rattle.st_net.specs.declared.parts.PromisePart.{PromisePart}
-use Rattle.st_net.specs.declared.topo.TheConstants.{MAX_DEVICES, MAX_TORS, MAX_LINKS, MAX_PROMISES, MAX_CAPACITY, MAX_PERCENT}
+use Rattle.st_net.specs.declared.topo.TheConstants.{MAX_DEVICES, MAX_TORS, MAX_LINKS, MAX_PROMISES, MAX_PERCENT}
 use Rattle.st_net.specs.Entities.{device_value_set, link_value_set}
 use Rattle.st_net.specs.Ranges.{is_device_value, is_link_value, is_in_range}
-use Rattle.st_net.specs.Names.{place_of, is_among}
+use Rattle.st_net.specs.Names.{place_of, is_among, is_name}
 use Rattle.st_net.specs.Groups.{are_new, are_device_vals, are_link_vals}
 use Rattle.st_net.specs.Faults.{device_names, link_names, is_tor, is_tor_name, was_promised, is_bad_pair}
-use Rattle.st_doc.specs.Draft.{GroupDraft, is_entity_name, empty_group, with_device, with_link, with_promise, with_open, opened, device_opened, link_opened, with_health, device_told, link_told, with_wire, tors}
+use Rattle.st_doc.specs.Draft.{GroupDraft, is_entity_name, empty_group, with_device, with_link, with_promise, opened, device_opened, link_opened, with_health, device_told, link_told, with_wire, tors}
 use Rattle.st_wire.specs.declared.line.WireLine.{WireLine}
 use Rattle.st_doc.specs.declared.limits.TheConstants.{MAX_WIRE_LINES}
 use Rattle.st_doc.specs.Spelling.{most_health}
@@ -28,6 +27,7 @@ use Rattle.st_doc.specs.Lines.{has_device_room}
 use Rattle.st_doc.specs.Sound.{IsSoundWire}
 use Rattle.st_doc.proofs.HealthLemmas.{told_device_names, told_link_names, told_devices_count, told_links_count, told_tors}
 use Rattle.st_doc.proofs.GroupLemmas.{tors_push}
+use Rattle.st_doc.proofs.NameLemmas.{names_added}
 use Rattle.st_doc.proofs.PromiseLemmas.{among_kept, place_kept}
 use Rattle.st_doc.proofs.OpenLemmas.{device_names_kept, link_names_kept, devices_kept, links_kept, tors_kept}
 use Rattle.st_doc.proofs.SoundGroups.{IsSoundDevice, IsSoundLink, IsSoundPromise, AreOtherPairs, IsSoundDraftGroup, each, tor_known}
@@ -122,21 +122,24 @@ promise_with_device ds d p s = record { a_tor = tor_kept ds d p.a s.a_tor; b_tor
 link_among : (names : List (List ℕ)) (n : List ℕ) (l : LinkPart) → IsSoundLink names l → IsSoundLink (names ++ n ∷ []) l
 link_among names n l s = record { a_own = s.a_own; b_own = s.b_own; a_known = among_kept l.a.name n names s.a_known; b_known = among_kept l.b.name n names s.b_known; apart = s.apart; capacity = s.capacity; vals = s.vals; health = s.health }
 
-pub begun_sound : (name : List ℕ) → IsSoundDraftGroup (empty_group name)
-begun_sound name = record { named = refl; few_devices = omega arith; few_tors = omega arith; few_links = omega arith; few_promises = omega arith; devices = tt; links = tt; promises = tt; pairs = tt; few_wires = omega arith; wires = tt }
+pub begun_sound : (name : List ℕ) → is_name name ≡ true → IsSoundDraftGroup (empty_group name)
+begun_sound name spelled = record { spelled = spelled; spelled_devices = refl; spelled_links = refl; named = refl; few_devices = omega arith; few_tors = omega arith; few_links = omega arith; few_promises = omega arith; devices = tt; links = tt; promises = tt; pairs = tt; few_wires = omega arith; wires = tt }
 
 tors_room : (t : ℕ) (b : Bool) → (not b || nat_lt t MAX_TORS) ≡ true → t ≤ MAX_TORS → t + (if b then 1 else 0) ≤ MAX_TORS
 tors_room t true e few = let less : t < MAX_TORS = less_is t MAX_TORS e in omega arith
 tors_room t false e few = omega arith
 
-pub device_sound : (g : GroupDraft) (d : DevicePart) → IsSoundDraftGroup g → is_entity_name g d.name ≡ false → has_device_room g d.tor ≡ true → IsSoundDevice d → IsSoundDraftGroup (with_device g d)
-device_sound g d s fresh room sound =
+pub device_sound : (g : GroupDraft) (d : DevicePart) → IsSoundDraftGroup g → is_name d.name ≡ true → is_entity_name g d.name ≡ false → has_device_room g d.tor ≡ true → IsSoundDevice d → IsSoundDraftGroup (with_device g d)
+device_sound g d s spelled fresh room sound =
     let names : (is_among d.name (device_names g.devices) ≡ false) × (is_among d.name (link_names g.links) ≡ false) = neither (is_among d.name (device_names g.devices)) (is_among d.name (link_names g.links)) fresh in
     let rooms : (nat_lt (length g.devices) MAX_DEVICES ≡ true) × ((not d.tor || nat_lt (length (tors g.devices)) MAX_TORS) ≡ true) = both (nat_lt (length g.devices) MAX_DEVICES) (not d.tor || nat_lt (length (tors g.devices)) MAX_TORS) room in
     let less : length g.devices < MAX_DEVICES = less_is (length g.devices) MAX_DEVICES rooms.0 in
     let few : length (tors g.devices) + (if d.tor then 1 else 0) ≤ MAX_TORS = tors_room (length (tors g.devices)) d.tor rooms.1 s.few_tors in
     let more : device_names (g.devices ++ d ∷ []) ≡ device_names g.devices ++ d.name ∷ [] = map_push (λ (d : DevicePart). d.name) g.devices d in
     record {
+      spelled = s.spelled;
+      spelled_devices = rw more (names_added (device_names g.devices) d.name s.spelled_devices spelled);
+      spelled_links = s.spelled_links;
       named = rw (more, append_assoc (device_names g.devices) (d.name ∷ []) (link_names g.links)) (new_amid [] (device_names g.devices) (link_names g.links) d.name s.named refl names.0 names.1);
       few_devices = rw (length_push g.devices d) (omega arith);
       few_tors = rw (tors_push g.devices d) few;
@@ -150,12 +153,15 @@ device_sound g d s fresh room sound =
       wires = s.wires;
     }
 
-pub link_sound : (g : GroupDraft) (l : LinkPart) → IsSoundDraftGroup g → is_entity_name g l.name ≡ false → nat_lt (length g.links) MAX_LINKS ≡ true → IsSoundLink (device_names g.devices) l → IsSoundDraftGroup (with_link g l)
-link_sound g l s fresh room sound =
+pub link_sound : (g : GroupDraft) (l : LinkPart) → IsSoundDraftGroup g → is_name l.name ≡ true → is_entity_name g l.name ≡ false → nat_lt (length g.links) MAX_LINKS ≡ true → IsSoundLink (device_names g.devices) l → IsSoundDraftGroup (with_link g l)
+link_sound g l s spelled fresh room sound =
     let names : (is_among l.name (device_names g.devices) ≡ false) × (is_among l.name (link_names g.links) ≡ false) = neither (is_among l.name (device_names g.devices)) (is_among l.name (link_names g.links)) fresh in
     let less : length g.links < MAX_LINKS = less_is (length g.links) MAX_LINKS room in
     let more : link_names (g.links ++ l ∷ []) ≡ link_names g.links ++ l.name ∷ [] = map_push (λ (l : LinkPart). l.name) g.links l in
     record {
+      spelled = s.spelled;
+      spelled_devices = s.spelled_devices;
+      spelled_links = rw more (names_added (link_names g.links) l.name s.spelled_links spelled);
       named = rw (more, ← append_assoc (device_names g.devices) (link_names g.links) (l.name ∷ [])) (new_last (device_names g.devices ++ link_names g.links) l.name s.named (among_two l.name (device_names g.devices) (link_names g.links) names.0 names.1));
       few_devices = s.few_devices;
       few_tors = s.few_tors;
@@ -180,6 +186,9 @@ promise_sound g p s good share room =
     let two = neither (not (is_tor_name g.devices p.a)) (not (is_tor_name g.devices p.b)) third.0 in
     let less : length g.promises < MAX_PROMISES = less_is (length g.promises) MAX_PROMISES room in
     record {
+      spelled = s.spelled;
+      spelled_devices = s.spelled_devices;
+      spelled_links = s.spelled_links;
       named = s.named;
       few_devices = s.few_devices;
       few_tors = s.few_tors;
@@ -198,7 +207,7 @@ promise_sound g p s good share room =
     not_false false e = absurd (cc)
 
 -- one opening value
-four_true : (a b c d : Bool) → (a && b && c && d) ≡ true → (a ≡ true) × (b ≡ true) × (c ≡ true) × (d ≡ true)
+pub four_true : (a b c d : Bool) → (a && b && c && d) ≡ true → (a ≡ true) × (b ≡ true) × (c ≡ true) × (d ≡ true)
 four_true true true true true e = (refl, refl, refl, refl)
 four_true false b c d e = absurd (cc)
 four_true true false c d e = absurd (cc)
@@ -252,6 +261,9 @@ promise_opened ds i v x p s = record { a_tor = tor_name_kept ds i v x p.a ∙ s.
 
 pub opened_sound : (g : GroupDraft) (e : Entity) (v : Var) (x : ℕ) → is_in_range e v x ≡ true → IsSoundDraftGroup g → IsSoundDraftGroup (opened g e v x)
 opened_sound g (Device i) v x r s = record {
+  spelled = s.spelled;
+  spelled_devices = rw (device_names_kept g.devices i v x) s.spelled_devices;
+  spelled_links = s.spelled_links;
   named = rw (device_names_kept g.devices i v x) s.named;
   few_devices = rw (devices_kept g.devices i v x) s.few_devices;
   few_tors = rw (tors_kept g.devices i v x) s.few_tors;
@@ -265,6 +277,9 @@ opened_sound g (Device i) v x r s = record {
   wires = s.wires;
 }
 opened_sound g (Link i) v x r s = record {
+  spelled = s.spelled;
+  spelled_devices = s.spelled_devices;
+  spelled_links = rw (link_names_kept g.links i v x) s.spelled_links;
   named = rw (link_names_kept g.links i v x) s.named;
   few_devices = s.few_devices;
   few_tors = s.few_tors;
@@ -304,6 +319,9 @@ promise_told ds i h p s = record { a_tor = told_tor_name ds i h p.a ∙ s.a_tor;
 
 pub health_sound : (g : GroupDraft) (e : Entity) (h : ℕ) → nat_le h (most_health e) ≡ true → IsSoundDraftGroup g → IsSoundDraftGroup (with_health g e h)
 health_sound g (Device i) h r s = record {
+  spelled = s.spelled;
+  spelled_devices = rw (told_device_names g.devices i h) s.spelled_devices;
+  spelled_links = s.spelled_links;
   named = rw (told_device_names g.devices i h) s.named;
   few_devices = rw (told_devices_count g.devices i h) s.few_devices;
   few_tors = rw (told_tors g.devices i h) s.few_tors;
@@ -317,6 +335,9 @@ health_sound g (Device i) h r s = record {
   wires = s.wires;
 }
 health_sound g (Link i) h r s = record {
+  spelled = s.spelled;
+  spelled_devices = s.spelled_devices;
+  spelled_links = rw (told_link_names g.links i h) s.spelled_links;
   named = rw (told_link_names g.links i h) s.named;
   few_devices = s.few_devices;
   few_tors = s.few_tors;
@@ -335,6 +356,9 @@ pub wire_sound : (g : GroupDraft) (line : WireLine) → nat_lt (length g.wires) 
 wire_sound g line room sound s =
     let less : length g.wires < MAX_WIRE_LINES = less_is (length g.wires) MAX_WIRE_LINES room in
     record {
+      spelled = s.spelled;
+      spelled_devices = s.spelled_devices;
+      spelled_links = s.spelled_links;
       named = s.named;
       few_devices = s.few_devices;
       few_tors = s.few_tors;

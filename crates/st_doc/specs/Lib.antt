@@ -8,3 +8,6 @@ pub mod RowsInside
 pub mod GroupInside
 pub mod ReaderInside
 pub mod Sound
+pub mod Printed
+pub mod ReadingBack
+pub mod PrintedWords

@@ -11,7 +11,7 @@ use Rattle.st_net.specs.declared.parts.LinkPart.{LinkPart}
 use Rattle.st_net.specs.declared.parts.PromisePart.{PromisePart}
 use Rattle.st_net.specs.declared.topo.TheConstants.{MAX_DEVICES, MAX_TORS, MAX_LINKS, MAX_PROMISES, MAX_CAPACITY, MAX_PERCENT, MAX_ROWS}
 use Rattle.st_net.specs.Names.{is_among}
-use Rattle.st_net.specs.Faults.{device_names, is_bad_pair}
+use Rattle.st_net.specs.Faults.{is_bad_pair}
 use Rattle.st_wire.specs.declared.line.WireLine.{WireLine}
 use Rattle.st_wire.specs.declared.line.WireLine.TheVariants as wires
 use Rattle.st_event.specs.declared.act.Act.{Act}

@@ -1,5 +1,5 @@
 -- What the index of a set of rows keeps.
-use Rattle.std.specs.Prelude.{◌≡◌, ℕ, List, map, true}
+use Rattle.std.specs.Prelude.{◌≡◌, List, map, true}
 use Rattle.std.specs.List.{AllByRecursion}
 use Rattle.st_net.specs.declared.entity.Row.{Row}
 use Rattle.st_net.specs.Entities.{place_of}

@@ -1,5 +1,5 @@
 -- Which documents are sound: what the text of a document can declare, and nothing else.
-use Rattle.std.specs.Prelude.{◌≡◌, ◌<◌, ◌≤◌, ◌^◌, ℕ, List, [], ◌∷◌, All, Bool, true, false, length, map, Option, None, slice_get}
+use Rattle.std.specs.Prelude.{◌≡◌, ◌<◌, ◌≤◌, ◌^◌, ℕ, List, [], All, true, length, map, None, slice_get}
 use Rattle.std.specs.Option.{IsSomeAnd}
 use Rattle.st_net.specs.declared.entity.Entity.{Entity}
 use Rattle.st_net.specs.declared.entity.Row.{Row}
@@ -7,9 +7,10 @@ use Rattle.st_net.specs.declared.entity.Var.{Var}
 use Rattle.st_net.specs.declared.parts.Parts.{Parts}
 use Rattle.st_net.specs.declared.parts.LinkPart.{LinkPart}
 use Rattle.st_net.specs.Entities.{is_var_of}
-use Rattle.st_net.specs.Groups.{Group, IsEntityOf, are_new}
+use Rattle.st_net.specs.Names.{is_name}
+use Rattle.st_net.specs.Groups.{Group, IsEntityOf, are_new, are_names}
 use Rattle.st_net.specs.Ranges.{RowFits, RowsFit, is_health_of, are_apart}
-use Rattle.st_net.specs.Faults.{fault_of, group_of}
+use Rattle.st_net.specs.Faults.{fault_of, group_of, device_names, link_names}
 use Rattle.st_event.specs.declared.act.Act.{Act}
 use Rattle.st_event.specs.declared.act.Act.TheVariants.{Propose, Await, Settle, Lock, Unlock, Read, ReadAt, Fail, Poll}
 use Rattle.st_wire.specs.declared.line.WireLine.{WireLine}
@@ -25,8 +26,11 @@ pub record HasOwnEnds (link : LinkPart) : Type 0 where
   pub a : link.a.group ≡ None
   pub b : link.b.group ≡ None
 
--- the group can be built, and its links' ends are its own
+-- the group can be built, each name of it is spelled as one, and its links' ends are its own
 pub record IsSoundGroup (parts : Parts) : Type 0 where
+  pub name : is_name parts.name ≡ true
+  pub named_devices : are_names (device_names parts.devices) ≡ true
+  pub named_links : are_names (link_names parts.links) ≡ true
   pub built : fault_of parts ≡ None
   pub ends : All HasOwnEnds parts.links
 
@@ -73,8 +77,9 @@ pub record AreSoundWires (lines : List WireLine) : Type 0 where
   pub few : length lines ≤ MAX_WIRE_LINES
   pub each : All IsSoundWire lines
 
--- an application's commands are few, and each is sound
+-- an application's name is spelled as one, and its commands are few, and each is sound
 pub record IsSoundScript (groups : List Parts) (app : Script) : Type 0 where
+  pub name : is_name app.name ≡ true
   pub few : length app.acts ≤ MAX_ACTS
   pub acts : All (IsSoundAct groups) app.acts
 

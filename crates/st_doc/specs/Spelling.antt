@@ -1,5 +1,5 @@
 -- How the tokens of a line are read: each gives what it stands for, or the first kind that applies to it.
-use Rattle.std.specs.Prelude.{ℕ, List, [], ◌∷◌, Bool, true, false, ◌&&◌, nat_le, nat_lt, if◌then◌else◌, Option, Some, None, Result, Ok, Err, ok_or, option_map, bytes_eq, codes}
+use Rattle.std.specs.Prelude.{ℕ, List, Bool, true, false, ◌&&◌, nat_le, nat_lt, if◌then◌else◌, Option, Some, None, Result, Ok, Err, ok_or, option_map, bytes_eq, codes}
 use Rattle.st_text.specs.Numbers.{number_of}
 use Rattle.st_net.specs.declared.entity.Entity.{Entity}
 use Rattle.st_net.specs.declared.entity.Entity.TheVariants as entities

@@ -1,7 +1,6 @@
-use Rattle.std.proofs.Common.{ap, sym, ◌∙◌, List}
+use Rattle.std.proofs.Common.{ap, sym, ◌∙◌}
 use Rattle.std.specs.Prelude.{Some, None}
 use Rattle.st_net.specs.Faults.{was_promised}
-use Rattle.st_net.specs.declared.parts.PromisePart.{PromisePart}
 use Rattle.st_doc.specs.Draft.{GroupDraft}
 use Rattle.st_doc.proofs.PromiseLemmas.{promised}
 use Rattle.st_doc.proofs.group.Group.was_promised.Goals as goal

@@ -1,0 +1,39 @@
+use Rattle.std.specs.Prelude.{[]}
+use Rattle.st_net.specs.declared.entity.Var.TheVariants.{Power, Firmware, Config, Routing}
+use Rattle.st_doc.specs.Printed.{open_line}
+use Rattle.st_doc.proofs.TextLemmas.{first_lines, next_lines, both_lines, last_lines, err_of, err_by, ok_by}
+use Rattle.st_doc.proofs.printing.opening.print_device_opens.Goals as goal
+
+pub returns-in_err-print_open-clause-err : goal.returns-in_err-print_open-clause-err
+returns-in_err-print_open-clause-err c =
+    let d = c.args.device.now in
+    err_of _ (first_lines _ _ (open_line d.name Power d.vals.v0) _ (rw c.bytes-name.ensures.bytes at c.in_err-print_open.ensures.err))
+
+pub returns-in_err-print_open-2-clause-err : goal.returns-in_err-print_open-2-clause-err
+returns-in_err-print_open-2-clause-err c =
+    let d = c.args.device.now in
+    err_of _ (next_lines _ _ _ (open_line d.name Power d.vals.v0) _ (rw c.bytes-name.ensures.bytes at c.in_ok-print_open.ensures.ok)
+    (first_lines _ _ (open_line d.name Firmware d.vals.v1) _ (rw c.bytes-name.ensures.bytes at c.in_err-print_open-2.ensures.err)))
+
+pub returns-in_err-print_open-3-clause-err : goal.returns-in_err-print_open-3-clause-err
+returns-in_err-print_open-3-clause-err c =
+    let d = c.args.device.now in
+    err_of _ (next_lines _ _ _ (open_line d.name Power d.vals.v0) _ (rw c.bytes-name.ensures.bytes at c.in_ok-print_open.ensures.ok)
+    (next_lines _ _ _ (open_line d.name Firmware d.vals.v1) _ (rw c.bytes-name.ensures.bytes at c.in_ok-print_open-2.ensures.ok)
+    (first_lines _ _ (open_line d.name Config d.vals.v2) _ (rw c.bytes-name.ensures.bytes at c.in_err-print_open-3.ensures.err))))
+
+pub returns-clause-ok : goal.returns-clause-ok
+returns-clause-ok c =
+    let d = c.args.device.now in
+    ok_by c.print_open-4.result (λ all. both_lines _ _ _ (open_line d.name Power d.vals.v0) _ (rw c.bytes-name.ensures.bytes at c.in_ok-print_open.ensures.ok)
+    (both_lines _ _ _ (open_line d.name Firmware d.vals.v1) _ (rw c.bytes-name.ensures.bytes at c.in_ok-print_open-2.ensures.ok)
+    (both_lines _ _ _ (open_line d.name Config d.vals.v2) _ (rw c.bytes-name.ensures.bytes at c.in_ok-print_open-3.ensures.ok)
+    (last_lines _ _ (open_line d.name Routing d.vals.v3) (rw c.bytes-name.ensures.bytes at all))))) c.print_open-4.ensures.ok
+
+pub returns-clause-err : goal.returns-clause-err
+returns-clause-err c =
+    let d = c.args.device.now in
+    err_by c.print_open-4.result (λ part. next_lines _ _ _ (open_line d.name Power d.vals.v0) _ (rw c.bytes-name.ensures.bytes at c.in_ok-print_open.ensures.ok)
+    (next_lines _ _ _ (open_line d.name Firmware d.vals.v1) _ (rw c.bytes-name.ensures.bytes at c.in_ok-print_open-2.ensures.ok)
+    (next_lines _ _ _ (open_line d.name Config d.vals.v2) _ (rw c.bytes-name.ensures.bytes at c.in_ok-print_open-3.ensures.ok)
+    (first_lines _ _ (open_line d.name Routing d.vals.v3) [] (rw c.bytes-name.ensures.bytes at part))))) c.print_open-4.ensures.err

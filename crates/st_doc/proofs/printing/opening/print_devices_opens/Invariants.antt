@@ -1,0 +1,8 @@
+use Rattle.std.proofs.Common.{◌≡◌, ◌++◌, take}
+use Rattle.std.specs.Prelude.{flat_map}
+use Rattle.st_text.specs.Words.{text_of}
+use Rattle.st_doc.specs.Printed.{device_opens}
+use Rattle.st_doc.proofs.printing.opening.print_devices_opens.Given as goal
+
+abbrev pub invariant-loop-device : goal.invariant-loop-device
+invariant-loop-device l = l.out ≡ l.initial.out ++ text_of (flat_map device_opens (take l.device-index l.devices))

@@ -1,0 +1,8 @@
+use Rattle.std.proofs.Common.{◌≡◌, ◌++◌, take}
+use Rattle.std.specs.Prelude.{flat_map}
+use Rattle.st_text.specs.Words.{text_of}
+use Rattle.st_doc.specs.Printed.{link_opens}
+use Rattle.st_doc.proofs.printing.opening.print_links_opens.Given as goal
+
+abbrev pub invariant-loop-link : goal.invariant-loop-link
+invariant-loop-link l = l.out ≡ l.initial.out ++ text_of (flat_map link_opens (take l.link-index l.links))

@@ -1,0 +1,5 @@
+use Rattle.st_doc.proofs.PrintedDocs.{printed_back}
+use Rattle.st_doc.proofs.printing.print_doc.Goals as goal
+
+pub returns-clause-reads_back : goal.returns-clause-reads_back
+returns-clause-reads_back c = printed_back c.args.doc.now c.requires.sound

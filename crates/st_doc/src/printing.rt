@@ -1,0 +1,119 @@
+//! Documents are printed here, section by section, as lines of words. What is printed is read as the document.
+
+ghost use Rattle.std.specs.Prelude.{◌≡◌, ◌++◌, ◌∷◌, [], OnOk, OnErr, Ok, flat_map, map};
+ghost use Rattle.st_text.specs.Words.{text_of};
+ghost use Rattle.st_doc.specs.Printed.{HoldsPart, group_lines, app_name_at, app_lines, order_words, doc_lines, printed_doc, without_journals};
+ghost use Rattle.st_doc.specs.Reading.{document_of};
+ghost use Rattle.st_doc.specs.Sound.{IsSoundDoc};
+
+mod acts;
+mod opening;
+mod parts;
+mod wires;
+mod words;
+
+use crate::doc::{Doc, Script};
+use acts::print_acts;
+use opening::{print_healths, print_opens};
+use parts::{print_devices, print_links, print_promises};
+use st_net::Parts;
+use st_text::Text;
+use std::alloc::AllocError;
+use wires::print_wires;
+use words::{Word, print_line};
+
+/// Adds the section of a group. After `Err` the text holds a part of it.
+fn print_group(group: &Parts, out: &mut Text) -> Result<(), AllocError>
+    ensures ok { OnOk result (out.new ≡ out.old ++ text_of (group_lines group.now)) }
+    ensures err { OnErr result (HoldsPart out.old out.new (text_of (group_lines group.now))) }
+{
+    print_line(b"group", &[Word::Plain(group.name.bytes())], out)?;
+    print_devices(group.devices.as_slice(), out)?;
+    print_links(group.links.as_slice(), out)?;
+    print_promises(group.promises.as_slice(), out)?;
+    print_opens(group, out)?;
+    print_healths(group, out)
+}
+
+/// Adds the sections of groups. After `Err` the text holds a part of them.
+fn print_groups(groups: &[Parts], out: &mut Text) -> Result<(), AllocError>
+    ensures ok { OnOk result (out.new ≡ out.old ++ text_of (flat_map group_lines groups.now)) }
+    ensures err { OnErr result (HoldsPart out.old out.new (text_of (flat_map group_lines groups.now))) }
+{
+    for group in groups {
+        print_group(group, out)?;
+    }
+    Ok(())
+}
+
+/// Adds an application with its commands. After `Err` the text holds a part of them.
+fn print_app(groups: &[Parts], app: &Script, out: &mut Text) -> Result<(), AllocError>
+    ensures ok { OnOk result (out.new ≡ out.old ++ text_of (app_lines groups.now app.now)) }
+    ensures err { OnErr result (HoldsPart out.old out.new (text_of (app_lines groups.now app.now))) }
+{
+    print_line(b"app", &[Word::Plain(app.name.bytes())], out)?;
+    print_acts(groups, app.acts.as_slice(), out)
+}
+
+/// Adds applications with their commands. After `Err` the text holds a part of them.
+fn print_apps(groups: &[Parts], apps: &[Script], out: &mut Text) -> Result<(), AllocError>
+    ensures ok { OnOk result (out.new ≡ out.old ++ text_of (flat_map (app_lines groups.now) apps.now)) }
+    ensures err { OnErr result (HoldsPart out.old out.new (text_of (flat_map (app_lines groups.now) apps.now))) }
+{
+    for app in apps {
+        print_app(groups, app, out)?;
+    }
+    Ok(())
+}
+
+/// The name of an application, by its number; no bytes where there are not so many.
+fn app_name(apps: &[Script], app: u32) -> &[u8]
+    ensures { result.now ≡ app_name_at apps.now app }
+{
+    match apps.get(app as usize) {
+        Some(script) => script.name.bytes(),
+        None => b"",
+    }
+}
+
+/// Adds a line for each application of an order. After `Err` the text holds a part of them.
+fn print_order(apps: &[Script], order: &[u32], out: &mut Text) -> Result<(), AllocError>
+    ensures ok { OnOk result (out.new ≡ out.old ++ text_of (map (order_words apps.now) order.now)) }
+    ensures err { OnErr result (HoldsPart out.old out.new (text_of (map (order_words apps.now) order.now))) }
+{
+    for app in order {
+        print_line(b"order", &[Word::Plain(app_name(apps, *app))], out)?;
+    }
+    Ok(())
+}
+
+/// Adds all lines of a document. After `Err` the text holds a part of them.
+fn print_lines(doc: &Doc, out: &mut Text) -> Result<(), AllocError>
+    ensures ok { OnOk result (out.new ≡ out.old ++ text_of (doc_lines doc.now)) }
+    ensures err { OnErr result (HoldsPart out.old out.new (text_of (doc_lines doc.now))) }
+{
+    let groups = doc.groups.as_slice();
+    let apps = doc.apps.as_slice();
+    print_line(b"statesman", &[Word::Plain(b"1")], out)?;
+    print_groups(groups, out)?;
+    print_wires(groups, doc.wires.as_slice(), out)?;
+    print_apps(groups, apps, out)?;
+    print_order(apps, doc.order.as_slice(), out)
+}
+
+/// Prints a sound document without the place of its journals: adds the header, the sections of groups, their wire lines, the
+/// applications with their commands and a line for each item of the order, with one space between tokens and LF ends.
+/// Opening values and healths that are the default have no lines. Takes time in the bytes that are printed. After `Err`,
+/// which is for want of memory alone, the text holds a part of these lines behind what it held.
+pub fn print_doc(doc: &Doc, out: &mut Text) -> Result<(), AllocError>
+    requires sound { IsSoundDoc doc.now }
+    ensures ok { OnOk result (out.new ≡ out.old ++ printed_doc doc.now) }
+    ensures err { OnErr result (HoldsPart out.old out.new (printed_doc doc.now)) }
+    // What is printed is read as the document.
+    ensures reads_back { document_of (printed_doc doc.now) ≡ Ok (without_journals doc.now) }
+{
+    print_lines(doc, out)
+}
+
+#[cfg(test)]
+mod tests;
