@@ -1,0 +1,81 @@
+-- A store's versions after a list of accepted proposals.
+use Rattle.std.proofs.Common.{◌≡◌, ℕ, ◌+◌, ◌<◌, ◌≤◌, List, [], ◌∷◌, ◌++◌, length, take, refl, sym, ap, ◌∙◌, subst, arith, append_assoc, append-nil}
+use Rattle.std.specs.Prelude.{Bool, true, false, nat_le, if◌then◌else◌}
+use Rattle.std.proofs.lemmas.Bool.Decides.{nat_tests}
+use Rattle.std.proofs.lemmas.List.{length-append, take-append-le, take_all}
+use Rattle.std.proofs.Math.Seq.{take-nil}
+use Rattle.st_net.specs.declared.entity.Entity.{Entity}
+use Rattle.st_net.specs.declared.entity.Row.{Row}
+use Rattle.st_net.specs.declared.entity.Var.{Var}
+use Rattle.st_net.specs.Groups.{Group}
+use Rattle.st_net.specs.Merge.{merge_of, target_with}
+use Rattle.st_event.specs.Proposals.{first_rows}
+use Rattle.st_net.proofs.MergeLaws.{merge_of-push_all}
+use Rattle.st_store.specs.Changes.{value_at}
+use Rattle.st_store.specs.Store.{StoreView, IsStart, Decides}
+use Rattle.st_store.specs.Laws.{HasMerged, KeepsVersions, ComesBy}
+
+true_le : (m n : ℕ) → nat_le m n ≡ true → m ≤ n
+true_le m n is = grind (arith, nat_tests, is)
+
+false_le : (m n : ℕ) → nat_le m n ≡ false → n < m
+false_le m n is = grind (arith, nat_tests, is)
+
+-- nothing is accepted at the start
+pub HasMerged-start : (g : Group) (s : StoreView) → IsStart g s → HasMerged g [] s
+HasMerged-start g s is = record {
+  version = is.version;
+  target = is.target;
+  versions = λ v. ap (λ (values : ℕ → Entity → Var → ℕ). values v) is.versions ∙ ap (merge_of g) (sym (take-nil v));
+}
+
+-- one proposal more
+HasMerged-accept : (g : Group) (accepted : List (List Row)) (old new : StoreView) (entry : ℕ) → HasMerged g accepted old → Decides old new entry true → HasMerged g (accepted ++ first_rows old.pending ∷ []) new
+HasMerged-accept g accepted old new entry was step = record {
+  version = step.version ∙ ap (λ (n : ℕ). n + 1) was.version ∙ sym (length-append accepted (rows ∷ []));
+  target = step.target ∙ ap (λ (target : Entity → Var → ℕ). target_with target rows) was.target ∙ sym (merge_of-push_all g accepted rows);
+  versions = λ v. ap (λ (values : ℕ → Entity → Var → ℕ). values v) step.versions ∙ by_version v (nat_le v old.version) refl;
+}
+  where
+    rows : List Row
+    rows = first_rows old.pending
+
+    by_version : (v : ℕ) (b : Bool) → nat_le v old.version ≡ b → (if b then value_at old.versions v else target_with (value_at old.versions old.version) rows) ≡ merge_of g (take v (accepted ++ rows ∷ []))
+    by_version v true le =
+        let few : v ≤ length accepted = let version = was.version in let l = true_le v old.version le in omega (arith, l, version) in
+        was.versions v ∙ ap (merge_of g) (sym (take-append-le v accepted (rows ∷ []) few))
+    by_version v false gt =
+        let all : take old.version accepted ≡ accepted = take_all old.version accepted (let version = was.version in omega (arith, version)) in
+        let more : take v (accepted ++ rows ∷ []) ≡ accepted ++ rows ∷ [] = take_all v (accepted ++ rows ∷ []) (let version = was.version in let l = false_le v old.version gt in let n = length-append accepted (rows ∷ []) in omega (arith, l, version, n)) in
+        ap (λ (target : Entity → Var → ℕ). target_with target rows) (was.versions old.version ∙ ap (merge_of g) all)
+        ∙ sym (merge_of-push_all g accepted rows)
+        ∙ ap (merge_of g) (sym more)
+
+-- none more
+pub HasMerged-keep : (g : Group) (accepted : List (List Row)) (old new : StoreView) → HasMerged g accepted old → KeepsVersions old new → HasMerged g accepted new
+HasMerged-keep g accepted old new was same = record {
+  version = same.version ∙ was.version;
+  target = same.target ∙ was.target;
+  versions = λ v. ap (λ (values : ℕ → Entity → Var → ℕ). values v) same.versions ∙ was.versions v;
+}
+
+-- the accepted proposals after a decision
+abbrev pub accepted_after : Bool → List (List Row) → List Row → List (List Row)
+accepted_after accept accepted rows = if accept then accepted ++ rows ∷ [] else accepted
+
+-- what a decision makes of them
+pub HasMerged-decide : (g : Group) (accepted : List (List Row)) (old new : StoreView) (entry : ℕ) (accept : Bool) → HasMerged g accepted old → Decides old new entry accept → HasMerged g (accepted_after accept accepted (first_rows old.pending)) new
+HasMerged-decide g accepted old new entry true was step = HasMerged-accept g accepted old new entry was step
+HasMerged-decide g accepted old new entry false was step = HasMerged-keep g accepted old new was (record { version = step.version; target = step.target; versions = step.versions })
+
+HasMerged-comes : (g : Group) (before accepted : List (List Row)) (old new : StoreView) → HasMerged g before old → ComesBy old accepted new → HasMerged g (before ++ accepted) new
+HasMerged-comes g before [] old new was comes = subst (λ (all : List (List Row)). HasMerged g all new) (sym (append-nil before)) (HasMerged-keep g before old new was comes)
+HasMerged-comes g before (rows ∷ later) old new was comes =
+    let accepts = comes.3 in
+    let one = HasMerged-accept g before comes.0 comes.1 accepts.entry (HasMerged-keep g before old comes.0 was comes.2) accepts.decision in
+    subst (λ (all : List (List Row)). HasMerged g all new) (append_assoc before (rows ∷ []) later)
+    (HasMerged-comes g (before ++ rows ∷ []) later comes.1 new (subst (λ (rows : List Row). HasMerged g (before ++ rows ∷ []) comes.1) accepts.oldest one) comes.4)
+
+-- all that were accepted since the start
+pub merged_of : (g : Group) (start s : StoreView) (accepted : List (List Row)) → IsStart g start → ComesBy start accepted s → HasMerged g accepted s
+merged_of g start s accepted is comes = HasMerged-comes g [] accepted start s (HasMerged-start g start is) comes

@@ -1,0 +1,9 @@
+//! What follows for a store from the contracts of its calls, whatever calls there are. The crates above cite it.
+
+ghost use Rattle.st_store.specs.Laws.{VersionsAreMerges};
+
+/// After any list of accepted proposals, whatever calls stand between, the value of a variable at version v is that of the merge
+/// of the first v of them, and in the target that of the merge of all.
+pub fn versions_are_merges()
+    ensures { VersionsAreMerges }
+{}
