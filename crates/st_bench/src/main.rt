@@ -1,14 +1,18 @@
 //! Work with known answers, to be timed from outside. The words are pairs of a work and how often to do it, and each pair
-//! prints one line of counts; `document` and a work print the network of that work for another program.
+//! prints one line of counts; `document` and a network print that network for another program.
 #![tactic(auto)]
 
 mod cuts;
 mod document;
+mod group;
 mod network;
+mod promises;
 
 use cuts::least_cuts;
 use document::print_document;
+use group::group_of;
 use network::{Network, fat_tree, full_group};
+use promises::{Judged, judge, start};
 use std::alloc::{AllocError, Global};
 use std::rt::Runtime;
 use std::{env, io};
@@ -22,19 +26,76 @@ fn network_of(alloc: Global, work: &str) -> Result<Option<Network>, AllocError> 
     }
 }
 
-/// Does a work so often, and once at least, and prints what its last time found.
-fn repeat(rt: &impl Runtime, alloc: Global, work: &str, times: u32) -> io::Result<()> {
-    let Some(network) = network_of(alloc, work)? else {
-        return println!(rt; "no work is called {work}");
-    };
-    let mut counts = least_cuts(alloc, &network)?;
+/// What is done with a network.
+#[derive(Clone, Copy)]
+enum Task {
+    /// The least cut of each pair of leaves.
+    Cuts,
+    /// The need of a promise between each pair of leaves.
+    Start,
+    /// A change of its group, judged by these promises.
+    Judge,
+}
+
+/// The task that a word names, and what is left of the word.
+fn task_of(word: &str) -> (Task, &str) {
+    if let Some(work) = word.strip_prefix("start-") {
+        return (Task::Start, work);
+    }
+    if let Some(work) = word.strip_prefix("judge-") {
+        return (Task::Judge, work);
+    }
+    (Task::Cuts, word)
+}
+
+/// Finds the least cuts so often, and once at least, and prints what the last time found.
+fn repeat_cuts(
+    rt: &impl Runtime,
+    alloc: Global,
+    word: &str,
+    network: &Network,
+    times: u32,
+) -> io::Result<()> {
+    let mut counts = least_cuts(alloc, network)?;
     for _ in 1..times {
-        counts = least_cuts(alloc, &network)?;
+        counts = least_cuts(alloc, network)?;
     }
     println!(rt;
-        "{work} pairs {} values {} sides {}",
+        "{word} pairs {} values {} sides {}",
         counts.pairs, counts.values, counts.sides
     )
+}
+
+fn print_judged(rt: &impl Runtime, word: &str, judged: Judged) -> io::Result<()> {
+    let Judged {
+        promises,
+        needs,
+        broken,
+    } = judged;
+    match broken {
+        Some(number) => println!(rt; "{word} promises {promises} needs {needs} broken {number}"),
+        None => println!(rt; "{word} promises {promises} needs {needs}"),
+    }
+}
+
+/// Does a work so often, and once at least, and prints what its last time found.
+fn repeat(rt: &impl Runtime, alloc: Global, word: &str, times: u32) -> io::Result<()> {
+    let (task, work) = task_of(word);
+    let Some(network) = network_of(alloc, work)? else {
+        return println!(rt; "no work is called {word}");
+    };
+    if let Task::Cuts = task {
+        return repeat_cuts(rt, alloc, word, &network, times);
+    }
+    let Some(topo) = group_of(alloc, &network)? else {
+        return println!(rt; "{word} is no group");
+    };
+    let judged = if let Task::Start = task {
+        start(alloc, &topo, times)?
+    } else {
+        judge(alloc, &topo, times)?
+    };
+    print_judged(rt, word, judged)
 }
 
 fn run(rt: &impl Runtime, alloc: Global, first: &str, second: &str) -> io::Result<()> {

@@ -1,6 +1,9 @@
 pub mod SearchLaws
 pub mod NumberLaws
-pub mod JudgeLaws
+pub mod ClosedLaws
 pub mod ReachLaws
 pub mod VisitLaws
 pub mod ChainLaws
+pub mod NetworkLaws
+pub mod FlowLaws
+pub mod JudgeLaws

@@ -1,10 +1,8 @@
 -- Walks read back from a search, and what it has found as a set that no up link leaves.
 use Rattle.std.proofs.Common.{◌≡◌, ℕ, zero, suc, ◌<◌, List, [], ◌∷◌, ◌++◌, length, refl, ap, ◌∙◌, sym, subst, arith}
-use Rattle.std.specs.Prelude.{Bool, true, false, ◌&&◌, ◌||◌, ◌==◌, Option, Some, None, MatchOption, slice_index_or, reverse, if◌then◌else◌}
-use Rattle.std.specs.List.{list_any}
+use Rattle.std.specs.Prelude.{Bool, true, false, Option, Some, None, MatchOption, slice_index_or, reverse}
 use Rattle.std.proofs.lemmas.Bool.Decides.{nat_tests}
 use Rattle.std.proofs.lemmas.List.{get_or_read, reverse-append}
-use Rattle.std.proofs.lemmas.List.Folds.{list_any-append}
 use Rattle.st_net.specs.declared.entity.Entity.{Entity}
 use Rattle.st_net.specs.declared.topo.LinkOpening.{LinkOpening}
 use Rattle.st_net.specs.Groups.{Group, no_link, AreLinks, IsSound}
@@ -14,9 +12,10 @@ use Rattle.st_net.proofs.WalkLaws.{joined}
 use Rattle.st_promise.specs.declared.search.Step.{Step}
 use Rattle.st_promise.specs.declared.search.Came.{Came}
 use Rattle.st_promise.specs.Search.{Visits, no_step, step_at, is_found, IsSearch, IsSettled}
-use Rattle.st_promise.specs.Reach.{is_member, IsClosed}
+use Rattle.st_promise.specs.Reach.{IsClosed}
 use Rattle.st_promise.proofs.SearchLaws.{link_at}
-use Rattle.st_promise.proofs.JudgeLaws.{IsLeastClosed, settled_least, zero_stays}
+use Rattle.st_promise.proofs.ClosedLaws.{IsLeastClosed, settled_least, zero_stays}
+use Rattle.st_promise.proofs.NumberLaws.{member_has, member_is, member_not}
 
 -- what is read of the steps
 pub step_read : (xs ys : List Step) (i : ℕ) (x : Step) → xs ≡ ys → i < length ys → x ≡ slice_index_or xs i x → slice_index_or ys i no_step ≡ x
@@ -39,71 +38,10 @@ walk_before n links up s k came xs ys b is low same more walk =
     let back = came_from n links up s k came is low same in
     subst (λ (zs : List ℕ). IsWalk links up (step_at s came.from).device zs b) (reverse_push xs ys came.link more) ((step_at s k).device, back.1, walk)
 
-or_false : (p : Bool) → (p || false) ≡ p
-or_false true = refl
-or_false false = refl
-
 pub walk_whole : (n : ℕ) (links : List LinkOpening) (up : Entity → Bool) (s : Visits) (k : ℕ) (xs ys : List ℕ) (b : ℕ) → IsSearch n links up s → k < length s.steps → (step_at s k).came ≡ None → ys ≡ reverse xs → IsWalk links up (step_at s k).device (reverse xs) b → IsWalk links up s.root ys b
 walk_whole n links up s k xs ys b is low start same walk =
     let turned = subst (λ (zs : List ℕ). IsWalk links up (step_at s k).device zs b) (sym same) walk in
     subst (λ (d : ℕ). IsWalk links up d ys b) (came_none n links up s k is low start) turned
-
-any_last : (q : Bool) (n d : ℕ) → list_any (λ x. x == d) (if q then n ∷ [] else []) ≡ (q && n == d)
-any_last false n d = refl
-any_last true n d = or_false (n == d)
-
-member_more : (n : ℕ) (f : ℕ → Bool) (d : ℕ) → is_member (numbers_in (suc n) f) d ≡ (is_member (numbers_in n f) d || (f n && n == d))
-member_more n f d = rw (list_any-append (λ x. x == d) (numbers_in n f) (if f n then n ∷ [] else []), any_last (f n) n d) refl
-
-or_right : (p q : Bool) → q ≡ true → (p || q) ≡ true
-or_right true q is = refl
-or_right false q is = is
-
-or_left : (p q : Bool) → p ≡ true → (p || q) ≡ true
-or_left true q is = refl
-or_left false q is = cc
-
-and_both : (p q : Bool) → p ≡ true → q ≡ true → (p && q) ≡ true
-and_both p q is also = rw (is, also) refl
-
-member_has_at : (n : ℕ) (f : ℕ → Bool) (d : ℕ) (p : Bool) → (n == d) ≡ p → d < suc n → f d ≡ true → (d < n → is_member (numbers_in n f) d ≡ true) → (is_member (numbers_in n f) d || (f n && n == d)) ≡ true
-member_has_at n f d true same low has before =
-    let at : d ≡ n = grind (arith, nat_tests) in
-    or_right _ _ (and_both (f n) (n == d) (ap f (sym at) ∙ has) same)
-member_has_at n f d false same low has before =
-    let small : d < n = grind (arith, nat_tests) in
-    or_left _ _ (before small)
-
--- the numbers of a set are those in it
-pub member_has : (n : ℕ) (f : ℕ → Bool) (d : ℕ) → d < n → f d ≡ true → is_member (numbers_in n f) d ≡ true
-member_has zero f d low has = absurd (omega arith)
-member_has (suc n) f d low has = member_more n f d ∙ member_has_at n f d (n == d) refl low has (λ small. member_has n f d small has)
-
-and_first : (p q : Bool) → (p && q) ≡ true → p ≡ true
-and_first true q is = refl
-and_first false q is = is
-
-and_second : (p q : Bool) → (p && q) ≡ true → q ≡ true
-and_second true q is = is
-and_second false q is = cc
-
-member_is_at : (n : ℕ) (f : ℕ → Bool) (d : ℕ) (p q : Bool) → (n == d) ≡ q → (p ≡ true → f d ≡ true) → (p || (f n && q)) ≡ true → f d ≡ true
-member_is_at n f d true q same before is = before refl
-member_is_at n f d false true same before is =
-    let at : d ≡ n = grind (arith, nat_tests) in
-    ap f at ∙ and_first (f n) true is
-member_is_at n f d false false same before is = let clash = and_second (f n) false is in cc
-
-pub member_is : (n : ℕ) (f : ℕ → Bool) (d : ℕ) → is_member (numbers_in n f) d ≡ true → f d ≡ true
-member_is zero f d is = cc
-member_is (suc n) f d is = member_is_at n f d (is_member (numbers_in n f) d) (n == d) refl (member_is n f d) (sym (member_more n f d) ∙ is)
-
-member_not_at : (n : ℕ) (f : ℕ → Bool) (d : ℕ) (p : Bool) → is_member (numbers_in n f) d ≡ p → f d ≡ false → p ≡ false
-member_not_at n f d true is out = let has = member_is n f d is in let clash : true ≡ false = sym has ∙ out in cc
-member_not_at n f d false is out = refl
-
-member_not : (n : ℕ) (f : ℕ → Bool) (d : ℕ) → f d ≡ false → is_member (numbers_in n f) d ≡ false
-member_not n f d out = member_not_at n f d (is_member (numbers_in n f) d) refl out
 
 -- something crosses each cut of the start and a device that is found
 crossed : (links : List LinkOpening) (up : Entity → Bool) (a d : ℕ) (side s : ℕ → Bool) → IsLeastClosed links up a side → side d ≡ true → IsCut s a d → (v : ℕ) → cut_value links up s ≡ v → 0 < v

@@ -1,6 +1,6 @@
 -- What a step more keeps of a search, and what a search that is settled tells of cuts.
 use Rattle.std.proofs.Common.{◌≡◌, ◌≢◌, ℕ, zero, suc, ◌+◌, ◌<◌, ◌≤◌, List, [], ◌∷◌, ◌++◌, length, refl, ap, ◌∙◌, sym, subst, arith, length-append}
-use Rattle.std.specs.Prelude.{Bool, true, false, ◌||◌, ◌==◌, nat_lt, Option, Some, None, is_some, MatchOption, slice_index_or, slice_set, if◌then◌else◌}
+use Rattle.std.specs.Prelude.{Bool, true, false, ◌==◌, nat_lt, Option, Some, None, is_some, MatchOption, slice_index_or, slice_set, if◌then◌else◌}
 use Rattle.std.proofs.lemmas.Bool.Decides.{nat_tests}
 use Rattle.std.proofs.lemmas.List.{get_or_read, get_or_past, get_or-set_same, get_or-set_other, get_or_append_left}
 use Rattle.std.proofs.lemmas.List.Sums.{sum_by-set}
@@ -12,7 +12,7 @@ use Rattle.st_net.specs.Groups.{no_link, IsLink, AreLinks}
 use Rattle.st_net.specs.UpGraph.{is_up_link, Leads}
 use Rattle.st_promise.specs.declared.search.Step.{Step}
 use Rattle.st_promise.specs.declared.search.Came.{Came}
-use Rattle.st_promise.specs.Search.{Visits, no_step, step_at, place_in, is_found, unfound, entered, IsFoundBy, IsSearch, IsNext, IsOver, IsJoined, Extends}
+use Rattle.st_promise.specs.Search.{Visits, no_step, step_at, place_in, is_found, unfound, entered, IsFoundBy, IsSearch, IsNext, Extends}
 
 pub link_at : (n : ℕ) (links : List LinkOpening) (i : ℕ) → AreLinks n links → i < length links → IsLink n (slice_index_or links i no_link)
 link_at n [] i are low = absurd (omega arith)
@@ -61,10 +61,6 @@ found_kept_at s step d false is low has = let other : d ≢ step.device = grind 
 
 pub found_kept : (s : Visits) (step : Step) (d : ℕ) → step.device < length s.places → is_found s d ≡ true → is_found (entered s step) d ≡ true
 found_kept s step d low has = found_kept_at s step d (d == step.device) refl low has
-
-pub found_over_at : (s : Visits) (step : Step) (d : ℕ) (p : Bool) → is_found s d ≡ p → step.device < length s.places → (p || step.device == d) ≡ true → is_found (entered s step) d ≡ true
-found_over_at s step d true is low has = found_kept s step d low is
-found_over_at s step d false is low has = ap is_some (found_same s step d low (grind (arith, nat_tests)))
 
 -- earlier steps stay
 step_kept : (s : Visits) (step : Step) (k : ℕ) → k < length s.steps → step_at (entered s step) k ≡ step_at s k
@@ -133,23 +129,6 @@ entered_is n links up s step is next =
       found = λ k. found_at n links up s step is next k (k == length s.steps) refl;
     }
 
-pub entered_more : (n : ℕ) (links : List LinkOpening) (up : Entity → Bool) (s : Visits) (step : Step) → IsSearch n links up s → IsNext n links up s step → Extends s (entered s step)
-entered_more n links up s step is next =
-    let low : step.device < length s.places = omega (arith, next.low, is.one_each) in
-    record {
-      root = refl;
-      kept = λ d. found_kept s step d low;
-      more = omega (arith, length-append s.steps (step ∷ []));
-      steps = step_kept s step;
-    }
-
-pub entered_joins : (n : ℕ) (links : List LinkOpening) (up : Entity → Bool) (s : Visits) (step : Step) (i : ℕ) → IsSearch n links up s → IsNext n links up s step → IsOver links s i step → IsJoined links up (entered s step) i
-entered_joins n links up s step i is next over is_up =
-    let low : step.device < length s.places = omega (arith, next.low, is.one_each) in
-    let a = found_over_at s step (slice_index_or links i no_link).a (is_found s (slice_index_or links i no_link).a) refl low over.0 in
-    let b = found_over_at s step (slice_index_or links i no_link).b (is_found s (slice_index_or links i no_link).b) refl low over.1 in
-    a ∙ sym b
-
 -- a search that goes on from one that goes on
 pub extends_on : (a b c : Visits) → Extends a b → Extends b c → Extends a c
 extends_on a b c first second = record {
@@ -170,6 +149,3 @@ found_low_at s d false high found =
 
 pub found_low : (s : Visits) (d : ℕ) → is_found s d ≡ true → d < length s.places
 found_low s d found = found_low_at s d (nat_lt d (length s.places)) refl found
-
-pub extends_none : (a : Visits) → Extends a a
-extends_none a = record { root = refl; kept = λ d has. has; more = omega arith; steps = λ k low. refl }

@@ -55,9 +55,6 @@ pub record IsLeft (links : List LinkOpening) (up : Entity → Bool) (s : Visits)
   pub chain : next ≡ last_at links bound d
   pub done : (i : ℕ) → bound ≤ i → i < length links → has_end d (slice_index_or links i no_link) ≡ true → IsWithin links up s i
 
-pub left_all : (links : List LinkOpening) (up : Entity → Bool) (s : Visits) (d : ℕ) (next : Option ℕ) → next ≡ last_at links (length links) d → IsLeft links up s d next
-left_all links up s d next is = record { bound = length links; few = omega arith; chain = is; done = λ i above low. absurd (omega arith) }
-
 pub left_is : (links : List LinkOpening) (up : Entity → Bool) (s : Visits) (d : ℕ) (next same : Option ℕ) → next ≡ same → IsLeft links up s d next → IsLeft links up s d same
 left_is links up s d next same is left = record { bound = left.bound; few = left.few; chain = sym is ∙ left.chain; done = left.done }
 

@@ -1,104 +1,94 @@
-//! Promises judged: whether one holds over a set of entities, and the first that holds over one set and not over another.
-//! Promises of 0 percent alone are judged, which ask for a walk.
+//! Promises judged over the networks of what is up: which is the first that fails, and how a promise breaks.
 
-ghost use Rattle.std.specs.Prelude.{◌≡◌, ℕ, ◌<◌, length, IfOk, if◌then◌else◌, Some, None};
-ghost use Rattle.std.specs.List.{All};
+ghost use Rattle.std.specs.Prelude.{◌≡◌, ℕ, ◌<◌, Bool, length, slice_index, IfOk, if◌then◌else◌, Some, None};
 ghost use Rattle.st_net.specs.Groups.{promise_of};
 ghost use Rattle.st_net.specs.Sets.{is_in, MarksOf};
-ghost use Rattle.st_net.specs.Promises.{is_kept, is_broken, broken_at, first_broken};
-ghost use Rattle.st_promise.specs.Incidence.{IsIncidence};
+ghost use Rattle.st_net.specs.Promises.{need_of, is_kept, is_broken, broken_at, first_broken as first_broken_lem};
+ghost use Rattle.st_promise.specs.UpNetwork.{up_network};
+ghost use Rattle.st_promise.specs.Book.{IsBookOf, first_failed as first_failed_lem};
 
-use crate::incidence::Incidence;
-use crate::search::Search;
-use st_net::{Broken, BrokenKind, EntitySet, GroupTopo};
+use crate::up_network::UpNetwork;
+use st_net::{Broken, BrokenKind, Entity, EntitySet, GroupTopo, Side};
 use std::alloc::{AllocError, Global};
 
-/// Whether promise number `i` holds while these entities are up.
-fn is_promise_held(
+/// The number of the first promise that does not hold in a network.
+fn first_failed(
     alloc: Global,
     topo: &GroupTopo,
-    incidence: &Incidence,
-    up: &EntitySet,
-    i: u32,
-) -> Result<bool, AllocError>
-    requires incidence { IsIncidence (length topo.now.devices) topo.now.links incidence.now }
-    requires promise { i < length topo.now.promises }
-    requires percent { (promise_of topo.now i).percent ≡ 0 }
-    requires marks { MarksOf topo.now up.now }
-    ensures { IfOk result (λ holds. holds ≡ is_kept topo.now (is_in up.now) (promise_of topo.now i)) }
+    needs: &[u64],
+    network: &UpNetwork,
+) -> Result<Option<u32>, AllocError>
+    requires needs { IsBookOf topo.now needs.now }
+    requires nodes { network.now.nodes ≡ length topo.now.devices }
+    ensures { (up : Entity → Bool) → network.now ≡ up_network topo.now up → IfOk result (λ first. first ≡ first_failed_lem topo.now up 0 topo.now.promises) }
 {
-    topo.is_sound();
-    let promise = topo.promise(i);
-    let reached = Search::run(alloc, topo, incidence, up, promise.a)?;
-    Ok(reached.has(promise.b))
+    for i in 0..topo.promise_count() {
+        let need = needs[i as usize];
+        if network.failing_cut(alloc, topo, i, need)?.is_some() {
+            return Ok(Some(i));
+        }
+    }
+    Ok(None)
 }
 
-/// How promise number `i` breaks, if it holds before and not after.
+/// How promise number `i`, which needs so much, breaks, if it holds in the one network and not in the other.
 fn judge_promise(
     alloc: Global,
     topo: &GroupTopo,
-    incidence: &Incidence,
-    before: &EntitySet,
-    after: &EntitySet,
+    before: &UpNetwork,
+    after: &UpNetwork,
     i: u32,
+    need: u64,
 ) -> Result<Option<Broken>, AllocError>
-    requires incidence { IsIncidence (length topo.now.devices) topo.now.links incidence.now }
+    requires before { before.now.nodes ≡ length topo.now.devices }
+    requires after { after.now.nodes ≡ length topo.now.devices }
     requires promise { i < length topo.now.promises }
-    requires percent { (promise_of topo.now i).percent ≡ 0 }
-    requires before { MarksOf topo.now before.now }
-    requires after { MarksOf topo.now after.now }
-    ensures { IfOk result (λ broken. broken ≡ (if is_broken topo.now (is_in before.now) (is_in after.now) (promise_of topo.now i) then Some (broken_at topo.now (is_in after.now) i (promise_of topo.now i)) else None)) }
+    requires need { need ≡ need_of topo.now (promise_of topo.now i) }
+    ensures { (up down : Entity → Bool) → before.now ≡ up_network topo.now up → after.now ≡ up_network topo.now down → IfOk result (λ broken. broken ≡ (if is_broken topo.now up down (promise_of topo.now i) then Some (broken_at topo.now down i (promise_of topo.now i)) else None)) }
 {
-    topo.is_sound();
-    let promise = topo.promise(i);
-    let reached = Search::run(alloc, topo, incidence, after, promise.a)?;
-    if reached.has(promise.b) {
+    let Some(cut) = after.failing_cut(alloc, topo, i, need)? else {
+        return Ok(None);
+    };
+    if before.failing_cut(alloc, topo, i, need)?.is_some() {
         return Ok(None);
     }
-    if !is_promise_held(alloc, topo, incidence, before, i)? {
-        return Ok(None);
-    }
+    let kind = if cut.value == 0 {
+        BrokenKind::CutOff
+    } else {
+        BrokenKind::Short
+    };
     Ok(Some(Broken {
         promise: i,
-        kind: BrokenKind::CutOff,
-        need: 0,
-        has: 0,
-        side: reached.side(alloc)?,
+        kind,
+        need,
+        has: cut.value,
+        side: Side::from_slice(alloc, cut.side.as_slice())?,
     }))
 }
 
-/// Whether promise number `i` holds while these entities are up: a walk joins its pair. Linear in devices and links.
-pub fn promise_holds(
+/// The first promise, in order, that holds before and not after.
+pub(crate) fn first_broken(
     alloc: Global,
     topo: &GroupTopo,
-    up: &EntitySet,
-    i: u32,
-) -> Result<bool, AllocError>
-    requires promise { i < length topo.now.promises }
-    requires percent { (promise_of topo.now i).percent ≡ 0 }
-    requires marks { MarksOf topo.now up.now }
-    ensures { IfOk result (λ holds. holds ≡ is_kept topo.now (is_in up.now) (promise_of topo.now i)) }
-{
-    let incidence = Incidence::of(alloc, topo)?;
-    is_promise_held(alloc, topo, &incidence, up, i)
-}
-
-/// The first promise, in order, that holds before and not after: its number, and the devices that walks from its first end
-/// still reach. Two searches for each promise at most.
-pub fn judge_pairs(
-    alloc: Global,
-    topo: &GroupTopo,
+    needs: &[u64],
     before: &EntitySet,
     after: &EntitySet,
 ) -> Result<Option<Broken>, AllocError>
-    requires percent { All (λ p. p.percent ≡ 0) topo.now.promises }
+    requires needs { IsBookOf topo.now needs.now }
     requires before { MarksOf topo.now before.now }
     requires after { MarksOf topo.now after.now }
-    ensures { IfOk result (λ broken. broken ≡ first_broken topo.now (is_in before.now) (is_in after.now) 0 topo.now.promises) }
+    ensures { IfOk result (λ broken. broken ≡ first_broken_lem topo.now (is_in before.now) (is_in after.now) 0 topo.now.promises) }
 {
-    let incidence = Incidence::of(alloc, topo)?;
-    for i in 0..topo.promise_count() {
-        if let Some(broken) = judge_promise(alloc, topo, &incidence, before, after, i)? {
+    let after_network = UpNetwork::of(alloc, topo, after)?;
+    // Where all promises hold after, which is common, the other network is not needed.
+    let Some(first) = first_failed(alloc, topo, needs, &after_network)? else {
+        return Ok(None);
+    };
+    let before_network = UpNetwork::of(alloc, topo, before)?;
+    for i in first..topo.promise_count() {
+        let need = needs[i as usize];
+        let judged = judge_promise(alloc, topo, &before_network, &after_network, i, need)?;
+        if let Some(broken) = judged {
             return Ok(Some(broken));
         }
     }

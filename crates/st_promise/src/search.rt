@@ -10,6 +10,7 @@ ghost use Rattle.st_promise.specs.Search.{Visits, step_at, is_found, IsSearchOfS
 ghost use Rattle.st_promise.specs.Incidence.{IsIncidence};
 
 use crate::incidence::Incidence;
+use crate::up::is_up;
 use crate::walk::Walk;
 use st_net::{Entity, EntitySet, GroupTopo, Side};
 use std::alloc::{AllocError, Global};
@@ -43,17 +44,6 @@ impl Model for Search {
     ghost Value = { Visits };
 
     ghost view = { λ s. record { root = s.root; places = s.places.items; steps = s.steps.items } };
-}
-
-/// Whether a link is up, with both its ends.
-fn is_up(topo: &GroupTopo, up: &EntitySet, link: u32) -> bool
-    requires link { link < length topo.now.links }
-    requires marks { MarksOf topo.now up.now }
-    ensures { result ≡ is_up_link (is_in up.now) link (slice_index_or topo.now.links link no_link) }
-{
-    topo.is_sound();
-    let (a, b) = topo.ends(link);
-    up.has(Entity::Link(link)) && up.has(Entity::Device(a)) && up.has(Entity::Device(b))
 }
 
 impl Search {
