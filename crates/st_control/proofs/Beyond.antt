@@ -1,6 +1,6 @@
 -- Entities that a group does not have: they open with nothing, and are in no set.
-use Rattle.std.proofs.Common.{◌≡◌, ℕ, ◌+◌, ◌<◌, ◌≤◌, List, length, take, drop, refl, sym, ◌∙◌, ap, inl, inr, arith}
-use Rattle.std.specs.Prelude.{Bool, true, false, not, ◌&&◌, ◌||◌, ◌==◌, nat_lt, if◌then◌else◌, slice_index_or, ◌⊎◌}
+use Rattle.std.proofs.Common.{◌≡◌, ℕ, ◌≤◌, List, length, take, drop, refl, sym, ◌∙◌, arith}
+use Rattle.std.specs.Prelude.{Bool, true, false, not, ◌&&◌, nat_lt, if◌then◌else◌}
 use Rattle.std.proofs.lemmas.Bool.Decides.{nat_tests}
 use Rattle.std.proofs.lemmas.List.{get_or_past, length-take, length-drop}
 use Rattle.st_net.specs.Levels.{carries}
@@ -10,10 +10,10 @@ use Rattle.st_net.specs.declared.entity.Entity.TheVariants.{Device, Link}
 use Rattle.st_net.specs.declared.message.Report.{Report}
 use Rattle.st_net.specs.Groups.{Group, no_device, no_link, opening_of}
 use Rattle.st_net.specs.Sets.{Marks, MarksOf, is_in}
-use Rattle.st_event.specs.Observed.{opening_report, is_sure_by, is_settled_by}
+use Rattle.st_event.specs.Observed.{opening_report}
 use Rattle.st_overlay.specs.Values.{Values}
-use Rattle.st_rows.specs.Reports.{report_in}
-use Rattle.st_control.specs.Target.{entity_count, stamp_in}
+use Rattle.st_store.specs.Reports.{report_in}
+use Rattle.st_control.specs.Stamps.{entity_count}
 use Rattle.st_control.specs.Sure.{shown_by, is_before_link, MarksShown}
 use Rattle.st_control.specs.declared.settled.Shown.TheVariants.{Sure}
 

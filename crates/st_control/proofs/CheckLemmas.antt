@@ -1,7 +1,6 @@
 -- What the verdict and the check of a proposal come to, over what a checker keeps.
-use Rattle.std.proofs.Math.Seq.{take-append_seam}
-use Rattle.std.proofs.Common.{◌≡◌, ℕ, ◌+◌, ◌<◌, List, [], ◌∷◌, ◌++◌, length, take, refl, sym, ◌∙◌, ap, subst, arith}
-use Rattle.std.specs.Prelude.{Bool, true, false, not, ◌&&◌, Option, Some, None, Result, IfOk, option_map, if◌then◌else◌, slice_index_or, remove}
+use Rattle.std.proofs.Common.{◌≡◌, ℕ, List, length-append, refl, sym, ◌∙◌, ap}
+use Rattle.std.specs.Prelude.{Bool, true, false, not, ◌&&◌, nat_le, Option, Some, None, option_map, if◌then◌else◌}
 use Rattle.st_net.specs.declared.entity.Entity.{Entity}
 use Rattle.st_net.specs.declared.entity.Var.{Var}
 use Rattle.st_net.specs.declared.entity.AppId.{AppId}
@@ -15,22 +14,26 @@ use Rattle.st_event.specs.declared.event.Proposal.{Proposal}
 use Rattle.st_event.specs.declared.event.Event.TheVariants.{Check}
 use Rattle.st_event.specs.declared.reply.Cause.{Cause}
 use Rattle.st_event.specs.declared.reply.Cause.TheVariants.{Broken as broken_cause}
-use Rattle.st_event.specs.declared.reply.Verdict.{Verdict}
 use Rattle.st_event.specs.declared.reply.Verdict.TheVariants.{Accepted, Refused}
-use Rattle.st_event.specs.declared.reply.Reply.TheVariants.{Decided}
 use Rattle.st_event.specs.Judge.{cause_or, refusal_or_version, first_lack, first_locked}
-use Rattle.st_event.specs.Standing.{Standing, Wires, sure_in, stamp_altered}
+use Rattle.st_event.specs.Standing.{sure_in}
 use Rattle.st_overlay.specs.Values.{value_in}
 use Rattle.st_control.specs.declared.control.Judged.{Judged}
-use Rattle.st_control.specs.Target.{TargetView, MergesAccepted, stamp_in}
-use Rattle.st_control.specs.Checker.{Checker, standing_in, verdict_in, IsJudgedIn, Moves}
+use Rattle.st_event.specs.Proposals.{first_rows}
+use Rattle.st_store.specs.Changes.{value_at}
+use Rattle.st_store.specs.Store.{StoreView, Decides}
+use Rattle.st_control.specs.Stamps.{stamp_in}
+use Rattle.st_control.specs.Checker.{Checker, standing_in, Moves}
+use Rattle.st_control.specs.Verdict.{IsFirst, IsLatest, verdict_in, row_refusal, sure_without, first_broken_without, AreJudgedIn, IsJudgedIn, decided_as}
+use Rattle.st_control.proofs.StampLaws.{stamped_is}
 
 -- the first broken promise, of sets that are equal to these
-pub broken_is : {E : Type 0} (g : Group) (set copy after changed : Marks) (sure : Entity → Bool) (result : Result (Option Broken) E) → is_in set ≡ sure → copy ≡ set → is_in after ≡ (λ e. is_in copy e && not (is_in changed e)) → IfOk result (λ broken. broken ≡ first_broken g (is_in set) (is_in after) 0 g.promises) → IfOk result (λ broken. broken ≡ first_broken g sure (λ e. sure e && not (is_in changed e)) 0 g.promises)
-broken_is g set copy after changed sure result is copied left answer =
+pub broken_is : (g : Group) (set copy after changed : Marks) (sure : Entity → Bool) (broken : Option Broken) → is_in set ≡ sure → copy ≡ set → is_in after ≡ (λ e. is_in copy e && not (is_in changed e)) → broken ≡ first_broken g (is_in set) (is_in after) 0 g.promises → broken ≡ first_broken g sure (λ e. sure e && not (is_in changed e)) 0 g.promises
+broken_is g set copy after changed sure broken is copied left answer =
     let without : is_in after ≡ (λ e. sure e && not (is_in changed e)) = left ∙ ap (λ (s : Marks). λ (e : Entity). is_in s e && not (is_in changed e)) copied ∙ ap (λ (f : Entity → Bool). λ (e : Entity). f e && not (is_in changed e)) is in
-    subst (λ (f : Entity → Bool). IfOk result (λ broken. broken ≡ first_broken g sure f 0 g.promises)) without
-    (subst (λ (f : Entity → Bool). IfOk result (λ broken. broken ≡ first_broken g f (is_in after) 0 g.promises)) is answer)
+    answer
+    ∙ ap (λ (f : Entity → Bool). first_broken g f (is_in after) 0 g.promises) is
+    ∙ ap (λ (f : Entity → Bool). first_broken g sure f 0 g.promises) without
 
 -- the three steps of a verdict
 none_first : (a b c : Option Cause) → cause_or a b ≡ None → cause_or a (cause_or b c) ≡ c
@@ -43,42 +46,53 @@ some_first None None c cause some = cc
 some_first None (Some x) c cause some = some
 some_first (Some x) b c cause some = some
 
-abbrev pub row_step : Checker → AppId → List Row → Option Cause
-row_step k app rows = cause_or (first_lack k.group (standing_in k).observed (target_with (value_in k.target.values) rows) rows) (first_locked (standing_in k).holder app rows)
-
-abbrev pub without : Checker → Marks → Entity → Bool
-without k changed = λ e. sure_in k.group (standing_in k) e && not (is_in changed e)
-
-same_without : (k : Checker) (changed : Marks) (rows : List Row) → is_in changed ≡ alters k.group (value_in k.target.values) rows → without k changed ≡ without_altered k.group (sure_in k.group (standing_in k)) (value_in k.target.values) rows
+same_without : (k : Checker) (changed : Marks) (rows : List Row) → is_in changed ≡ alters k.group (value_in k.store.target) rows → sure_without k changed ≡ without_altered k.group (sure_in k.group (standing_in k)) (value_in k.store.target) rows
 same_without k changed rows is = ap (λ (f : Entity → Bool). λ (e : Entity). sure_in k.group (standing_in k) e && not (f e)) is
 
-pub verdict_barred : (k : Checker) (app : AppId) (rows : List Row) (cause : Cause) → Some cause ≡ row_step k app rows → Refused cause ≡ verdict_in k.group (standing_in k) app rows
-verdict_barred k app rows cause some = ap (λ (c : Option Cause). refusal_or_version c k.target.version) (sym (some_first (first_lack k.group (standing_in k).observed (target_with (value_in k.target.values) rows) rows) (first_locked (standing_in k).holder app rows) _ cause (sym some)))
+pub verdict_barred : (k : Checker) (app : AppId) (rows : List Row) (cause : Cause) → Some cause ≡ row_refusal k app rows → Refused cause ≡ verdict_in k.group (standing_in k) app rows
+verdict_barred k app rows cause some = ap (λ (c : Option Cause). refusal_or_version c k.store.version) (sym (some_first (first_lack k.group (standing_in k).observed (target_with (value_in k.store.target) rows) rows) (first_locked (standing_in k).holder app rows) _ cause (sym some)))
 
-pub verdict_by : (k : Checker) (app : AppId) (rows : List Row) (changed : Marks) (broken : Option Broken) → None ≡ row_step k app rows → is_in changed ≡ alters k.group (value_in k.target.values) rows → broken ≡ first_broken k.group (sure_in k.group (standing_in k)) (without k changed) 0 k.group.promises → refusal_or_version (option_map broken_cause broken) k.target.version ≡ verdict_in k.group (standing_in k) app rows
+pub verdict_by : (k : Checker) (app : AppId) (rows : List Row) (changed : Marks) (broken : Option Broken) → None ≡ row_refusal k app rows → is_in changed ≡ alters k.group (value_in k.store.target) rows → broken ≡ first_broken_without k changed → refusal_or_version (option_map broken_cause broken) k.store.version ≡ verdict_in k.group (standing_in k) app rows
 verdict_by k app rows changed broken none is breaks =
-    ap (λ (c : Option Cause). refusal_or_version c k.target.version)
+    ap (λ (c : Option Cause). refusal_or_version c k.store.version)
     (ap (option_map broken_cause) breaks
     ∙ ap (λ (f : Entity → Bool). option_map broken_cause (first_broken k.group (sure_in k.group (standing_in k)) f 0 k.group.promises)) (same_without k changed rows is)
-    ∙ sym (none_first (first_lack k.group (standing_in k).observed (target_with (value_in k.target.values) rows) rows) (first_locked (standing_in k).holder app rows) _ (sym none)))
+    ∙ sym (none_first (first_lack k.group (standing_in k).observed (target_with (value_in k.store.target) rows) rows) (first_locked (standing_in k).holder app rows) _ (sym none)))
 
--- the stamps after a merge
-pub stamped_is : (g : Group) (s : Marks) (target : Entity → Var → ℕ) (rows : List Row) (n : ℕ) (old new : List ℕ) → is_in s ≡ alters g target rows → stamp_in g new ≡ (λ e. if is_in s e then n else stamp_in g old e) → stamp_in g new ≡ stamp_altered g target rows n (stamp_in g old)
-stamped_is g s target rows n old new is stamps = stamps ∙ ap (λ (f : Entity → Bool). λ (e : Entity). if f e then n else stamp_in g old e) is
-
--- a queue that is not empty is its first proposal and the rest
-pub first_and_rest : (queue : List Proposal) (d : Proposal) → 0 < length queue → queue ≡ slice_index_or queue 0 d ∷ remove queue 0
-first_and_rest [] d some = absurd (omega arith)
-first_and_rest (p ∷ ps) d some = refl
-
--- deciding the oldest proposal is a move of the checker
-pub check_moves : (k : Checker) (t : TargetView) (rest : List Proposal) (p : Proposal) (n : ℕ) (judged : Judged) → k.queue ≡ p ∷ rest → IsJudgedIn k p judged → MergesAccepted k.group k.target t n p.rows judged.verdict → Moves k (record k { target = t; queue = rest; decided = k.decided + 1 }) n Check (Decided (record { ticket = k.decided + 1; entry = n; verdict = judged.verdict }))
-check_moves k t rest p n judged queue is merges = record {
-  reply = λ w. rw (queue, is.decision) refl;
-  standing = λ w. rw (queue, merges.merged, merges.stamped, merges.counted) refl;
-  group = refl;
+-- what stands against a proposal by what stands against its rows
+pub judged_barred : (k : Checker) (p : Proposal) (rows : Judged) (cause : Cause) → AreJudgedIn k p rows → rows.refusal ≡ Some cause → IsJudgedIn k p (record { refusal = Some cause; changed = rows.changed })
+judged_barred k p rows cause are some = record {
+  decision = verdict_barred k p.app p.rows cause (sym some ∙ are.first);
+  marks = are.marks;
+  altered = are.altered;
 }
 
--- what was lent as a slice is written back whole
-pub whole : (n : ℕ) (new rest : List ℕ) → n ≡ length new → take n (new ++ rest) ≡ new
-whole n new rest is = rw is (take-append_seam new rest)
+pub judged_by : (k : Checker) (p : Proposal) (rows : Judged) (cause : Option Cause) → AreJudgedIn k p rows → rows.refusal ≡ None → cause ≡ option_map broken_cause (first_broken_without k rows.changed) → IsJudgedIn k p (record { refusal = cause; changed = rows.changed })
+judged_by k p rows cause are none is = record {
+  decision = ap (λ (c : Option Cause). refusal_or_version c k.store.version) is ∙ verdict_by k p.app p.rows rows.changed (first_broken_without k rows.changed) (sym none ∙ are.first) are.altered refl;
+  marks = are.marks;
+  altered = are.altered;
+}
+
+-- deciding the oldest proposal moves the checker: where it is refused
+pub refused_moves : (k : Checker) (new : StoreView) (p : Proposal) (n : ℕ) (cause : Cause) (judged : Judged) → IsFirst k.store p → IsJudgedIn k p judged → judged.refusal ≡ Some cause → Decides k.store new n false → Moves k (record k { store = new }) n Check (decided_as k n (Refused cause))
+refused_moves k new p n cause judged first is some decides =
+    let decision : verdict_in k.group (standing_in k) p.app p.rows ≡ Refused cause = sym is.decision ∙ ap (λ (c : Option Cause). refusal_or_version c k.store.version) some in
+    record {
+      reply = λ w. rw (first, decision) refl;
+      standing = λ w. rw (decides.pending, decides.tickets, decides.decided, decides.version, decides.target, decides.observed, length-append, first) refl;
+      group = refl;
+      versions = decides.versions;
+    }
+
+-- and where it is accepted
+pub accepted_moves : (k : Checker) (new : StoreView) (stamps : List ℕ) (p : Proposal) (n version : ℕ) (judged : Judged) → IsFirst k.store p → IsJudgedIn k p judged → judged.refusal ≡ None → IsLatest k.store → Decides k.store new n true → version ≡ new.version → stamp_in k.group stamps ≡ (λ e. if is_in judged.changed e then n else stamp_in k.group k.stamps e) → Moves k (record k { store = new; stamps = stamps }) n Check (decided_as k n (Accepted version))
+accepted_moves k new stamps p n version judged first is none latest decides counted stamped =
+    let decision : verdict_in k.group (standing_in k) p.app p.rows ≡ Accepted version = sym is.decision ∙ ap (λ (c : Option Cause). refusal_or_version c k.store.version) none ∙ ap Accepted (sym (counted ∙ decides.version)) in
+    let altered = stamped_is k.group judged.changed (value_in k.store.target) p.rows n k.stamps stamps is.altered stamped in
+    record {
+      reply = λ w. rw (first, decision) refl;
+      standing = λ w. rw (decides.pending, decides.tickets, decides.decided, decides.version, decides.target, decides.observed, length-append, altered, first) refl;
+      group = refl;
+      versions = decides.versions ∙ ap (λ (last : Entity → Var → ℕ). λ (v : ℕ). if nat_le v k.store.version then value_at k.store.versions v else target_with last (first_rows k.store.pending)) latest;
+    }

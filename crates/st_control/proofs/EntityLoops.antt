@@ -1,13 +1,12 @@
 -- Loops over the entities of a group in order: what one more entity changes, and what all of them come to.
-use Rattle.std.proofs.Common.{◌≡◌, ℕ, ◌+◌, ◌<◌, ◌≤◌, List, length, refl, sym, ◌∙◌, arith}
-use Rattle.std.specs.Prelude.{Bool, true, false, not, ◌&&◌, ◌||◌, ◌==◌, nat_lt, if◌then◌else◌, slice_index_or}
+use Rattle.std.proofs.Common.{◌≡◌, ℕ, ◌+◌, length, refl, ◌∙◌, arith}
+use Rattle.std.specs.Prelude.{Bool, true, false, not, ◌&&◌, ◌||◌, nat_lt, if◌then◌else◌}
 use Rattle.std.proofs.lemmas.Bool.Decides.{nat_tests}
-use mathlib.Core.Path.{fun_ext}
 use Rattle.st_net.specs.declared.entity.Entity.{Entity}
 use Rattle.st_net.specs.declared.entity.Entity.TheVariants.{Device, Link}
 use Rattle.st_net.specs.Entities.{is_same_entity}
 use Rattle.st_net.specs.Groups.{Group, IsEntityOf}
-use Rattle.st_net.specs.Sets.{Marks, MarksOf, IsMarkIn, HasSameMarks, is_in, set_with, set_without}
+use Rattle.st_net.specs.Sets.{Marks, MarksOf, IsMarkIn, HasSameMarks, set_with, set_without}
 use Rattle.st_net.proofs.Tests.{same_entity}
 use Rattle.st_control.specs.Sure.{is_device_before, is_before_link}
 

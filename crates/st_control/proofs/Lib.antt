@@ -1,5 +1,6 @@
 pub mod EntityLoops
 pub mod Beyond
-pub mod Openings
+pub mod StampLaws
+pub mod StoreLaws
+pub mod ReportLaws
 pub mod CheckLemmas
-pub mod ShownLemmas

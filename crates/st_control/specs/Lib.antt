@@ -1,4 +1,5 @@
-pub mod Target
+pub mod Stamps
 pub mod Checker
+pub mod Verdict
 pub mod Inside
 pub mod Sure

@@ -1,38 +1,33 @@
 //! The checker of one group. What it keeps is enough to answer an event as the group's whole journal calls for.
 
-ghost use Rattle.std.specs.Prelude.{◌≡◌, ℕ, ◌<◌, ◌^◌, ◌+◌, ◌&&◌, not, All, length, IfOk, OnErr};
+ghost use Rattle.std.specs.Prelude.{◌≡◌, option_map, ℕ, ◌<◌, ◌^◌, ◌+◌, length, IfOk, OnErr};
 ghost use Rattle.st_net.specs.declared.entity.Entity.{Entity};
 ghost use Rattle.st_net.specs.Groups.{IsEntityOf};
-ghost use Rattle.st_net.specs.Merge.{alters};
-ghost use Rattle.st_net.specs.Promises.{first_broken};
 ghost use Rattle.st_net.specs.Ranges.{RowsFit};
 ghost use Rattle.st_net.specs.Sets.{is_in, MarksOf};
-ghost use Rattle.st_event.specs.declared.event.Event.TheVariants.{Submit, Check as check_event};
+ghost use Rattle.st_event.specs.declared.event.Event.TheVariants.{Submit, Check as check_event, Lock, Unlock};
+ghost use Rattle.st_event.specs.declared.event.Proposal.{Proposal};
+ghost use Rattle.st_event.specs.declared.reply.Cause.TheVariants.{Broken as broken_cause};
 ghost use Rattle.st_event.specs.Standing.{sure_in, settled_in};
-ghost use Rattle.st_overlay.specs.Values.{value_in, IsTableOf};
-ghost use Rattle.st_control.specs.Checker.{Moves, IsStart, standing_in, verdict_in, IsJudgedIn, reply_of_put, reply_of_check};
-ghost use Rattle.st_control.specs.Inside.{IsWalkAlone};
+ghost use Rattle.st_locks.specs.LockRows.{LocksOf};
+ghost use Rattle.st_store.specs.Store.{IsStoreOf, proposal_of};
+ghost use Rattle.st_control.specs.Checker.{Moves, IsStart, standing_in, reply_of_put, reply_of_check, reply_of_grant, reply_of_release};
+ghost use Rattle.st_control.specs.Verdict.{IsFirst, IsLatest, first_broken_without, AreJudgedIn, IsJudgedIn, decided_as};
+ghost use Rattle.st_control.specs.Stamps.{entity_count};
+ghost use Rattle.st_control.specs.Sure.{MarksShown};
 
-use crate::settled::{Shown, opening_reports};
+use crate::settled::Shown;
+use crate::stamps::{opening_stamps, stamp_all};
 use crate::sure::{shown_set, take_out};
-use crate::target::Target;
-use st_event::{Cause, MAX_PENDING, Proposal, Receipt, Reply, Rows, Verdict};
-use st_locks::LockTable;
-use st_net::{AppId, Broken, EntitySet, GroupTopo, Report, Row};
-use st_overlay::{Table, changed};
-use st_promise::judge_pairs;
+use st_event::{Cause, Receipt, Rows, Verdict};
+use st_locks::{Grant, LockTable, Release};
+use st_net::{AppId, Entity, EntitySet, GroupTopo, Prio};
+use st_overlay::changed;
+use st_promise::Book;
 use st_rows::judge_rows;
+use st_store::{Pending, Put, Store};
 use std::alloc::{AllocError, Global};
 use std::marker::Model;
-
-/// The answer to a proposal.
-#[derive(Clone, Copy, Debug, PartialEq, Eq)]
-pub enum Put {
-    /// It waits under this ticket, counted from 1.
-    Ticket(u32),
-    /// So many wait that it was dropped.
-    Full { pending: u32 },
-}
 
 /// The answer to a check.
 #[derive(Drop)]
@@ -43,32 +38,10 @@ pub enum Check {
     Idle,
 }
 
-impl From<Put> for Reply {
-    ghost from_gives = { λ put reply. reply ≡ reply_of_put put };
-
-    fn from(put: Put) -> Reply {
-        match put {
-            Put::Ticket(ticket) => Reply::Queued { ticket },
-            Put::Full { pending } => Reply::Full { pending },
-        }
-    }
-}
-
-impl From<Check> for Reply {
-    ghost from_gives = { λ check reply. reply ≡ reply_of_check check };
-
-    fn from(check: Check) -> Reply {
-        match check {
-            Check::Decided(receipt) => Reply::Decided(receipt),
-            Check::Idle => Reply::Idle,
-        }
-    }
-}
-
-/// A verdict, and the entities that its proposal alters.
+/// What stands against a proposal, as far as it was judged, and the entities that its rows alter.
 #[derive(Drop)]
 struct Judged {
-    verdict: Verdict,
+    refusal: Option<Cause>,
     changed: EntitySet,
 }
 
@@ -77,12 +50,10 @@ struct Judged {
 pub struct Control {
     alloc: Global,
     topo: GroupTopo,
-    target: Target,
+    book: Book,
+    store: Store,
+    stamps: Vec<u32>,
     locks: LockTable,
-    observed: Vec<Report>,
-    queue: Vec<Proposal>,
-    tickets: u32,
-    decided: u32,
 }
 
 impl Model for Control {
@@ -100,45 +71,67 @@ impl Model for Control {
 impl Control {
     /// The checker of a group at its opening.
     pub fn start(alloc: Global, topo: GroupTopo) -> Result<Control, AllocError>
-        requires { All IsWalkAlone topo.promises }
         ensures { IfOk result (IsStart topo) }
     {
-        let target = Target::opening(alloc, &topo)?;
+        let book = Book::start(alloc, &topo)?;
+        let store = Store::start(alloc, &topo)?;
+        let stamps = opening_stamps(alloc, &topo)?;
         let locks = LockTable::start(alloc, &topo)?;
-        let observed = opening_reports(alloc, &topo)?;
         Ok(Control {
             alloc,
             topo,
-            target,
+            book,
+            store,
+            stamps,
             locks,
-            observed,
-            queue: Vec::new(alloc),
-            tickets: 0,
-            decided: 0,
         })
     }
 
-    /// The group, whose promises ask for a walk alone.
+    /// The group.
     pub fn topo(&self) -> &GroupTopo
         ensures topo { result.now ≡ self.now.group }
-        ensures shares { All IsWalkAlone result.now.promises }
     {
         &self.topo
     }
 
-    /// The values of the target, for each entity of the group.
-    pub fn table(&self) -> &Table
-        ensures table { result.now ≡ self.now.target.values }
-        ensures of { IsTableOf self.now.group result.now }
+    /// The proposals, the target with its versions, and the kept reports.
+    pub fn store(&self) -> &Store
+        ensures store { result.now ≡ self.now.store }
+        ensures of { IsStoreOf self.now.group result.now }
     {
-        self.target.table()
+        &self.store
     }
 
-    /// How many proposals wait.
-    pub fn pending(&self) -> usize
-        ensures { result ≡ length self.now.queue }
+    /// The locks.
+    pub fn locks(&self) -> &LockTable
+        ensures locks { result.now ≡ self.now.locks }
+        ensures of { LocksOf self.now.group result.now }
     {
-        self.queue.len()
+        &self.locks
+    }
+
+    /// The stamp of each entity, in the order of entities: the number of the last entry that changed or renewed its target, and 0
+    /// before any.
+    pub fn stamps(&self) -> &[u32]
+        ensures stamps { result.now ≡ self.now.stamps }
+        ensures count { length result.now ≡ entity_count self.now.group }
+    {
+        self.stamps.as_slice()
+    }
+
+    /// The entities that are settled, or sure.
+    fn shown(&self, shown: Shown) -> Result<EntitySet, AllocError>
+        ensures shown { IfOk result (MarksShown shown self.now.group self.now.store.observed self.now.stamps self.now.store.target) }
+        ensures reports { length self.now.store.observed ≡ entity_count self.now.group }
+    {
+        shown_set(
+            self.alloc,
+            shown,
+            &self.topo,
+            self.store.target(),
+            self.store.observed(),
+            self.stamps.as_slice(),
+        )
     }
 
     /// The sure entities.
@@ -146,14 +139,7 @@ impl Control {
         ensures of { IfOk result (MarksOf self.now.group) }
         ensures sure { IfOk result (λ set. is_in set ≡ sure_in self.now.group (standing_in self.now)) }
     {
-        shown_set(
-            self.alloc,
-            Shown::Sure,
-            &self.topo,
-            self.target.table(),
-            self.observed.as_slice(),
-            self.target.stamps(),
-        )
+        self.shown(Shown::Sure)
     }
 
     /// The settled entities of the group.
@@ -161,82 +147,92 @@ impl Control {
         ensures of { IfOk result (MarksOf self.now.group) }
         ensures settled { IfOk result (λ set. (e : Entity) → IsEntityOf self.now.group e → is_in set e ≡ settled_in self.now.group (standing_in self.now) e) }
     {
-        shown_set(
-            self.alloc,
-            Shown::Settled,
-            &self.topo,
-            self.target.table(),
-            self.observed.as_slice(),
-            self.target.stamps(),
-        )
+        self.shown(Shown::Settled)
     }
 
     /// Puts a proposal at the end of the queue, unless 64 wait: then it is dropped. At `Err` nothing has changed.
     pub fn submit(&mut self, app: AppId, rows: Rows) -> Result<Put, AllocError>
         requires fits { RowsFit self.old.group rows }
-        requires tickets { self.old.tickets + 1 < 2 ^ 32 }
+        requires tickets { self.old.store.tickets + 1 < 2 ^ 32 }
         ensures ok { IfOk result (λ put. (n : ℕ) → Moves self.old self.new n (Submit app rows) (reply_of_put put)) }
         ensures err { OnErr result (self.new ≡ self.old) }
     {
-        let pending = self.queue.len();
-        if pending >= MAX_PENDING {
-            return Ok(Put::Full {
-                pending: pending as u32,
-            });
-        }
-        self.queue.push(Proposal { app, rows })?;
-        self.tickets += 1;
-        Ok(Put::Ticket(self.tickets))
+        self.store.put(app, rows)
     }
 
-    /// The first promise that would break while these entities change.
-    fn broken(&self, changed: &EntitySet) -> Result<Option<Broken>, AllocError>
-        requires { MarksOf self.now.group changed.now }
-        ensures { IfOk result (λ broken. broken ≡ first_broken self.now.group (sure_in self.now.group (standing_in self.now)) (λ e. sure_in self.now.group (standing_in self.now) e && not (is_in changed.now e)) 0 self.now.group.promises) }
+    /// What stands against a proposal in its rows by themselves.
+    fn rows_judged(&self, proposal: &Pending) -> Result<Judged, AllocError>
+        requires { RowsFit self.now.group proposal.now.rows }
+        ensures judged { IfOk result (AreJudgedIn self.now (proposal_of proposal.now)) }
+        ensures latest { IsLatest self.now.store }
+    {
+        let rows = proposal.rows.as_slice();
+        let table = self.store.target();
+        let changed = changed(self.alloc, &self.topo, table, rows)?;
+        let refusal = judge_rows(
+            &self.topo,
+            self.store.observed(),
+            table,
+            &self.locks,
+            proposal.app,
+            rows,
+        );
+        Ok(Judged { refusal, changed })
+    }
+
+    /// The first promise that would break while these entities change, as a cause.
+    fn broken(&mut self, changed: &EntitySet) -> Result<Option<Cause>, AllocError>
+        requires { MarksOf self.old.group changed.now }
+        ensures broken { IfOk result (λ cause. cause ≡ option_map broken_cause (first_broken_without self.old changed.now)) }
+        ensures same { self.new ≡ self.old }
     {
         let sure = self.sure()?;
         let mut after = sure.copy(self.alloc)?;
         take_out(&self.topo, &mut after, changed);
-        judge_pairs(self.alloc, &self.topo, &sure, &after)
+        let broken = self.book.judge_pairs(&self.topo, &sure, &after)?;
+        Ok(broken.map(Cause::Broken))
     }
 
-    /// The verdict on an application's rows, which alter these entities.
-    fn verdict(&self, app: AppId, rows: &[Row], changed: &EntitySet) -> Result<Verdict, AllocError>
-        requires fits { RowsFit self.now.group rows.now }
-        requires marks { MarksOf self.now.group changed.now }
-        requires changed { is_in changed.now ≡ alters self.now.group (value_in self.now.target.values) rows.now }
-        requires version { self.now.target.version + 1 < 2 ^ 32 }
-        ensures { IfOk result (λ verdict. verdict ≡ verdict_in self.now.group (standing_in self.now) app rows.now) }
+    /// What stands against a proposal of whose rows this is known: where nothing does, the promises are judged.
+    fn judged(&mut self, rows: Judged) -> Result<Judged, AllocError>
+        requires marks { MarksOf self.old.group rows.changed }
+        ensures judged { (p : Proposal) → AreJudgedIn self.old p rows → IfOk result (IsJudgedIn self.old p) }
+        ensures same { self.new ≡ self.old }
     {
-        let refusal = judge_rows(
-            &self.topo,
-            self.observed.as_slice(),
-            self.target.table(),
-            &self.locks,
-            app,
-            rows,
-        );
-        if let Some(cause) = refusal {
-            return Ok(Verdict::Refused(cause));
-        }
-        match self.broken(changed)? {
-            Some(broken) => Ok(Verdict::Refused(Cause::Broken(broken))),
-            None => Ok(Verdict::Accepted {
-                version: self.target.version() + 1,
+        let Judged { refusal, changed } = rows;
+        match refusal {
+            Some(cause) => Ok(Judged {
+                refusal: Some(cause),
+                changed,
+            }),
+            None => Ok(Judged {
+                refusal: self.broken(&changed)?,
+                changed,
             }),
         }
     }
 
-    /// The verdict on a proposal, and the entities that it alters.
-    fn judged(&self, proposal: &Proposal) -> Result<Judged, AllocError>
-        requires fits { RowsFit self.now.group proposal.now.rows }
-        requires version { self.now.target.version + 1 < 2 ^ 32 }
-        ensures { IfOk result (IsJudgedIn self.now proposal.now) }
+    /// Decides the oldest proposal, of which this was judged, as entry number `entry`. At `Err` nothing has changed.
+    fn decide(&mut self, entry: u32, judged: Judged) -> Result<Verdict, AllocError>
+        requires pending { 0 < length self.old.store.pending }
+        requires marks { MarksOf self.old.group judged.changed }
+        requires latest { IsLatest self.old.store }
+        ensures ok { (p : Proposal) → IsFirst self.old.store p → IsJudgedIn self.old p judged → IfOk result (λ verdict. Moves self.old self.new entry check_event (decided_as self.old entry verdict)) }
+        ensures err { OnErr result (self.new ≡ self.old) }
     {
-        let rows = proposal.rows.as_slice();
-        let changed = changed(self.alloc, &self.topo, self.target.table(), rows)?;
-        let verdict = self.verdict(proposal.app, rows, &changed)?;
-        Ok(Judged { verdict, changed })
+        let Judged { refusal, changed } = judged;
+        match refusal {
+            Some(cause) => {
+                let _version = self.store.decide(entry, false)?;
+                Ok(Verdict::Refused(cause))
+            }
+            None => {
+                let version = self.store.decide(entry, true)?;
+                // What follows cannot fail.
+                stamp_all(&self.topo, self.stamps.as_mut_slice(), &changed, entry);
+                Ok(Verdict::Accepted { version })
+            }
+        }
     }
 
     /// Decides the oldest proposal that waits, as entry number `entry`. At `Err` nothing has changed.
@@ -244,20 +240,33 @@ impl Control {
         ensures ok { IfOk result (λ check. Moves self.old self.new entry check_event (reply_of_check check)) }
         ensures err { OnErr result (self.new ≡ self.old) }
     {
-        if self.queue.is_empty() {
+        let Some(oldest) = self.store.oldest() else {
             return Ok(Check::Idle);
-        }
-        let Judged { verdict, changed } = self.judged(&self.queue[0])?;
-        // What follows cannot fail.
-        let proposal = self.queue.remove(0);
-        let rows = proposal.rows.as_slice();
-        self.target
-            .merge_accepted(&self.topo, rows, &changed, entry, &verdict);
-        self.decided += 1;
+        };
+        let ticket = oldest.ticket;
+        let rows = self.rows_judged(oldest)?;
+        let judged = self.judged(rows)?;
+        let verdict = self.decide(entry, judged)?;
         Ok(Check::Decided(Receipt {
-            ticket: self.decided,
+            ticket,
             entry,
             verdict,
         }))
+    }
+
+    /// Gives a lock of an entity to an application, where no other holds it. At `Held` nothing changes.
+    pub fn lock(&mut self, app: AppId, entity: Entity, prio: Prio) -> Grant
+        requires { IsEntityOf self.old.group entity }
+        ensures { (n : ℕ) → Moves self.old self.new n (Lock app entity prio) (reply_of_grant result) }
+    {
+        self.locks.grant(app, entity, prio)
+    }
+
+    /// Takes a lock of an entity back from its holder. At `NotYours` nothing changes.
+    pub fn unlock(&mut self, app: AppId, entity: Entity, prio: Prio) -> Release
+        requires { IsEntityOf self.old.group entity }
+        ensures { (n : ℕ) → Moves self.old self.new n (Unlock app entity prio) (reply_of_release result) }
+    {
+        self.locks.release(app, entity, prio)
     }
 }

@@ -1,10 +1,10 @@
 //! Sets of entities that are made by looking at each entity of a group in order.
 
-ghost use Rattle.std.specs.Prelude.{◌≡◌, ◌+◌, ◌<◌, ◌&&◌, not, ℕ, length, IfOk, if◌then◌else◌};
+ghost use Rattle.std.specs.Prelude.{◌≡◌, ◌<◌, ◌&&◌, not, length, IfOk};
 ghost use Rattle.st_net.specs.Groups.{IsEntityOf};
 ghost use Rattle.st_net.specs.Sets.{is_in, MarksOf};
 ghost use Rattle.st_overlay.specs.Values.{IsTableOf};
-ghost use Rattle.st_control.specs.Target.{entity_count, place_in, stamp_in};
+ghost use Rattle.st_control.specs.Stamps.{entity_count, place_in};
 ghost use Rattle.st_control.specs.Sure.{shown_by, MarksShown};
 
 use crate::settled::{Shown, is_shown};
@@ -13,7 +13,7 @@ use st_overlay::Table;
 use std::alloc::{AllocError, Global};
 
 /// Where an entity stands in the order of entities.
-pub fn place_of(topo: &GroupTopo, entity: Entity) -> usize
+fn place_of(topo: &GroupTopo, entity: Entity) -> usize
     requires { IsEntityOf topo.now entity }
     ensures place { result ≡ place_in topo.now entity }
     ensures within { result < entity_count topo.now }
@@ -94,26 +94,6 @@ pub fn take_out(topo: &GroupTopo, set: &mut EntitySet, out: &EntitySet)
     'links: for i in 0..topo.link_count() {
         if out.has(Entity::Link(i)) {
             set.remove(Entity::Link(i));
-        }
-    }
-}
-
-/// Stamps all entities of a set.
-pub fn stamp_all(topo: &GroupTopo, stamps: &mut [u32], set: &EntitySet, stamp: u32)
-    requires stamps { length stamps.old ≡ entity_count topo.now }
-    requires set { MarksOf topo.now set.now }
-    ensures count { length stamps.new ≡ length stamps.old }
-    ensures stamps { stamp_in topo.now stamps.new ≡ (λ e. if is_in set.now e then stamp else stamp_in topo.now stamps.old e) }
-{
-    let devices = topo.device_count();
-    'devices: for i in 0..devices {
-        if set.has(Entity::Device(i)) {
-            stamps[i as usize] = stamp;
-        }
-    }
-    'links: for i in 0..topo.link_count() {
-        if set.has(Entity::Link(i)) {
-            stamps[devices as usize + i as usize] = stamp;
         }
     }
 }

@@ -1,4 +1,4 @@
-use Rattle.std.proofs.Common.{◌≡◌, refl, sym, ◌∙◌, arith}
+use Rattle.std.proofs.Common.{sym, ◌∙◌}
 use Rattle.st_net.specs.Sets.{is_in}
 use Rattle.st_control.proofs.EntityLoops.{marks_kept, lose_device, stay_device, lose_link, stay_link}
 use Rattle.st_control.proofs.sure.take_out.Goals as goal

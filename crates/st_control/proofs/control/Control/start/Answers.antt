@@ -1,8 +1,12 @@
-use Rattle.std.proofs.Common.{refl}
+use Rattle.std.proofs.Common.{refl, sym, ◌∙◌}
+use Rattle.st_event.proofs.Versions.{value_at-opening}
 use Rattle.st_control.proofs.control.Control.start.Goals as goal
 
 pub returns : goal.returns
-returns c = record {
-  group = refl;
-  standing = rw (c.in_ok-target.ensures.opening.none, c.in_ok-target.ensures.opening.opening, c.in_ok-target.ensures.opening.unstamped, c.in_ok-locks.ensures.free, c.in_ok-observed.ensures.opening, c.new.ensures.items) refl;
-}
+returns c =
+    let start = c.in_ok-store.ensures in
+    record {
+      group = refl;
+      standing = rw (start.tickets, start.decided, start.pending, start.version, start.target, start.observed, c.in_ok-stamps.ensures.opening, c.in_ok-locks.ensures.free) refl;
+      versions = start.versions ∙ sym (value_at-opening c.args.topo);
+    }

@@ -1,9 +1,0 @@
-use Rattle.std.proofs.Common.{◌+◌, length}
-use Rattle.st_control.proofs.Openings.{AreOpenings}
-use Rattle.st_control.proofs.settled.opening_reports.Given as goal
-
-abbrev pub invariant-devices : goal.invariant-devices
-invariant-devices l = AreOpenings l.topo l.i l.reports.items
-
-abbrev pub invariant-links : goal.invariant-links
-invariant-links l = AreOpenings l.topo (length l.topo.devices + l.i) l.reports.items

@@ -1,0 +1,61 @@
+-- The verdict on a proposal by what a checker keeps, in the steps in which it is judged.
+use Rattle.std.specs.Prelude.{◌≡◌, ℕ, ◌+◌, Bool, not, ◌&&◌, List, ◌∷◌, length, drop, Option}
+use Rattle.st_net.specs.declared.entity.AppId.{AppId}
+use Rattle.st_net.specs.declared.entity.Entity.{Entity}
+use Rattle.st_net.specs.declared.entity.Row.{Row}
+use Rattle.st_net.specs.declared.promise.Broken.{Broken}
+use Rattle.st_net.specs.Groups.{Group}
+use Rattle.st_net.specs.Merge.{without_altered, alters, target_with}
+use Rattle.st_net.specs.Promises.{first_broken}
+use Rattle.st_net.specs.Sets.{Marks, MarksOf, is_in}
+use Rattle.st_event.specs.declared.event.Proposal.{Proposal}
+use Rattle.st_event.specs.declared.reply.Cause.{Cause}
+use Rattle.st_event.specs.declared.reply.Reply.{Reply}
+use Rattle.st_event.specs.declared.reply.Reply.TheVariants.{Decided}
+use Rattle.st_event.specs.declared.reply.Verdict.{Verdict}
+use Rattle.st_event.specs.Judge.{judge, cause_or, refusal_or_version, first_lack, first_locked}
+use Rattle.st_event.specs.Standing.{Standing, sure_in}
+use Rattle.st_overlay.specs.Values.{value_in}
+use Rattle.st_store.specs.Changes.{value_at}
+use Rattle.st_store.specs.Store.{StoreView}
+use Rattle.st_control.specs.declared.control.Judged.{Judged}
+use Rattle.st_control.specs.Checker.{Checker, standing_in}
+
+-- the verdict on an application's rows, where the group stands so
+abbrev pub verdict_in : Group → Standing → AppId → List Row → Verdict
+verdict_in g s app rows = judge g s.observed s.target s.holder (sure_in g s) (without_altered g (sure_in g s) s.target rows) s.version app rows
+
+-- the first steps of a verdict, which look at the rows alone: the first row that can't be set, or else the first whose entity is barred
+abbrev pub row_refusal : Checker → AppId → List Row → Option Cause
+row_refusal k app rows = cause_or (first_lack k.group (standing_in k).observed (target_with (value_in k.store.target) rows) rows) (first_locked (standing_in k).holder app rows)
+
+-- what stands against a proposal in its rows, and the entities that they alter
+pub record AreJudgedIn (k : Checker) (p : Proposal) (judged : Judged) : Type 0 where
+  pub first : judged.refusal ≡ row_refusal k p.app p.rows
+  pub marks : MarksOf k.group judged.changed
+  pub altered : is_in judged.changed ≡ alters k.group (value_in k.store.target) p.rows
+
+-- its last step: the first promise that holds of the sure entities, and not without these
+abbrev pub sure_without : Checker → Marks → Entity → Bool
+sure_without k changed = λ e. sure_in k.group (standing_in k) e && not (is_in changed e)
+
+abbrev pub first_broken_without : Checker → Marks → Option Broken
+first_broken_without k changed = first_broken k.group (sure_in k.group (standing_in k)) (sure_without k changed) 0 k.group.promises
+
+-- what stands against a proposal, which gives the verdict, and the entities that its rows alter
+pub record IsJudgedIn (k : Checker) (p : Proposal) (judged : Judged) : Type 0 where
+  pub decision : refusal_or_version judged.refusal k.store.version ≡ verdict_in k.group (standing_in k) p.app p.rows
+  pub marks : MarksOf k.group judged.changed
+  pub altered : is_in judged.changed ≡ alters k.group (value_in k.store.target) p.rows
+
+-- a proposal that waits first
+abbrev pub IsFirst : StoreView → Proposal → Type 0
+IsFirst s p = s.pending ≡ p ∷ drop 1 s.pending
+
+-- the target has the values of the last version
+abbrev pub IsLatest : StoreView → Type 0
+IsLatest s = value_at s.versions s.version ≡ value_in s.target
+
+-- the first proposal's receipt
+abbrev pub decided_as : Checker → ℕ → Verdict → Reply
+decided_as k n verdict = Decided (record { ticket = length k.store.decided + 1; entry = n; verdict = verdict })

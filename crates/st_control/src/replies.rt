@@ -1,0 +1,49 @@
+//! What the checker answers, as replies of a journal.
+
+ghost use Rattle.std.specs.Prelude.{◌≡◌};
+ghost use Rattle.st_control.specs.Checker.{reply_of_put, reply_of_check, reply_of_grant, reply_of_release};
+
+use crate::control::Check;
+use st_event::Reply;
+use st_locks::{Grant, Release};
+use st_store::Put;
+
+/// The reply that stands for the answer to a proposal.
+pub fn put_reply(put: Put) -> Reply
+    ensures { result ≡ reply_of_put put }
+{
+    match put {
+        Put::Ticket(ticket) => Reply::Queued { ticket },
+        Put::Full { pending } => Reply::Full { pending },
+    }
+}
+
+/// The reply that stands for the answer to a check.
+pub fn check_reply(check: Check) -> Reply
+    ensures { result ≡ reply_of_check check }
+{
+    match check {
+        Check::Decided(receipt) => Reply::Decided(receipt),
+        Check::Idle => Reply::Idle,
+    }
+}
+
+/// The reply that stands for the answer to a request for a lock.
+pub fn grant_reply(grant: Grant) -> Reply
+    ensures { result ≡ reply_of_grant grant }
+{
+    match grant {
+        Grant::Granted => Reply::Granted,
+        Grant::Held { holder } => Reply::Held { holder },
+    }
+}
+
+/// The reply that stands for the answer to a release of a lock.
+pub fn release_reply(release: Release) -> Reply
+    ensures { result ≡ reply_of_release release }
+{
+    match release {
+        Release::Released => Reply::Released,
+        Release::NotYours { holder } => Reply::NotYours { holder },
+    }
+}
