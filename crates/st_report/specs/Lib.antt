@@ -3,3 +3,4 @@ pub mod Printed
 pub mod GroupReport
 pub mod Counted
 pub mod Standing
+pub mod Logs

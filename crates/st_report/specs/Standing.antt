@@ -8,8 +8,8 @@ use Rattle.st_event.specs.Proposals.{target}
 use Rattle.st_event.specs.Observed.{actual, is_settled}
 use Rattle.st_overlay.specs.Values.{Values, IsTableOf, value_in}
 
--- the table is the target after these entries, and the sets are the group's entities that are settled then, those that were up at the
--- opening and those that are up now in the simulated network
+-- the table is the target after these entries, and the sets are the group's entities that are settled then, and those that are not busy
+-- and carry traffic, at the opening and then
 pub record IsStandingOf (g : Group) (past : List Entry) (table : Values) (settled start now : Marks) : Type 0 where
   pub table_of : IsTableOf g table
   pub table_is : value_in table ≡ target g past

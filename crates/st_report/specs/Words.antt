@@ -1,6 +1,7 @@
 -- How names, numbers, variables and rows are printed, and lines of words.
 use Rattle.std.specs.Prelude.{ℕ, List, [], ◌∷◌, ◌++◌, codes, decimal, map, slice_index_or, Option, Some, None}
 use Rattle.st_net.specs.declared.entity.AppId.{AppId}
+use Rattle.st_net.specs.declared.entity.Entity.{Entity}
 use Rattle.st_net.specs.declared.entity.Entity.TheVariants.{Device}
 use Rattle.st_net.specs.declared.entity.Prio.{Prio}
 use Rattle.st_net.specs.declared.entity.Prio.TheVariants.{Low, High}
@@ -48,6 +49,10 @@ kind_word Short = codes "short"
 -- an application's name, by its number
 abbrev pub app_word : List (List ℕ) → AppId → List ℕ
 app_word apps app = slice_index_or apps app.0 []
+
+-- NAME.VAR
+abbrev pub variable : Group → Entity → Var → List ℕ
+variable g e var = name_of g e ++ 46 ∷ var_word var
 
 -- NAME.VAR=NUMBER
 abbrev pub assignment : Group → Row → List ℕ

@@ -1,6 +1,6 @@
 //! The lines of one group, all of them in order.
 
-ghost use Rattle.std.specs.Prelude.{◌≡◌, ◌++◌, OnOk, OnErr, All, reverse};
+ghost use Rattle.std.specs.Prelude.{◌≡◌, ◌++◌, OnOk, OnErr, reverse};
 ghost use Rattle.st_report.specs.GroupReport.{group_report};
 ghost use Rattle.st_report.specs.Printed.{HoldsPart};
 ghost use Rattle.st_report.specs.Standing.{IsStandingOf};
@@ -23,15 +23,15 @@ pub struct Standing<'a> {
     pub target: &'a Table,
     /// The entities that are settled.
     pub settled: &'a EntitySet,
-    /// The entities that were up at the opening, in the simulated network.
+    /// The entities that carried traffic at the opening.
     pub start: &'a EntitySet,
-    /// The entities that are up now, in the simulated network.
+    /// The entities that are not busy and carry traffic after the journal, whether that was heard or not.
     pub now: &'a EntitySet,
 }
 
 /// Adds all lines of a group: its name, version and entries, its locks, its receipts, the variables that its target changes,
-/// the entities that are not settled, its wire and its promises. Promises of 0 percent alone are judged. After `Err`, which
-/// is for want of memory alone, the text holds a part of these lines behind what it held.
+/// the entities that are not settled, its wire and its promises. After `Err`, which is for want of memory alone, the text
+/// holds a part of these lines behind what it held.
 pub fn group_text(
     alloc: Global,
     topo: &GroupTopo,
@@ -40,7 +40,6 @@ pub fn group_text(
     standing: Standing,
     out: &mut Text,
 ) -> Result<(), AllocError>
-    requires percent { All (λ p. p.percent ≡ 0) topo.now.promises }
     requires standing { IsStandingOf topo.now (reverse entries.now) standing.target.now standing.settled.now standing.start.now standing.now.now }
     ensures ok { OnOk result (out.new ≡ out.old ++ group_report topo.now apps.now (reverse entries.now)) }
     ensures err { OnErr result (HoldsPart out.old out.new (group_report topo.now apps.now (reverse entries.now))) }

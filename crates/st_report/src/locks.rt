@@ -95,8 +95,8 @@ fn print_lock<'a>(
     }
 }
 
-/// Adds a line for each request and each return of a lock, the oldest first, with the reply as a journal spells it. After
-/// `Err`, which is for want of memory alone, the text holds a part of these lines behind what it held.
+/// Adds a line for each request and each return of a lock, the oldest first, with the reply. After `Err`, which is for want of
+/// memory alone, the text holds a part of these lines behind what it held.
 pub fn lock_lines(
     topo: &GroupTopo,
     apps: &[Name],

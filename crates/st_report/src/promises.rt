@@ -1,27 +1,34 @@
 //! The promises of a group: how many held at the opening, how many hold now, and which were lost.
 
-ghost use Rattle.std.specs.Prelude.{◌≡◌, ◌++◌, ◌<◌, [], OnOk, OnErr, IfOk, All, length, map, count_by, not, ◌&&◌, if◌then◌else◌};
+ghost use Rattle.std.specs.Prelude.{◌≡◌, ◌++◌, ◌<◌, [], OnOk, OnErr, IfOk, length, map, count_by, not, ◌&&◌, if◌then◌else◌};
 ghost use Rattle.st_net.specs.Groups.{promise_of};
 ghost use Rattle.st_net.specs.Promises.{is_kept};
 ghost use Rattle.st_net.specs.Sets.{MarksOf, is_in};
+ghost use Rattle.st_promise.specs.Book.{IsBookOf};
 ghost use Rattle.st_report.specs.Counted.{lost_line, promise_lines as promise_lines_lem};
 ghost use Rattle.st_report.specs.Printed.{HoldsPart};
 
 use crate::words::{Word, entity_name, print_line};
 use st_net::{Entity, EntitySet, GroupTopo};
-use st_promise::promise_holds;
+use st_promise::Book;
 use st_text::Text;
 use std::alloc::{AllocError, Global};
 
-/// Which promises hold while these entities are up, in order.
-fn kept_promises(alloc: Global, topo: &GroupTopo, up: &EntitySet) -> Result<Vec<bool>, AllocError>
-    requires percent { All (λ p. p.percent ≡ 0) topo.now.promises }
+/// Which promises hold while these entities are up, in order. The book is as it was, also after `Err`.
+fn kept_promises(
+    alloc: Global,
+    topo: &GroupTopo,
+    book: &mut Book,
+    up: &EntitySet,
+) -> Result<Vec<bool>, AllocError>
+    requires book { IsBookOf topo.now book.old }
     requires marks { MarksOf topo.now up.now }
-    ensures { IfOk result (λ kept. kept.items ≡ map (is_kept topo.now (is_in up.now)) topo.now.promises) }
+    ensures kept { IfOk result (λ kept. kept.items ≡ map (is_kept topo.now (is_in up.now)) topo.now.promises) }
+    ensures same { book.new ≡ book.old }
 {
     let mut kept = Vec::new(alloc);
     for i in 0..topo.promise_count() {
-        kept.push(promise_holds(alloc, topo, up, i)?)?;
+        kept.push(book.promise_holds(topo, up, i)?)?;
     }
     Ok(kept)
 }
@@ -55,8 +62,9 @@ fn print_lost(
 }
 
 /// Adds the line `promises`: how many there are, how many held at the opening and how many hold now; and then a line for each
-/// that held and does not hold, in order. After `Err`, which is for want of memory alone, the text holds a part of these lines
-/// behind what it held.
+/// that held and does not hold, in order. It computes what each promise needs, one flow for each that is not of 0 percent, and
+/// judges each once for each set. After `Err`, which is for want of memory alone, the text holds a part of these lines behind
+/// what it held.
 pub fn promise_lines(
     alloc: Global,
     topo: &GroupTopo,
@@ -64,14 +72,14 @@ pub fn promise_lines(
     now: &EntitySet,
     out: &mut Text,
 ) -> Result<(), AllocError>
-    requires percent { All (λ p. p.percent ≡ 0) topo.now.promises }
     requires start { MarksOf topo.now start.now }
     requires now { MarksOf topo.now now.now }
     ensures ok { OnOk result (out.new ≡ out.old ++ promise_lines_lem topo.now (is_in start.now) (is_in now.now)) }
     ensures err { OnErr result (HoldsPart out.old out.new (promise_lines_lem topo.now (is_in start.now) (is_in now.now))) }
 {
-    let held = kept_promises(alloc, topo, start)?;
-    let holding = kept_promises(alloc, topo, now)?;
+    let mut book = Book::start(alloc, topo)?;
+    let held = kept_promises(alloc, topo, &mut book, start)?;
+    let holding = kept_promises(alloc, topo, &mut book, now)?;
     print_line(
         b"promises",
         &[

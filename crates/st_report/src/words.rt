@@ -3,7 +3,7 @@
 
 ghost use Rattle.std.specs.Prelude.{◌≡◌, ◌++◌, ◌∷◌, [], OnOk, OnErr, IsTrue, ◌↔◌, map};
 ghost use Rattle.st_net.specs.Groups.{IsEntityOf, name_of};
-ghost use Rattle.st_report.specs.Printed.{HoldsPart, assigned, text_of, words_text};
+ghost use Rattle.st_report.specs.Printed.{HoldsPart, named, assigned, text_of, words_text};
 ghost use Rattle.st_report.specs.Words.{line, var_word as var_word_lem, prio_word as prio_word_lem, kind_word as kind_word_lem, app_word};
 
 use st_net::{AppId, BrokenKind, Entity, GroupTopo, Name, Prio, Var};
@@ -17,6 +17,11 @@ pub(crate) enum Word<'a> {
     Plain(&'a [u8]),
     /// A number in decimal.
     Number(u64),
+    /// A variable of the entity of this name.
+    Variable {
+        name: &'a [u8],
+        var: Var,
+    },
     /// A variable of the entity of this name, with a value.
     Assignment {
         name: &'a [u8],
@@ -90,6 +95,16 @@ pub(crate) fn entity_name(topo: &GroupTopo, entity: Entity) -> &[u8]
     }
 }
 
+/// Adds NAME.VAR. After `Err` the text holds a part of it.
+fn print_variable(name: &[u8], var: Var, out: &mut Text) -> Result<(), AllocError>
+    ensures ok { OnOk result (out.new ≡ out.old ++ named name.now var) }
+    ensures err { OnErr result (HoldsPart out.old out.new (named name.now var)) }
+{
+    out.word(name)?;
+    out.word(b".")?;
+    out.word(var_word(var))
+}
+
 /// Adds NAME.VAR=NUMBER. After `Err` the text holds a part of it.
 fn print_assignment(name: &[u8], var: Var, value: u32, out: &mut Text) -> Result<(), AllocError>
     ensures ok { OnOk result (out.new ≡ out.old ++ assigned name.now var value) }
@@ -111,6 +126,7 @@ pub(crate) fn print_word(word: Word, out: &mut Text) -> Result<(), AllocError>
     match word {
         Word::Plain(bytes) => out.word(bytes),
         Word::Number(number) => out.num(number),
+        Word::Variable { name, var } => print_variable(name, var, out),
         Word::Assignment { name, var, value } => print_assignment(name, var, value, out),
     }
 }
