@@ -1,54 +1,62 @@
--- Checks while something is pending, one after another.
-use Rattle.std.proofs.Common.{◌≡◌, ◌≢◌, ℕ, zero, suc, ◌+◌, ◌-◌, ◌<◌, ◌≤◌, true, false, List, [], ◌∷◌, length, refl, ap, sym, ◌∙◌, arith}
-use Rattle.st_net.specs.Groups.{Group}
+-- Checks while what is pending passes, one after another.
+use Rattle.std.proofs.Common.{◌≡◌, ◌≢◌, ℕ, zero, suc, ◌+◌, ◌-◌, ◌<◌, ◌≤◌, Bool, true, false, List, [], ◌∷◌, length, refl, ap, sym, ◌∙◌, arith}
+use Rattle.std.specs.Prelude.{if◌then◌else◌}
 use Rattle.st_event.specs.declared.event.Event.TheVariants.{Check as check_event}
 use Rattle.st_event.specs.declared.event.Proposal.{Proposal}
-use Rattle.st_event.specs.declared.journal.Entry.{Entry}
 use Rattle.st_event.specs.declared.journal.TheConstants.{MAX_PENDING}
 use Rattle.st_event.specs.History.{History}
 use Rattle.st_event.specs.Proposals.{pending}
-use Rattle.st_top.specs.Serial.{is_nothing, checked}
-use Rattle.st_top.specs.World.{enter}
-use Rattle.st_top.proofs.Histories.{history_of}
+use Rattle.st_top.specs.Serial.{checked_while, entered, is_something}
 
-nothing_where_none : (ps : List Proposal) → length ps ≡ 0 → is_nothing ps ≡ true
-nothing_where_none [] none = refl
-nothing_where_none (p ∷ ps) none = absurd (omega arith)
-
-something_where_some : (ps : List Proposal) → length ps ≢ 0 → is_nothing ps ≡ false
-something_where_some [] some = absurd (some refl)
-something_where_some (p ∷ ps) some = refl
-
--- where nothing is pending no check is made
-pub checked_none : (n : ℕ) (g : Group) (past : List Entry) → length (pending past) ≡ 0 → checked n g past ≡ past
-unfolding checked
-checked_none zero g past none = refl
-checked_none (suc n) g past none = rw (nothing_where_none (pending past) none) refl
+-- where what is pending does not pass no check is made
+while_none : (waits : List Proposal → Bool) (n : ℕ) (h : History) → waits (pending h.past) ≡ false → checked_while waits n h ≡ h
+unfolding checked_while
+while_none waits zero h none = refl
+while_none waits (suc n) h none = rw none refl
 
 -- else one check is made first
-checked_one : (n : ℕ) (g : Group) (past : List Entry) → length (pending past) ≢ 0 → checked (suc n) g past ≡ checked n g (enter g past check_event)
-unfolding checked
-checked_one n g past some = rw (something_where_some (pending past) some) refl
+while_one : (waits : List Proposal → Bool) (n : ℕ) (h : History) → waits (pending h.past) ≡ true → checked_while waits (suc n) h ≡ checked_while waits n (entered check_event h)
+unfolding checked_while
+while_one waits n h some = rw some refl
 
-checked_zero : (g : Group) (past : List Entry) → checked 0 g past ≡ past
-unfolding checked
-checked_zero g past = refl
+while_zero : (waits : List Proposal → Bool) (h : History) → checked_while waits 0 h ≡ h
+unfolding checked_while
+while_zero waits h = refl
 
--- after one check of n the others are left
-pub checked_next : (start world new : History) (left : ℕ) → left < MAX_PENDING → length (pending world.past) ≢ 0 → new ≡ record world { past = enter world.group world.past check_event } → checked (MAX_PENDING - left) world.group world.past ≡ checked MAX_PENDING start.group start.past → checked (MAX_PENDING - (left + 1)) new.group new.past ≡ checked MAX_PENDING start.group start.past
-checked_next start world new left few some is leads =
-    let fewer : MAX_PENDING - left ≡ suc (MAX_PENDING - (left + 1)) = omega arith in
-    rw is (sym (checked_one (MAX_PENDING - (left + 1)) world.group world.past some) ∙ ap (λ n. checked n world.group world.past) (sym fewer) ∙ leads)
+by_test : (waits : List Proposal → Bool) (n : ℕ) (h : History) (b : Bool) → (checked_while waits n (entered check_event h)).group ≡ h.group → (if b then checked_while waits n (entered check_event h) else h).group ≡ h.group
+by_test waits n h true rest = rest
+by_test waits n h false rest = refl
 
-same_history : (a b : Group) (p q : List Entry) → a ≡ b → p ≡ q → history_of a p ≡ history_of b q
-same_history a b p q e f = rw (e, f) refl
+-- the group stays
+pub while_group : (waits : List Proposal → Bool) (n : ℕ) (h : History) → (checked_while waits n h).group ≡ h.group
+unfolding checked_while
+while_group waits zero h = refl
+while_group waits (suc n) h = by_test waits n h (waits (pending h.past)) (while_group waits n (entered check_event h))
 
--- where nothing is pending all checks were made
-pub checked_early : (start world : History) (left : ℕ) → length (pending world.past) ≡ 0 → world.group ≡ start.group → checked (MAX_PENDING - left) world.group world.past ≡ checked MAX_PENDING start.group start.past → world ≡ record start { past = checked MAX_PENDING start.group start.past }
-checked_early start world left none same leads = same_history world.group start.group world.past _ same (sym (checked_none (MAX_PENDING - left) world.group world.past none) ∙ leads)
+-- the checks that are left lead to where all of them lead
+abbrev pub Leads : (List Proposal → Bool) → ℕ → History → History → Type 0
+Leads waits made start h = checked_while waits (MAX_PENDING - made) h ≡ checked_while waits MAX_PENDING start
 
--- and where so many were made
-pub checked_all : (start world : History) (left : ℕ) → MAX_PENDING ≤ left → world.group ≡ start.group → checked (MAX_PENDING - left) world.group world.past ≡ checked MAX_PENDING start.group start.past → world ≡ record start { past = checked MAX_PENDING start.group start.past }
-checked_all start world left all same leads =
-    let none_left : MAX_PENDING - left ≡ 0 = omega arith in
-    same_history world.group start.group world.past _ same (sym (checked_zero world.group world.past) ∙ ap (λ n. checked n world.group world.past) (sym none_left) ∙ leads)
+-- where nothing passes any more all checks were made
+pub ends_early : (waits : List Proposal → Bool) (made : ℕ) (start h : History) → waits (pending h.past) ≡ false → Leads waits made start h → h ≡ checked_while waits MAX_PENDING start
+ends_early waits made start h none leads = sym (while_none waits (MAX_PENDING - made) h none) ∙ leads
+
+-- after one check more the others are left
+pub leads_next : (waits : List Proposal → Bool) (made : ℕ) (start h new : History) → made < MAX_PENDING → waits (pending h.past) ≡ true → new ≡ entered check_event h → Leads waits made start h → Leads waits (made + 1) start new
+leads_next waits made start h new few some is leads =
+    let fewer : MAX_PENDING - made ≡ suc (MAX_PENDING - (made + 1)) = omega arith in
+    ap (checked_while waits (MAX_PENDING - (made + 1))) is ∙ sym (while_one waits (MAX_PENDING - (made + 1)) h some) ∙ ap (λ n. checked_while waits n h) (sym fewer) ∙ leads
+
+-- and where so many were made none is left
+pub ends_all : (waits : List Proposal → Bool) (made : ℕ) (start h : History) → MAX_PENDING ≤ made → Leads waits made start h → h ≡ checked_while waits MAX_PENDING start
+ends_all waits made start h all leads =
+    let none_left : MAX_PENDING - made ≡ 0 = omega arith in
+    sym (while_zero waits h) ∙ ap (λ n. checked_while waits n h) (sym none_left) ∙ leads
+
+pub nothing_waits : (ps : List Proposal) → length ps ≡ 0 → is_something ps ≡ false
+nothing_waits [] none = refl
+nothing_waits (p ∷ ps) none = absurd (omega arith)
+
+pub something_waits : (ps : List Proposal) → length ps ≢ 0 → is_something ps ≡ true
+something_waits [] some = absurd (some refl)
+something_waits (p ∷ ps) some = refl

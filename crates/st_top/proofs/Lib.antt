@@ -1,7 +1,9 @@
 pub mod Checks
 pub mod Endings
+pub mod Quiet
 pub mod Histories
 pub mod Limits
 pub mod Lines
-pub mod Quiet
+pub mod Lists
 pub mod Runs
+pub mod Schedules

@@ -1,4 +1,4 @@
--- Proposals and decisions alone leave the network as it opened, and the report's sets are those that the checker tells.
+-- Proposals, decisions and words on locks leave the network as it opened, and the report's sets are those that the checker tells.
 use Rattle.std.proofs.Common.{◌≡◌, ℕ, List, [], ◌∷◌, Bool, true, false, not, ◌&&◌, refl, ap, sym, ◌∙◌, subst}
 use mathlib.Core.Path.{fun_ext}
 use Rattle.st_net.specs.declared.entity.Entity.{Entity}
@@ -8,7 +8,7 @@ use Rattle.st_net.specs.Levels.{carries, level_of}
 use Rattle.st_net.specs.Sets.{Marks, MarksOf, is_in}
 use Rattle.st_net.proofs.Tests.{same_vals_self}
 use Rattle.st_event.specs.declared.event.Event.{Event}
-use Rattle.st_event.specs.declared.event.Event.TheVariants.{Submit, Check}
+use Rattle.st_event.specs.declared.event.Event.TheVariants.{Submit, Check, Lock, Unlock}
 use Rattle.st_event.specs.declared.reply.Reply.{Reply}
 use Rattle.st_event.specs.declared.journal.Entry.{Entry}
 use Rattle.st_event.specs.Moments.{busy, vals, health}
@@ -30,16 +30,22 @@ and_true false = refl
 busy_stays : (g : Group) (past : List Entry) (event : Event) (answer : Reply) → is_of_checker event ≡ true → busy g (entry_with event answer ∷ past) ≡ busy g past
 busy_stays g past (Submit app rows) answer of = fun_ext (λ e. and_true (busy g past e))
 busy_stays g past Check answer of = fun_ext (λ e. and_true (busy g past e))
+busy_stays g past (Lock app entity prio) answer of = fun_ext (λ e. and_true (busy g past e))
+busy_stays g past (Unlock app entity prio) answer of = fun_ext (λ e. and_true (busy g past e))
 busy_stays g past _ answer of = cc
 
 vals_stay : (g : Group) (past : List Entry) (event : Event) (answer : Reply) → is_of_checker event ≡ true → vals g (entry_with event answer ∷ past) ≡ vals g past
 vals_stay g past (Submit app rows) answer of = refl
 vals_stay g past Check answer of = refl
+vals_stay g past (Lock app entity prio) answer of = refl
+vals_stay g past (Unlock app entity prio) answer of = refl
 vals_stay g past _ answer of = cc
 
 health_stays : (g : Group) (past : List Entry) (event : Event) (answer : Reply) → is_of_checker event ≡ true → health g (entry_with event answer ∷ past) ≡ health g past
 health_stays g past (Submit app rows) answer of = refl
 health_stays g past Check answer of = refl
+health_stays g past (Lock app entity prio) answer of = refl
+health_stays g past (Unlock app entity prio) answer of = refl
 health_stays g past _ answer of = cc
 
 -- agents are as the group opened
@@ -77,7 +83,7 @@ pub opening_up : (k : Checker) (g : Group) (up : Marks) → k.group ≡ g → st
 opening_up k g up same standing up_are = up_are ∙ ap (λ h. sure_in h (standing_in k)) same ∙ ap (λ s. sure_in g s) standing ∙ opening_sure g
 
 -- what the checker tells of a group is what its report needs
-pub stands : (k : Checker) (g : Group) (past : List Entry) (values : Values) (settled up : Marks) → k.group ≡ g → standing_in k ≡ standing_of g past → IsOfChecker past → values ≡ k.target.values → IsTableOf k.group values → MarksOf k.group settled → ((e : Entity) → IsEntityOf k.group e → is_in settled e ≡ settled_in k.group (standing_in k) e) → MarksOf g up → is_in up ≡ actual g [] → IsStandingOf g past values settled up up
+pub stands : (k : Checker) (g : Group) (past : List Entry) (values : Values) (settled up : Marks) → k.group ≡ g → standing_in k ≡ standing_of g past → IsOfChecker past → values ≡ k.store.target → IsTableOf k.group values → MarksOf k.group settled → ((e : Entity) → IsEntityOf k.group e → is_in settled e ≡ settled_in k.group (standing_in k) e) → MarksOf g up → is_in up ≡ actual g [] → IsStandingOf g past values settled up up
 stands k g past values settled up same standing quiet values_are table settled_of settled_are up_of up_is =
     let settled_on : (e : Entity) → IsEntityOf g e → is_in settled e ≡ settled_in g (standing_in k) e = subst (λ (h : Group). (e : Entity) → IsEntityOf h e → is_in settled e ≡ settled_in h (standing_in k) e) same settled_are in
     record {

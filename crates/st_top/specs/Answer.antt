@@ -6,6 +6,7 @@ use Rattle.st_io.specs.Outside.{Rose}
 use Rattle.st_io.specs.Output.{AppendsPrefix}
 use Rattle.st_net.specs.declared.parts.Parts.{Parts}
 use Rattle.st_net.specs.Faults.{group_of}
+use Rattle.st_event.specs.declared.act.Log.{Log}
 use Rattle.st_event.specs.declared.journal.Journal.{Journal}
 use Rattle.st_event.specs.Legal.{IsLegal, AtEach}
 use Rattle.st_event.specs.Network.{KeepsPromises}
@@ -20,7 +21,7 @@ use Rattle.st_top.specs.declared.words.Command.{Command}
 use Rattle.st_top.specs.declared.words.Command.TheVariants.{Serial, Check}
 use Rattle.st_top.specs.Words.{command_of}
 use Rattle.st_top.specs.NotYet.{is_run}
-use Rattle.st_top.specs.Serial.{serial_run}
+use Rattle.st_top.specs.Serial.{serial_run, serial_logs}
 use Rattle.st_top.specs.Output.{report_of, check_text}
 
 abbrev pub kind_word : DocKind → List ℕ
@@ -49,6 +50,14 @@ fault_text NotYet = codes "fault notyet" ++ 10 ∷ []
 fault_text WriteFault = []
 fault_text OutOfMemory = []
 
+-- what a call hands back: the journals that the groups kept, and the logs of the applications
+pub record Results : Type 0 where
+  pub journals : List Journal
+  pub logs : List Log
+
+abbrev pub no_results : Results
+no_results = record { journals = []; logs = [] }
+
 -- the journal of a group is legal, and at each of its moments the group's promises were kept
 pub record IsKept (parts : Parts) (journal : Journal) : Type 0 where
   pub legal : IsLegal (group_of parts) (reverse journal.entries)
@@ -61,28 +70,29 @@ AreKept [] (journal ∷ journals) = ⊥
 AreKept (parts ∷ more) [] = ⊥
 AreKept (parts ∷ more) (journal ∷ journals) = IsKept parts journal × AreKept more journals
 
--- a command was carried out on a document: the journals are those of the script order, legal, and kept, and this is the text
-pub record RunsSerial (doc : Doc) (journals : List Journal) (text : List ℕ) : Type 0 where
+-- a command was carried out on a document: journals and logs are those of the script order, the journals are legal and kept, and this is the text
+pub record RunsSerial (doc : Doc) (results : Results) (text : List ℕ) : Type 0 where
   pub runnable : is_run doc ≡ true
-  pub order : journals ≡ serial_run doc
-  pub kept : AreKept doc.groups journals
-  pub report : text ≡ report_of doc journals
+  pub order : results.journals ≡ serial_run doc
+  pub seen : results.logs ≡ serial_logs doc
+  pub kept : AreKept doc.groups results.journals
+  pub report : text ≡ report_of doc results.journals results.logs
 
-pub record Counts (doc : Doc) (journals : List Journal) (text : List ℕ) : Type 0 where
-  pub none : journals ≡ []
+pub record Counts (doc : Doc) (results : Results) (text : List ℕ) : Type 0 where
+  pub none : results ≡ no_results
   pub report : text ≡ check_text doc
 
-abbrev pub Carries : Command → Doc → List Journal → List ℕ → Type 0
+abbrev pub Carries : Command → Doc → Results → List ℕ → Type 0
 Carries Serial = RunsSerial
 Carries Check = Counts
 
 -- what a command ends with on what was read to its end
-abbrev pub EndsOn : Command → Result Doc DocFault → List Journal → List ℕ → Status → Type 0
-EndsOn command (read_ok doc) journals text Ok = Carries command doc journals text
-EndsOn command (read_ok doc) journals text NotYet = (command ≡ Serial) × (is_run doc ≡ false) × (journals ≡ []) × (text ≡ fault_text NotYet)
-EndsOn command (read_ok doc) journals text _ = ⊥
-EndsOn command (Err fault) journals text (BadInput line kind) = (fault ≡ record { line = line; kind = kind }) × (journals ≡ []) × (text ≡ fault_text (BadInput line kind))
-EndsOn command (Err fault) journals text _ = ⊥
+abbrev pub EndsOn : Command → Result Doc DocFault → Results → List ℕ → Status → Type 0
+EndsOn command (read_ok doc) results text Ok = Carries command doc results text
+EndsOn command (read_ok doc) results text NotYet = (command ≡ Serial) × (is_run doc ≡ false) × (results ≡ no_results) × (text ≡ fault_text NotYet)
+EndsOn command (read_ok doc) results text _ = ⊥
+EndsOn command (Err fault) results text (BadInput line kind) = (fault ≡ record { line = line; kind = kind }) × (results ≡ no_results) × (text ≡ fault_text (BadInput line kind))
+EndsOn command (Err fault) results text _ = ⊥
 
 -- what a source has left, and how often it has failed
 pub record SourceState : Type 0 where
@@ -94,67 +104,67 @@ pub record SinkState : Type 0 where
   pub held : Option (List ℕ)
   pub faults : ℕ
 
--- a command with its input: these bytes were read, and this status comes of it with these journals and this text
-pub record EndsAtEnd (command : Command) (old new : SourceState) (journals : List Journal) (text : List ℕ) (status : Status) : Type 0 where
+-- a command with its input: these bytes were read, and this status comes of it with these results and this text
+pub record EndsAtEnd (command : Command) (old new : SourceState) (results : Results) (text : List ℕ) (status : Status) : Type 0 where
   pub bytes : List ℕ
   pub consumed : Consumes old.left new.left bytes
   pub ended : IsAtEnd new.left
   pub few : length bytes ≤ MAX_BYTES
-  pub ends : EndsOn command (document_of bytes) journals text status
+  pub ends : EndsOn command (document_of bytes) results text status
 
-pub record StopsAtFault (old new : SourceState) (journals : List Journal) (text : List ℕ) : Type 0 where
+pub record StopsAtFault (old new : SourceState) (results : Results) (text : List ℕ) : Type 0 where
   pub bytes : List ℕ
   pub consumed : Consumes old.left new.left bytes
   pub few : length bytes ≤ MAX_BYTES
   pub rose : Rose old.faults new.faults
-  pub none : journals ≡ []
+  pub none : results ≡ no_results
   pub told : text ≡ fault_text ReadFault
 
-pub record StopsTooLong (old new : SourceState) (journals : List Journal) (text : List ℕ) : Type 0 where
+pub record StopsTooLong (old new : SourceState) (results : Results) (text : List ℕ) : Type 0 where
   pub bytes : List ℕ
   pub consumed : Consumes old.left new.left bytes
   pub many : length bytes ≡ MAX_BYTES + 1
-  pub none : journals ≡ []
+  pub none : results ≡ no_results
   pub told : text ≡ fault_text TooLong
 
 -- a list of words that is no command: nothing is read
-pub record IsNoCommand (old new : SourceState) (journals : List Journal) (text : List ℕ) : Type 0 where
+pub record IsNoCommand (old new : SourceState) (results : Results) (text : List ℕ) : Type 0 where
   pub left : Keeps old.left new.left
   pub faults : new.faults ≡ old.faults
-  pub none : journals ≡ []
+  pub none : results ≡ no_results
   pub told : text ≡ fault_text Usage
 
--- why a status comes, of the words, of the source before and after the call, with these journals and this text. WriteFault and OutOfMemory never come so
-abbrev pub ComesOf : Option Command → SourceState → SourceState → List Journal → List ℕ → Status → Type 0
-ComesOf None old new journals text Usage = IsNoCommand old new journals text
-ComesOf None old new journals text _ = ⊥
-ComesOf (Some command) old new journals text Usage = ⊥
-ComesOf (Some command) old new journals text ReadFault = StopsAtFault old new journals text
-ComesOf (Some command) old new journals text TooLong = StopsTooLong old new journals text
-ComesOf (Some command) old new journals text WriteFault = ⊥
-ComesOf (Some command) old new journals text OutOfMemory = ⊥
-ComesOf (Some command) old new journals text status = EndsAtEnd command old new journals text status
+-- why a status comes, of the words, of the source before and after the call, with these results and this text. WriteFault and OutOfMemory never come so
+abbrev pub ComesOf : Option Command → SourceState → SourceState → Results → List ℕ → Status → Type 0
+ComesOf None old new results text Usage = IsNoCommand old new results text
+ComesOf None old new results text _ = ⊥
+ComesOf (Some command) old new results text Usage = ⊥
+ComesOf (Some command) old new results text ReadFault = StopsAtFault old new results text
+ComesOf (Some command) old new results text TooLong = StopsTooLong old new results text
+ComesOf (Some command) old new results text WriteFault = ⊥
+ComesOf (Some command) old new results text OutOfMemory = ⊥
+ComesOf (Some command) old new results text status = EndsAtEnd command old new results text status
 
-abbrev pub Comes : List (List ℕ) → SourceState → SourceState → List Journal → List ℕ → Status → Type 0
+abbrev pub Comes : List (List ℕ) → SourceState → SourceState → Results → List ℕ → Status → Type 0
 Comes words = ComesOf (command_of words)
 
 -- a status that came for its reason, and its text was written whole
-pub record HasWritten (words : List (List ℕ)) (old new : SourceState) (before now : SinkState) (journals : List Journal) (status : Status) : Type 0 where
+pub record HasWritten (words : List (List ℕ)) (old new : SourceState) (before now : SinkState) (results : Results) (status : Status) : Type 0 where
   pub text : List ℕ
-  pub comes : Comes words old new journals text status
+  pub comes : Comes words old new results text status
   pub held : Appends before.held now.held text
 
 -- a status whose text was being written: the sink holds what it held and a prefix of that text
-pub record WasWriting (words : List (List ℕ)) (old new : SourceState) (before now : SinkState) (journals : List Journal) : Type 0 where
+pub record WasWriting (words : List (List ℕ)) (old new : SourceState) (before now : SinkState) (results : Results) : Type 0 where
   pub status : Status
   pub text : List ℕ
-  pub comes : Comes words old new journals text status
+  pub comes : Comes words old new results text status
   pub held : AppendsPrefix before.held now.held text
 
--- memory was refused before anything was written: the sink holds what it held, and there is no journal
-pub record WasRefused (before now : SinkState) (journals : List Journal) : Type 0 where
+-- memory was refused before anything was written: the sink holds what it held, and there are no results
+pub record WasRefused (before now : SinkState) (results : Results) : Type 0 where
   pub held : Keeps before.held now.held
-  pub none : journals ≡ []
+  pub none : results ≡ no_results
 
 -- nothing was read
 pub record IsUnread (old new : SourceState) : Type 0 where
@@ -162,7 +172,7 @@ pub record IsUnread (old new : SourceState) : Type 0 where
   pub faults : new.faults ≡ old.faults
 
 -- how a call ends, of its words, of the source before and after it, and of the sink before and after it
-abbrev pub EndsWith : List (List ℕ) → SourceState → SourceState → SinkState → SinkState → List Journal → Status → Type 0
-EndsWith words old new before now journals WriteFault = WasWriting words old new before now journals × Rose before.faults now.faults
-EndsWith words old new before now journals OutOfMemory = WasRefused before now journals ⊎ WasWriting words old new before now journals
-EndsWith words old new before now journals status = HasWritten words old new before now journals status
+abbrev pub EndsWith : List (List ℕ) → SourceState → SourceState → SinkState → SinkState → Results → Status → Type 0
+EndsWith words old new before now results WriteFault = WasWriting words old new before now results × Rose before.faults now.faults
+EndsWith words old new before now results OutOfMemory = WasRefused before now results ⊎ WasWriting words old new before now results
+EndsWith words old new before now results status = HasWritten words old new before now results status

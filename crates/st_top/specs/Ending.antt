@@ -1,40 +1,52 @@
 -- How a call is to end, before anything is written.
-use Rattle.std.specs.Prelude.{◌≡◌, ℕ, List, [], ◌++◌, Option, Result}
+use Rattle.std.specs.Prelude.{◌≡◌, ℕ, List, [], ◌∷◌, Option, Result}
 use Rattle.st_io.specs.declared.writing.Written.{Written}
 use Rattle.st_io.specs.declared.writing.Written.TheVariants as ways
 use Rattle.st_io.specs.Output.{Writes}
-use Rattle.st_net.specs.declared.parts.Parts.{Parts}
-use Rattle.st_event.specs.declared.journal.Journal.{Journal}
+use Rattle.st_event.specs.History.{History}
+use Rattle.st_event.specs.Legal.{IsLegal, AtEach}
+use Rattle.st_event.specs.Network.{KeepsPromises}
 use Rattle.st_doc.specs.declared.doc.Doc.{Doc}
 use Rattle.st_doc.specs.declared.fault.DocFault.{DocFault}
 use Rattle.st_top.specs.declared.answer.Outcome.{Outcome}
 use Rattle.st_top.specs.declared.answer.Status.{Status}
 use Rattle.st_top.specs.declared.answer.Status.TheVariants as statuses
 use Rattle.st_top.specs.declared.top.Ending.{Ending}
+use Rattle.st_top.specs.declared.top.Ran.{Ran}
 use Rattle.st_top.specs.declared.words.Command.{Command}
-use Rattle.st_top.specs.Serial.{serial_run}
-use Rattle.st_top.specs.Output.{app_names, groups_text}
-use Rattle.st_top.specs.Answer.{SourceState, SinkState, AreKept, EndsOn, ComesOf, fault_text}
+use Rattle.st_top.specs.Serial.{Run}
+use Rattle.st_top.specs.Answer.{Results, SourceState, SinkState, EndsOn, ComesOf, no_results, fault_text}
 
--- an ending that tells of a fault: there are no journals
+-- what an ending hands back
+abbrev pub results_in : Ending → Results
+results_in ending = record { journals = ending.journals; logs = ending.logs }
+
+-- an ending that tells of a fault: there are no results
 pub record TellsFault (status : Status) (ending : Ending) : Type 0 where
   pub status_is : ending.status ≡ status
-  pub none : ending.journals ≡ []
+  pub none : results_in ending ≡ no_results
   pub text_is : ending.text ≡ fault_text status
 
 -- what a command ends with on what was read to its end
 abbrev pub IsEndOn : Command → Result Doc DocFault → Ending → Type 0
-IsEndOn command read ending = EndsOn command read ending.journals ending.text ending.status
+IsEndOn command read ending = EndsOn command read (results_in ending) ending.text ending.status
 
 -- why the call is to end so
 abbrev pub IsCalledFor : Option Command → SourceState → SourceState → Ending → Type 0
-IsCalledFor command old new ending = ComesOf command old new ending.journals ending.text ending.status
+IsCalledFor command old new ending = ComesOf command old new (results_in ending) ending.text ending.status
 
--- the groups of a document were run: these are their journals, and their lines were added to a text
-pub record RunsGroups (doc : Doc) (old new : List ℕ) (journals : List Journal) : Type 0 where
-  pub order : journals ≡ serial_run doc
-  pub kept : AreKept doc.groups journals
-  pub lines : new ≡ old ++ groups_text (app_names doc) doc.groups journals
+-- the journal is legal, and at each of its moments the group's promises were kept
+pub record IsKeptHistory (h : History) : Type 0 where
+  pub legal : IsLegal h.group h.past
+  pub promises : AtEach (KeepsPromises h.group) h.past
+
+abbrev pub AreKeptHistories : List History → Type 0
+AreKeptHistories [] = Unit {0}
+AreKeptHistories (h ∷ hs) = IsKeptHistory h × AreKeptHistories hs
+
+-- the groups with their journals, and the logs, that a run has come to
+abbrev pub run_in : Ran → Run
+run_in ran = record { groups = ran.worlds.items; logs = ran.logs.items }
 
 -- the status that is told once writing ended so
 abbrev pub told : Written → Status → Status
@@ -47,4 +59,4 @@ pub record WritesEnding (ending : Ending) (before now : SinkState) (outcome : Ou
   pub written : Written
   pub writes : Writes before.held now.held before.faults now.faults ending.text written
   pub status_is : outcome.status ≡ told written ending.status
-  pub journals_are : outcome.journals ≡ ending.journals
+  pub results_are : record { journals = outcome.journals; logs = outcome.logs } ≡ results_in ending

@@ -1,6 +1,7 @@
 pub mod Words
 pub mod NotYet
 pub mod World
+pub mod Schedule
 pub mod Serial
 pub mod Output
 pub mod Exit

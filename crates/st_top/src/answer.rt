@@ -5,7 +5,7 @@ ghost use Rattle.st_top.specs.Exit.{exit_code_of};
 ghost use Rattle.st_top.specs.Answer.{kind_word as kind_word_lem, fault_text as fault_text_lem};
 
 use st_doc::DocKind;
-use st_event::Journal;
+use st_event::{Journal, Log};
 use st_text::Text;
 use std::alloc::{AllocError, Global};
 use std::marker::Model;
@@ -37,12 +37,19 @@ pub struct Journals {
     journals: Vec<Journal>,
 }
 
-/// How a call ended, and the journals that the groups kept. They are empty where the status came before a run began, and may
-/// be empty where memory was refused.
+/// The logs of the applications of a document, in order. Contracts see the list.
+#[derive(Drop)]
+pub struct Logs {
+    logs: Vec<Log>,
+}
+
+/// How a call ended, the journals that the groups kept, and what the applications' commands saw. Both are empty where the
+/// status came before a run began, and may be empty where memory was refused.
 #[derive(Drop)]
 pub struct Outcome {
     pub status: Status,
     pub journals: Journals,
+    pub logs: Logs,
 }
 
 impl Model for Journals {
@@ -52,6 +59,40 @@ impl Model for Journals {
     ghost Value = { List Journal };
 
     ghost view = { λ j. j.journals.items };
+}
+
+impl Model for Logs {
+    ghost use Rattle.std.specs.Prelude.{List};
+    ghost use Rattle.st_event.specs.declared.act.Log.{Log};
+
+    ghost Value = { List Log };
+
+    ghost view = { λ l. l.logs.items };
+}
+
+impl Logs {
+    /// No logs.
+    pub fn none(alloc: Global) -> Logs
+        ensures { result ≡ [] }
+    {
+        Logs {
+            logs: Vec::new(alloc),
+        }
+    }
+
+    /// These logs, in order.
+    pub fn new(logs: Vec<Log>) -> Logs
+        ensures { result ≡ logs.items }
+    {
+        Logs { logs }
+    }
+
+    /// The logs, in order.
+    pub fn as_slice(&self) -> &[Log]
+        ensures { result.now ≡ self.now }
+    {
+        self.logs.as_slice()
+    }
 }
 
 impl Journals {

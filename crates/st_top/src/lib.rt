@@ -4,12 +4,13 @@
 mod answer;
 mod not_yet;
 mod output;
+mod schedule;
 mod serial;
 mod top;
 mod words;
 mod world;
 
-pub use answer::{Journals, Outcome, Status};
+pub use answer::{Journals, Logs, Outcome, Status};
 pub use top::statesman;
 pub use words::Command;
 

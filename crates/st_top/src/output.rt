@@ -1,16 +1,16 @@
 //! What the commands write: the report of a group by its world, and the line of counts that `check` writes.
 
-ghost use Rattle.std.specs.Prelude.{◌≡◌, [], ◌∷◌, ◌++◌, ◌<◌, ◌^◌, length, sum_by, OnOk, IfOk, decimal};
-ghost use Rattle.st_net.specs.Sets.{is_in, MarksOf};
-ghost use Rattle.st_event.specs.Observed.{actual};
+ghost use Rattle.std.specs.Prelude.{◌≡◌, ◌∷◌, ◌++◌, ◌<◌, ◌^◌, All, length, sum_by, OnOk, IfOk, decimal};
 ghost use Rattle.st_doc.specs.Sound.{IsSoundDoc};
 ghost use Rattle.st_report.specs.GroupReport.{group_report};
-ghost use Rattle.st_top.specs.Output.{app_names as app_names_lem, check_text as check_text_lem};
+ghost use Rattle.st_top.specs.Output.{app_names as app_names_lem, histories_text, entry_text, log_text, logs_text, check_text as check_text_lem};
+ghost use Rattle.st_top.specs.Serial.{groups_in, EntryFits, LogsFit};
 
 use crate::world::World;
 use st_doc::{Doc, Script};
-use st_net::{EntitySet, Name, Parts};
-use st_report::{Standing, group_text};
+use st_event::{LogEntries, LogEntry};
+use st_net::{Name, Parts};
+use st_report::{Standing, group_text, read_line};
 use st_text::Text;
 use std::alloc::{AllocError, Global};
 
@@ -26,30 +26,90 @@ pub fn app_names(alloc: Global, doc: &Doc) -> Result<Vec<Name>, AllocError>
     Ok(names)
 }
 
-/// Adds the lines of a group, of which these entities carried at the opening. In a run of one thread nothing is sent and
-/// nothing fails, so they still do.
-pub fn print_group(
+/// Adds the lines of a group. In a run of one thread nothing is sent and nothing fails, so the entities that carried traffic at
+/// the opening still do.
+fn print_group(
     alloc: Global,
     world: &World,
-    up: &EntitySet,
     apps: &[Name],
     out: &mut Text,
 ) -> Result<(), AllocError>
-    requires marks { MarksOf world.now.group up.now }
-    requires up { is_in up.now ≡ actual world.now.group [] }
     ensures { OnOk result (out.new ≡ out.old ++ group_report world.now.group apps.now world.now.past) }
 {
     world.keeps_promises();
     let control = world.control();
     let topo = control.topo();
     let settled = control.settled()?;
+    let opening = world.opening();
     let standing = Standing {
-        target: control.table(),
+        target: control.store().target(),
         settled: &settled,
-        start: up,
-        now: up,
+        start: opening,
+        now: opening,
     };
     group_text(alloc, topo, apps, world.journal(), standing, out)
+}
+
+/// Adds the lines of each group, in order.
+pub fn print_groups(
+    alloc: Global,
+    worlds: &[World],
+    apps: &[Name],
+    out: &mut Text,
+) -> Result<(), AllocError>
+    ensures { OnOk result (out.new ≡ out.old ++ histories_text apps.now worlds.now) }
+{
+    for world in worlds {
+        print_group(alloc, world, apps, out)?;
+    }
+    Ok(())
+}
+
+/// Adds the line of a log's entry.
+fn print_entry(
+    worlds: &[World],
+    app: &Name,
+    entry: &LogEntry,
+    out: &mut Text,
+) -> Result<(), AllocError>
+    requires { EntryFits (groups_in worlds.now) entry.now }
+    ensures { OnOk result (out.new ≡ out.old ++ entry_text (groups_in worlds.now) app.now entry.now) }
+{
+    let topo = worlds[entry.group as usize].control().topo();
+    read_line(topo, app, entry, out)
+}
+
+/// Adds the lines of an application's log.
+fn print_log(
+    worlds: &[World],
+    app: &Name,
+    log: &[LogEntry],
+    out: &mut Text,
+) -> Result<(), AllocError>
+    requires { All (EntryFits (groups_in worlds.now)) log.now }
+    ensures { OnOk result (out.new ≡ out.old ++ log_text (groups_in worlds.now) app.now log.now) }
+{
+    for entry in log {
+        print_entry(worlds, app, entry, out)?;
+    }
+    Ok(())
+}
+
+/// Adds the lines of each log, in the order of applications.
+pub fn print_logs(
+    worlds: &[World],
+    apps: &[Name],
+    logs: &[LogEntries],
+    out: &mut Text,
+) -> Result<(), AllocError>
+    requires each { length apps.now ≡ length logs.now }
+    requires fits { LogsFit (groups_in worlds.now) logs.now }
+    ensures { OnOk result (out.new ≡ out.old ++ logs_text (groups_in worlds.now) apps.now logs.now) }
+{
+    for (i, app) in apps.iter().enumerate() {
+        print_log(worlds, app, logs[i].as_slice(), out)?;
+    }
+    Ok(())
 }
 
 /// Adds a space, a word, a space and a number.

@@ -1,6 +1,6 @@
 //! The whole call: all that is to be written is decided first, and then it is written once.
 
-ghost use Rattle.std.specs.Prelude.{◌≡◌, ◌≢◌, ◌≤◌, ◌<◌, ◌-◌, ◌^◌, [], ◌∷◌, Ok as read_ok, Some, None, length, map, string_bytes, true, IfOk};
+ghost use Rattle.std.specs.Prelude.{◌≡◌, ◌≢◌, ◌≤◌, ◌<◌, ◌-◌, ◌^◌, [], All, replicate, Ok as read_ok, Some, None, length, map, string_bytes, true, IfOk};
 ghost use Rattle.st_net.specs.Faults.{group_of};
 ghost use Rattle.st_io.specs.declared.reading.TheConstants.{MAX_BYTES};
 ghost use Rattle.st_doc.specs.Reading.{document_of};
@@ -8,19 +8,22 @@ ghost use Rattle.st_doc.specs.Sound.{IsSoundGroup, IsSoundDoc};
 ghost use Rattle.st_top.specs.declared.words.Command.TheVariants.{Serial as serial_command, Check as check_command};
 ghost use Rattle.st_top.specs.Words.{command_of as command_of_lem};
 ghost use Rattle.st_top.specs.NotYet.{is_run as is_run_lem};
+ghost use Rattle.st_top.specs.Output.{app_names as app_names_lem, run_text};
+ghost use Rattle.st_top.specs.Serial.{opened, scripts_done as scripts_done_lem, decided as decided_lem, groups_in, journals_from, logs_from, LogsFit};
 ghost use Rattle.st_top.specs.Answer.{EndsWith, IsUnread};
-ghost use Rattle.st_top.specs.Ending.{TellsFault, IsEndOn, IsCalledFor, RunsGroups, WritesEnding, told as told_lem};
+ghost use Rattle.st_top.specs.Ending.{TellsFault, IsEndOn, IsCalledFor, AreKeptHistories, run_in, WritesEnding, told as told_lem};
 
-use crate::answer::{Journals, Outcome, Status, fault_text};
+use crate::answer::{Journals, Logs, Outcome, Status, fault_text};
 use crate::not_yet::is_run;
-use crate::output::{app_names, check_text, print_group};
-use crate::serial::run_scripts;
+use crate::output::{app_names, check_text, print_groups, print_logs};
+use crate::schedule::schedule;
+use crate::serial::{decide_all, places_done};
 use crate::words::{Command, command_of};
 use crate::world::World;
 use st_doc::{Doc, DocRead, read_doc};
-use st_event::Journal;
+use st_event::{Journal, Log, LogEntries};
 use st_io::{ReadEnd, Sink, Source, Written, read_all, write_all};
-use st_net::{Built, GroupTopo, Parts};
+use st_net::{AppId, Built, GroupTopo, Parts};
 use st_text::Text;
 use std::alloc::{AllocError, Global};
 
@@ -29,6 +32,7 @@ use std::alloc::{AllocError, Global};
 pub struct Ending {
     status: Status,
     journals: Journals,
+    logs: Logs,
     text: Text,
 }
 
@@ -39,6 +43,7 @@ fn fault_ending(alloc: Global, status: Status) -> Result<Ending, AllocError>
     Ok(Ending {
         status,
         journals: Journals::none(alloc),
+        logs: Logs::none(alloc),
         text: fault_text(alloc, status)?,
     })
 }
@@ -54,44 +59,107 @@ fn topo_of(alloc: Global, parts: &Parts) -> Result<GroupTopo, AllocError>
     }
 }
 
-/// Runs the scripts of a document of one group, and adds the group's lines.
-fn run_group(
-    alloc: Global,
-    doc: &Doc,
-    parts: &Parts,
-    out: &mut Text,
-) -> Result<Journals, AllocError>
-    requires sound { IsSoundDoc doc.now }
-    requires runnable { is_run_lem doc.now ≡ true }
-    requires only { doc.now.groups ≡ parts.now ∷ [] }
-    ensures { IfOk result (RunsGroups doc.now out.old out.new) }
+/// The worlds of a document's groups at their opening, in order.
+fn worlds_of(alloc: Global, groups: &[Parts]) -> Result<Vec<World>, AllocError>
+    requires { All IsSoundGroup groups.now }
+    ensures { IfOk result (λ worlds. worlds.items ≡ map opened groups.now) }
 {
-    let topo = topo_of(alloc, parts)?;
-    let mut world = World::start(alloc, topo)?;
-    // Before anything is entered, the entities that are sure are those that carry.
-    let up = world.control().sure()?;
-    run_scripts(&mut world, doc.apps.as_slice())?;
-    let apps = app_names(alloc, doc)?;
-    print_group(alloc, &world, &up, apps.as_slice(), out)?;
-    world.keeps_promises();
+    let mut worlds = Vec::new(alloc);
+    for parts in groups {
+        worlds.push(World::start(alloc, topo_of(alloc, parts)?)?)?;
+    }
+    Ok(worlds)
+}
+
+/// An empty log for each application.
+fn empty_logs(alloc: Global, count: usize) -> Result<Vec<LogEntries>, AllocError>
+    ensures { IfOk result (λ logs. logs.items ≡ replicate count []) }
+{
+    let mut logs = Vec::new(alloc);
+    for _app in 0..count {
+        logs.push(LogEntries::none(alloc))?;
+    }
+    Ok(logs)
+}
+
+/// A document after the commands of its scripts: the groups, and what the applications saw.
+#[derive(Drop)]
+struct Ran {
+    worlds: Vec<World>,
+    logs: Vec<LogEntries>,
+}
+
+/// Does the commands of a document's scripts.
+fn scripts_done(alloc: Global, doc: &Doc) -> Result<Ran, AllocError>
+    requires { IsSoundDoc doc.now }
+    ensures { IfOk result (λ ran. run_in ran ≡ scripts_done_lem doc.now) }
+{
+    let apps = doc.apps.as_slice();
+    let places = schedule(alloc, apps, doc.order.as_slice())?;
+    let mut worlds = worlds_of(alloc, doc.groups.as_slice())?;
+    let mut logs = empty_logs(alloc, apps.len())?;
+    places_done(
+        worlds.as_mut_slice(),
+        logs.as_mut_slice(),
+        apps,
+        places.as_slice(),
+    )?;
+    Ok(Ran { worlds, logs })
+}
+
+/// The journals of groups, in order.
+fn journals_of(alloc: Global, worlds: Vec<World>) -> Result<Journals, AllocError>
+    requires { length worlds.items < 2 ^ 32 }
+    ensures journals { IfOk result (λ journals. journals ≡ journals_from 0 worlds.items) }
+    ensures kept { IfOk result (λ journals. AreKeptHistories worlds.items) }
+{
     let mut journals = Vec::new(alloc);
-    journals.push(Journal {
-        group: 0,
-        entries: world.into_entries(),
-    })?;
+    for world in worlds {
+        world.keeps_promises();
+        let group = journals.len() as u32;
+        let entries = world.into_entries();
+        journals.push(Journal { group, entries })?;
+    }
     Ok(Journals::new(journals))
 }
 
-/// Runs the groups of a document, of which there is at most one, and adds their lines.
-fn run_groups(alloc: Global, doc: &Doc, out: &mut Text) -> Result<Journals, AllocError>
-    requires sound { IsSoundDoc doc.now }
-    requires runnable { is_run_lem doc.now ≡ true }
-    ensures { IfOk result (RunsGroups doc.now out.old out.new) }
+/// The logs of applications, in order.
+fn logs_of(alloc: Global, logs: Vec<LogEntries>) -> Result<Logs, AllocError>
+    requires { length logs.items < 2 ^ 32 }
+    ensures { IfOk result (λ all. all ≡ logs_from 0 logs.items) }
 {
-    match doc.groups.as_slice() {
-        [parts, ..] => run_group(alloc, doc, parts, out),
-        [] => Ok(Journals::none(alloc)),
+    let mut all = Vec::new(alloc);
+    for entries in logs {
+        let app = AppId(all.len() as u32);
+        all.push(Log { app, entries })?;
     }
+    Ok(Logs::new(all))
+}
+
+/// Decides what is still pending in each group.
+fn decided(ran: Ran) -> Result<Ran, AllocError>
+    ensures { IfOk result (λ end. run_in end ≡ decided_lem (run_in ran)) }
+{
+    let Ran { mut worlds, logs } = ran;
+    decide_all(worlds.as_mut_slice())?;
+    Ok(Ran { worlds, logs })
+}
+
+/// The report of a document that was run.
+fn report_text(alloc: Global, doc: &Doc, ran: &Ran) -> Result<Text, AllocError>
+    requires each { length (run_in ran.now).logs ≡ length doc.now.apps }
+    requires fits { LogsFit (groups_in (run_in ran.now).groups) (run_in ran.now).logs }
+    ensures { IfOk result (λ text. text ≡ run_text (app_names_lem doc.now) (run_in ran.now)) }
+{
+    let worlds = ran.worlds.as_slice();
+    let names = app_names(alloc, doc)?;
+    let apps = names.as_slice();
+    let mut out = Text::new(alloc);
+    out.word(b"statesman report 1\n")?;
+    print_groups(alloc, worlds, apps, &mut out)?;
+    print_logs(worlds, apps, ran.logs.as_slice(), &mut out)?;
+    out.word(b"end\n")?;
+    Ok(out)
 }
 
 /// The ending of `serial` on a document that can be run.
@@ -100,13 +168,13 @@ fn run_ending(alloc: Global, doc: &Doc) -> Result<Ending, AllocError>
     requires runnable { is_run_lem doc.now ≡ true }
     ensures { IfOk result (IsEndOn serial_command (read_ok doc.now)) }
 {
-    let mut text = Text::new(alloc);
-    text.word(b"statesman report 1\n")?;
-    let journals = run_groups(alloc, doc, &mut text)?;
-    text.word(b"end\n")?;
+    let ran = decided(scripts_done(alloc, doc)?)?;
+    let text = report_text(alloc, doc, &ran)?;
+    let Ran { worlds, logs } = ran;
     Ok(Ending {
         status: Status::Ok,
-        journals,
+        journals: journals_of(alloc, worlds)?,
+        logs: logs_of(alloc, logs)?,
         text,
     })
 }
@@ -131,6 +199,7 @@ fn check_ending(alloc: Global, doc: &Doc) -> Result<Ending, AllocError>
     Ok(Ending {
         status: Status::Ok,
         journals: Journals::none(alloc),
+        logs: Logs::none(alloc),
         text: check_text(alloc, doc)?,
     })
 }
@@ -220,6 +289,7 @@ fn write_ending<K: Sink>(ending: Ending, sink: &mut K) -> Outcome
     Outcome {
         status: told(written, ending.status),
         journals: ending.journals,
+        logs: ending.logs,
     }
 }
 
@@ -236,7 +306,7 @@ pub fn statesman<S: Source, K: Sink>(
         (record { left = S.left source.new; faults = S.faults source.new })
         (record { held = K.held sink.old; faults = K.faults sink.old })
         (record { held = K.held sink.new; faults = K.faults sink.new })
-        result.journals result.status }
+        (record { journals = result.journals; logs = result.logs }) result.status }
 
     // Where the words are no command nothing is read, whatever the status.
     ensures idle { command_of_lem (map string_bytes words.now) ≡ None → IsUnread
@@ -256,6 +326,7 @@ pub fn statesman<S: Source, K: Sink>(
         Err(_) => Outcome {
             status: Status::OutOfMemory,
             journals: Journals::none(alloc),
+            logs: Logs::none(alloc),
         },
     }
 }

@@ -1,4 +1,4 @@
-use Rattle.std.proofs.Common.{◌≡◌, ◌++◌, List, [], sym, ◌∙◌, subst}
+use Rattle.std.proofs.Common.{◌≡◌, ◌++◌, List, [], ap, sym, ◌∙◌, subst}
 use Rattle.std.specs.Prelude.{OnOk}
 use Rattle.st_net.specs.Groups.{Group}
 use Rattle.st_net.specs.Sets.{MarksOf, is_in}
@@ -8,19 +8,22 @@ use Rattle.st_event.specs.Standing.{standing_of}
 use Rattle.st_control.specs.Checker.{standing_in}
 use Rattle.st_report.specs.GroupReport.{group_report}
 use Rattle.st_report.specs.Standing.{IsStandingOf}
+use Rattle.st_store.specs.Store.{StoreView}
 use Rattle.st_top.proofs.Quiet.{stands}
 use Rattle.st_top.proofs.output.print_group.Goals as goal
 
-pub group_text-requires-clause-standing : goal.group_text-requires-clause-standing
-group_text-requires-clause-standing c =
+pub group_text-requires : goal.group_text-requires
+group_text-requires c =
     let k = c.control-control.result.now in
     let g = c.topo-topo.result.now in
     let same = sym c.control-control.ensures.group ∙ sym c.topo-topo.ensures.topo in
-    let marks = subst (λ (h : Group). MarksOf h c.args.up.now) same c.requires.marks in
-    let up = subst (λ (h : Group). is_in c.args.up.now ≡ actual h []) same c.requires.up in
+    let marks = subst (λ (h : Group). MarksOf h c.opening-opening.result.now) same c.opening-opening.ensures.marks in
+    let up = subst (λ (h : Group). is_in c.opening-opening.result.now ≡ actual h []) same c.opening-opening.ensures.up in
     let standing = subst (λ (h : Group). standing_in k ≡ standing_of h c.args.world.now.past) same c.control-control.ensures.standing in
-    subst (λ (past : List Entry). IsStandingOf g past c.table.result.now c.in_ok-settled.settled c.args.up.now c.args.up.now) (sym c.journal.ensures)
-    (stands k g c.args.world.now.past c.table.result.now c.in_ok-settled.settled c.args.up.now (sym c.topo-topo.ensures.topo) standing c.keeps_promises.ensures.quiet c.table.ensures.table c.table.ensures.of c.in_ok-settled.ensures.of c.in_ok-settled.ensures.settled marks up)
+    record {
+      standing = subst (λ (past : List Entry). IsStandingOf g past c.target.result.now c.in_ok-settled.settled c.opening-opening.result.now c.opening-opening.result.now) (sym c.journal.ensures)
+          (stands k g c.args.world.now.past c.target.result.now c.in_ok-settled.settled c.opening-opening.result.now (sym c.topo-topo.ensures.topo) standing c.keeps_promises.ensures.quiet (c.target.ensures.target ∙ ap (λ (s : StoreView). s.target) c.store.ensures.store) (rw (c.target.ensures.target) c.store.ensures.of.table) c.in_ok-settled.ensures.of c.in_ok-settled.ensures.settled marks up);
+    }
 
 pub returns : goal.returns
 returns c =

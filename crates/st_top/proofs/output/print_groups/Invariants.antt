@@ -1,0 +1,6 @@
+use Rattle.std.proofs.Common.{◌≡◌, ◌++◌, take}
+use Rattle.st_top.specs.Output.{histories_text}
+use Rattle.st_top.proofs.output.print_groups.Given as goal
+
+abbrev pub invariant-loop-world : goal.invariant-loop-world
+invariant-loop-world l = l.out ≡ l.fn.out ++ histories_text l.apps (take l.world-index l.worlds)
