@@ -1,5 +1,6 @@
 pub mod NamePlaces
 pub mod Tests
+pub mod InOrder
 pub mod MergeLaws
 pub mod CutLaws
 pub mod WalkLaws

@@ -13,4 +13,7 @@ pub mod Faults
 pub mod Pairs
 pub mod Building
 pub mod Holders
+pub mod Agents
+pub mod Reports
+pub mod InOrder
 pub mod Laws

@@ -1,8 +1,9 @@
 //! Entities, their variables and the values of these, and rows that set one variable. A document names them, applications
 //! ask for rows of them, and all definitions speak of them.
 
-ghost use Rattle.std.specs.Prelude.{◌≡◌};
+ghost use Rattle.std.specs.Prelude.{◌≡◌, ◌<◌, ◌^◌};
 ghost use Rattle.st_net.specs.Entities.{value_of, value_set, is_same_entity, is_same_var, is_same_vals, place_of, power_of};
+ghost use Rattle.st_net.specs.InOrder.{place_behind as place_behind_lem};
 
 /// A device or a link of a group, by its number from 0 in the order of declaration. Devices come first in the order of
 /// entities.
@@ -67,6 +68,17 @@ impl Entity {
             (Entity::Device(i), Entity::Device(j)) => i == j,
             (Entity::Link(i), Entity::Link(j)) => i == j,
             _ => false,
+        }
+    }
+
+    /// Where this entity stands in the order of entities, the first of which are so many devices.
+    pub fn place_behind(self, devices: usize) -> usize
+        requires { place_behind_lem devices self < 2 ^ 64 }
+        ensures { result ≡ place_behind_lem devices self }
+    {
+        match self {
+            Entity::Device(i) => i as usize,
+            Entity::Link(i) => devices + i as usize,
         }
     }
 

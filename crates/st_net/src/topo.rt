@@ -2,6 +2,7 @@
 //! and none tests it again.
 
 ghost use Rattle.std.specs.Prelude.{◌≡◌, ℕ, ◌<◌, ◌^◌, length, slice_index_or, slice_get, Some, IfOk, IfSome, IfNone};
+ghost use Rattle.st_net.specs.InOrder.{place_in, entity_count};
 ghost use Rattle.st_net.specs.Groups.{Group, IsEntityOf, find_in, name_of as name_of_lem, no_device, no_link, no_promise, opening_of, health_of, IsSound};
 
 mod same;
@@ -174,6 +175,16 @@ impl GroupTopo {
             Entity::Device(i) => self.devices[i as usize].health,
             Entity::Link(i) => self.links[i as usize].health,
         }
+    }
+
+    /// Where an entity stands in the order of entities: devices first, then links. Lists with an item for each entity stand in
+    /// this order.
+    pub fn place(&self, e: Entity) -> usize
+        requires { IsEntityOf self.now e }
+        ensures place { result ≡ place_in self.now e }
+        ensures within { result < entity_count self.now }
+    {
+        e.place_behind(self.devices.len())
     }
 
     /// The entity of a name: None exactly where no part has it.
