@@ -1,6 +1,7 @@
 pub mod AllowedBytes
 pub mod Lines
 pub mod Numbers
+pub mod Printed
 pub mod ReadingBack
 pub mod Tokens
 pub mod Words

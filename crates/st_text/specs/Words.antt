@@ -20,3 +20,12 @@ line_text words = join_with_byte 32 words
 -- the lines of a text, each of words, with an LF behind each
 abbrev pub text_of : List (List (List ℕ)) → List ℕ
 text_of lines = flat_map ended (map line_text lines)
+
+-- words, each behind a space
+abbrev pub spaced : List (List ℕ) → List ℕ
+spaced [] = []
+spaced (word ∷ words) = 32 ∷ word ++ spaced words
+
+-- a line: a word, more words, each behind a space, and LF
+abbrev pub line : List ℕ → List (List ℕ) → List ℕ
+line word words = word ++ spaced words ++ 10 ∷ []

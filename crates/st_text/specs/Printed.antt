@@ -1,0 +1,29 @@
+-- What a printer adds to a text: the words that it is given, and a part of them where memory ends.
+use Rattle.std.specs.Prelude.{◌≡◌, ℕ, List, ◌∷◌, ◌++◌, decimal}
+use Rattle.st_text.specs.declared.words.Word.{Word}
+use Rattle.st_text.specs.declared.words.Word.TheVariants.{Plain, Number, Variable, Assignment, Value}
+
+-- VAR=NUMBER, NAME.VAR=NUMBER and NAME.VAR
+abbrev pub value_word : List ℕ → ℕ → List ℕ
+value_word var value = var ++ 61 ∷ decimal value
+
+abbrev pub assignment_word : List ℕ → List ℕ → ℕ → List ℕ
+assignment_word name var value = name ++ 46 ∷ value_word var value
+
+abbrev pub variable_word : List ℕ → List ℕ → List ℕ
+variable_word name var = name ++ 46 ∷ var
+
+-- the bytes of a word
+abbrev pub bytes_of : Word → List ℕ
+bytes_of (Plain bytes) = bytes.now
+bytes_of (Number n) = decimal n
+bytes_of (Variable name var) = variable_word name.now var.now
+bytes_of (Assignment name var value) = assignment_word name.now var.now value
+bytes_of (Value var value) = value_word var.now value
+
+-- behind what the text held stands a part of this one, from its beginning
+pub record HoldsPart (old new text : List ℕ) : Type 0 where
+  pub done : List ℕ
+  pub left : List ℕ
+  pub text_is : text ≡ done ++ left
+  pub new_is : new ≡ old ++ done

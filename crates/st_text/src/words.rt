@@ -1,0 +1,141 @@
+//! Lines of words are printed here. The crates that print a text make its words from what they print, and add them to a
+//! `Text`.
+
+ghost use Rattle.std.specs.Prelude.{◌≡◌, ◌++◌, ◌∷◌, [], OnOk, OnErr, map};
+ghost use Rattle.st_text.specs.Words.{spaced, line};
+ghost use Rattle.st_text.specs.Printed.{HoldsPart, bytes_of, value_word, assignment_word, variable_word};
+
+use crate::printing::Text;
+use std::alloc::AllocError;
+
+/// A word of a line.
+#[derive(Clone, Copy)]
+pub enum Word<'a> {
+    /// These bytes.
+    Plain(&'a [u8]),
+    /// A number in decimal.
+    Number(u64),
+    /// NAME.VAR.
+    Variable {
+        name: &'a [u8],
+        var: &'a [u8],
+    },
+    /// NAME.VAR=NUMBER.
+    Assignment {
+        name: &'a [u8],
+        var: &'a [u8],
+        value: u32,
+    },
+    /// VAR=NUMBER.
+    Value {
+        var: &'a [u8],
+        value: u32,
+    },
+}
+
+/// Adds VAR=NUMBER. After `Err` the text holds a part of it.
+fn print_value(var: &[u8], value: u32, out: &mut Text) -> Result<(), AllocError>
+    ensures ok { OnOk result (out.new ≡ out.old ++ value_word var.now value) }
+    ensures err { OnErr result (HoldsPart out.old out.new (value_word var.now value)) }
+{
+    out.word(var)?;
+    out.word(b"=")?;
+    out.num(u64::from(value))
+}
+
+/// Adds NAME.VAR=NUMBER. After `Err` the text holds a part of it.
+fn print_assignment(name: &[u8], var: &[u8], value: u32, out: &mut Text) -> Result<(), AllocError>
+    ensures ok { OnOk result (out.new ≡ out.old ++ assignment_word name.now var.now value) }
+    ensures err { OnErr result (HoldsPart out.old out.new (assignment_word name.now var.now value)) }
+{
+    out.word(name)?;
+    out.word(b".")?;
+    print_value(var, value, out)
+}
+
+/// Adds NAME.VAR. After `Err` the text holds a part of it.
+fn print_variable(name: &[u8], var: &[u8], out: &mut Text) -> Result<(), AllocError>
+    ensures ok { OnOk result (out.new ≡ out.old ++ variable_word name.now var.now) }
+    ensures err { OnErr result (HoldsPart out.old out.new (variable_word name.now var.now)) }
+{
+    out.word(name)?;
+    out.word(b".")?;
+    out.word(var)
+}
+
+/// Adds a space and the word. `Err` is for want of memory alone, and the text then holds a part of them behind what it held.
+pub fn print_word(word: Word, out: &mut Text) -> Result<(), AllocError>
+    ensures ok { OnOk result (out.new ≡ out.old ++ 32 ∷ bytes_of word.entry) }
+    ensures err { OnErr result (HoldsPart out.old out.new (32 ∷ bytes_of word.entry)) }
+{
+    out.word(b" ")?;
+    match word {
+        Word::Plain(bytes) => out.word(bytes),
+        Word::Number(number) => out.num(number),
+        Word::Variable { name, var } => print_variable(name, var, out),
+        Word::Assignment { name, var, value } => print_assignment(name, var, value, out),
+        Word::Value { var, value } => print_value(var, value, out),
+    }
+}
+
+/// Adds words, each behind a space. `Err` is for want of memory alone, and the text then holds a part of them behind what it
+/// held.
+pub fn print_words(words: &[Word], out: &mut Text) -> Result<(), AllocError>
+    ensures ok { OnOk result (out.new ≡ out.old ++ spaced (map bytes_of words.now)) }
+    ensures err { OnErr result (HoldsPart out.old out.new (spaced (map bytes_of words.now))) }
+{
+    for word in words {
+        print_word(*word, out)?;
+    }
+    Ok(())
+}
+
+/// Adds the beginning of a line: its first word and more words, each behind a space. `Err` is for want of memory alone, and
+/// the text then holds a part of it behind what it held.
+pub fn begin_line(head: &[u8], words: &[Word], out: &mut Text) -> Result<(), AllocError>
+    ensures ok { OnOk result (out.new ≡ out.old ++ (head.now ++ spaced (map bytes_of words.now))) }
+    ensures err { OnErr result (HoldsPart out.old out.new (head.now ++ spaced (map bytes_of words.now))) }
+{
+    out.word(head)?;
+    print_words(words, out)
+}
+
+/// Adds a line: its first word, more words, each behind a space, and LF. `Err` is for want of memory alone, and the text then
+/// holds a part of it behind what it held.
+pub fn print_line(head: &[u8], words: &[Word], out: &mut Text) -> Result<(), AllocError>
+    ensures ok { OnOk result (out.new ≡ out.old ++ line head.now (map bytes_of words.now)) }
+    ensures err { OnErr result (HoldsPart out.old out.new (line head.now (map bytes_of words.now))) }
+{
+    begin_line(head, words, out)?;
+    out.word(b"\n")
+}
+
+#[cfg(test)]
+mod tests {
+    use super::*;
+    use std::test::Fail;
+
+    #[test]
+    fn words_of_each_kind_stand_in_a_line(rt: HostRuntime) -> Result<(), Fail> {
+        let mut text = Text::new(rt.alloc());
+        let (name, var) = (b"a1".as_slice(), b"config".as_slice());
+        let words = [
+            Word::Plain(b"dc1"),
+            Word::Number(18446744073709551615),
+            Word::Variable { name, var },
+            Word::Assignment {
+                name,
+                var,
+                value: 4294967295,
+            },
+            Word::Value { var, value: 0 },
+        ];
+        print_line(b"seen", &words, &mut text)?;
+        begin_line(b"end", &[], &mut text)?;
+        assert_eq!(rt;
+            text.bytes(),
+            b"seen dc1 18446744073709551615 a1.config a1.config=4294967295 config=0\nend".as_slice()
+        );
+        Ok(())
+    }
+}
