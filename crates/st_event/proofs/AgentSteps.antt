@@ -14,7 +14,8 @@ use Rattle.st_net.specs.Entities.{is_same_entity}
 use Rattle.st_net.specs.Groups.{Group}
 use Rattle.st_net.specs.Numbered.{nth}
 use Rattle.st_event.specs.Moments.{command_of, fence_after, begins, work_after, commands, fence, busy, work, vals, health, number}
-use Rattle.st_event.specs.Agents.{agent_from, agent_of, agent_told, agent_finished, agent_after}
+use Rattle.st_net.specs.Agents.{agent_told, agent_finished}
+use Rattle.st_event.specs.Agents.{agent_from, agent_of, agent_after}
 
 still : (vals : Vals) (health fence : ℕ) (busy : Bool) (work : Vals) (number : ℕ) → agent_from vals health fence (busy && true) work number ≡ agent_from vals health fence busy work number
 still vals health fence true work number = refl

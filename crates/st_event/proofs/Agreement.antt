@@ -8,7 +8,7 @@ use Rattle.st_event.specs.declared.journal.Entry.{Entry}
 use Rattle.st_net.specs.Groups.{Group}
 use Rattle.st_net.specs.Numbered.{nth}
 use Rattle.st_event.specs.Moments.{reports}
-use Rattle.st_event.specs.Observed.{opening_report}
+use Rattle.st_net.specs.Reports.{opening_report}
 use Rattle.st_event.specs.Legal.{IsLegal, AtEach}
 use Rattle.st_event.specs.Facts.{AgentsAgree}
 use Rattle.st_event.proofs.Made.{IsMade, Makes, report_now, makes_last, numbered_made, numbered_sent}

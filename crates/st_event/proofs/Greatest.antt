@@ -10,7 +10,8 @@ use Rattle.st_net.specs.Entities.{is_same_entity}
 use Rattle.st_net.specs.Groups.{Group}
 use Rattle.st_net.specs.Numbered.{nth}
 use Rattle.st_event.specs.Moments.{heard, told, fence_after, commands, reports, fence}
-use Rattle.st_event.specs.Observed.{opening_report, later_report, observed}
+use Rattle.st_net.specs.Reports.{opening_report, later_report}
+use Rattle.st_event.specs.Observed.{observed}
 use Rattle.st_event.specs.Heard.{WasHeard, WasTold}
 use Rattle.st_net.proofs.Tests.{same_self, both, less_is}
 use Rattle.st_event.proofs.Stamps.{fence_grows}

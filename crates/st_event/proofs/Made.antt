@@ -14,8 +14,10 @@ use Rattle.st_net.specs.Groups.{Group}
 use Rattle.st_event.specs.Proposals.{target}
 use Rattle.st_net.specs.Merge.{vals_in}
 use Rattle.st_net.specs.Numbered.{nth}
-use Rattle.st_event.specs.Moments.{heard, command_of, told, commands_after, reports_after, report_by, stamp, commands, fence, busy, vals, health, number, reports}
-use Rattle.st_event.specs.Observed.{opening_report, later_report, observed}
+use Rattle.st_net.specs.Agents.{report_by}
+use Rattle.st_event.specs.Moments.{heard, command_of, told, commands_after, reports_after, stamp, commands, fence, busy, vals, health, number, reports}
+use Rattle.st_net.specs.Reports.{opening_report, later_report}
+use Rattle.st_event.specs.Observed.{observed}
 use Rattle.st_net.proofs.Tests.{nth_last, both, same_entity}
 
 -- what an agent would report

@@ -14,7 +14,8 @@ use Rattle.st_net.specs.Entities.{is_same_entity}
 use Rattle.st_net.specs.Groups.{Group}
 use Rattle.st_net.specs.Numbered.{nth}
 use Rattle.st_event.specs.Moments.{told, fence_after, begins, vals_after, health_after, is_report_of, is_fail_of, commands, fence, work, vals, health, number}
-use Rattle.st_event.specs.Observed.{opening_report, failed_since}
+use Rattle.st_net.specs.Reports.{opening_report}
+use Rattle.st_event.specs.Observed.{failed_since}
 use Rattle.st_event.specs.Facts.{IsShown, IsTrueOf}
 use Rattle.st_net.proofs.Tests.{neither, not_both, at_most, same_self}
 use Rattle.st_event.proofs.Made.{IsMade, Makes, report_now}

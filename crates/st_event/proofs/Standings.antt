@@ -1,5 +1,5 @@
 -- One entry more moves the standing by one step.
-use Rattle.std.proofs.Common.{◌≡◌, ℕ, ◌+◌, ◌≤◌, List, [], ◌∷◌, ◌++◌, length, drop, Option, Some, None, refl, ap, ◌∙◌, length-append}
+use Rattle.std.proofs.Common.{◌≡◌, ℕ, ◌+◌, ◌≤◌, List, [], ◌∷◌, ◌++◌, length, drop, Option, Some, None, refl, sym, ap, ◌∙◌, length-append}
 use Rattle.std.proofs.lemmas.List.{drop-append-le}
 use Rattle.std.specs.Prelude.{Bool, true, false, ◌&&◌, ◌||◌, if◌then◌else◌}
 use mathlib.Core.Path.{fun_ext}
@@ -22,15 +22,15 @@ use Rattle.st_event.specs.declared.reply.Reply.TheVariants.{Queued, Decided}
 use Rattle.st_event.specs.declared.journal.Entry.{Entry}
 use Rattle.st_net.specs.Groups.{Group}
 use Rattle.st_net.specs.Merge.{merge_of, target_with, vals_in, alters}
-use Rattle.st_event.specs.Proposals.{is_accepted, is_acceptance, proposals, verdicts, pending, accepted, target, first_rows}
+use Rattle.st_event.specs.Proposals.{is_accepted, is_acceptance, proposals, verdicts, verdicts_after, deciders, deciders_after, pending, accepted, target, first_rows}
 use Rattle.st_event.specs.Locks.{holder}
 use Rattle.st_net.specs.Numbered.{nth}
 use Rattle.st_event.specs.Moments.{heard, is_taken, renews, stamp, commands, reports, busy, work, reports_after}
 use Rattle.st_event.specs.Observed.{observed}
 use Rattle.st_event.specs.Replies.{reply, check_reply, receipt_of}
 use Rattle.st_event.specs.Legal.{IsLegal, IsNext}
-use Rattle.st_event.specs.Agents.{Agent}
-use Rattle.st_event.specs.Standing.{Standing, Wires, standing_of, wires_of, reply_in, check_reply_in, standing_after, wires_after, decide_one, hear_one, is_at_work, report_in}
+use Rattle.st_net.specs.Agents.{Agent, is_at_work}
+use Rattle.st_event.specs.Standing.{Standing, Wires, standing_of, wires_of, reply_in, check_reply_in, standing_after, wires_after, decide_one, hear_one, made_report}
 use Rattle.st_net.proofs.MergeLaws.{merge_of-push_all}
 use Rattle.st_event.proofs.Queues.{accepted_among-proposal, accepted_among-verdict, drop-verdict}
 use Rattle.st_event.proofs.Targets.{IsOrderly, legal_orderly}
@@ -38,9 +38,19 @@ use Rattle.st_event.proofs.Promises.{entry_of}
 use Rattle.st_event.proofs.Made.{report_now}
 use Rattle.st_event.proofs.AgentSteps.{agent_of-next}
 
+-- there is one entry for each verdict
+deciders_after-length : (event : Event) (answer : Reply) (n : ℕ) (ds : List ℕ) (vs : List Verdict) → length ds ≡ length vs → length (deciders_after event answer n ds) ≡ length (verdicts_after event answer vs)
+deciders_after-length Check (Decided receipt) n ds vs same = rw (length-append, length-append, same) refl
+deciders_after-length Check answer n ds vs same = same
+deciders_after-length event answer n ds vs same = same
+
+pub length-deciders : (past : List Entry) → length (deciders past) ≡ length (verdicts past)
+length-deciders [] = refl
+length-deciders (entry ∷ past) = deciders_after-length entry.event entry.reply (length past + 1) (deciders past) (verdicts past) (length-deciders past)
+
 same_check : (g : Group) (past : List Entry) (queue : List Proposal) → check_reply g past queue ≡ check_reply_in g (standing_of g past) (length past + 1) queue
 same_check g past [] = refl
-same_check g past (p ∷ ps) = refl
+same_check g past (p ∷ ps) = ap (λ (n : ℕ). Decided (record (receipt_of g past p) { ticket = n + 1 })) (sym (length-deciders past))
 
 at_work_is : (b : Bool) (work : Vals) → is_at_work (if b then Some work else None) ≡ b
 at_work_is true work = refl
@@ -68,10 +78,10 @@ submit_moves g past app rows (Queued ticket) orderly =
     rw (length-append, drop-append-le, accepted_among-proposal) refl
 submit_moves g past app rows answer orderly = ap (λ (s : Entity → ℕ). record (standing_of g (entry_of (Submit app rows) answer ∷ past)) { stamp = s }) (quiet_stamp g past (Submit app rows) answer refl refl)
 
-abbrev standing_from : ℕ → ℕ → List Proposal → ℕ → (Entity → Var → ℕ) → (Entity → Prio → Option AppId) → (Entity → ℕ) → (Entity → Report) → Standing
+abbrev standing_from : ℕ → List ℕ → List Proposal → ℕ → (Entity → Var → ℕ) → (Entity → Prio → Option AppId) → (Entity → ℕ) → (Entity → Report) → Standing
 standing_from tickets decided queue count goal locks stamps views = record { tickets = tickets; decided = decided; pending = queue; version = count; target = goal; holder = locks; stamp = stamps; observed = views }
 
-same_standing : (t d d2 : ℕ) (q q2 : List Proposal) (v v2 : ℕ) (x x2 : Entity → Var → ℕ) (h : Entity → Prio → Option AppId) (s s2 : Entity → ℕ) (o : Entity → Report) → d ≡ d2 → q ≡ q2 → v ≡ v2 → x ≡ x2 → s ≡ s2 → standing_from t d q v x h s o ≡ standing_from t d2 q2 v2 x2 h s2 o
+same_standing : (t : ℕ) (d d2 : List ℕ) (q q2 : List Proposal) (v v2 : ℕ) (x x2 : Entity → Var → ℕ) (h : Entity → Prio → Option AppId) (s s2 : Entity → ℕ) (o : Entity → Report) → d ≡ d2 → q ≡ q2 → v ≡ v2 → x ≡ x2 → s ≡ s2 → standing_from t d q v x h s o ≡ standing_from t d2 q2 v2 x2 h s2 o
 same_standing t d d2 q q2 v v2 x x2 h s s2 o a b c e f = rw (a, b, c, e, f) refl
 
 or_false : (b : Bool) → (b || false) ≡ b
@@ -104,8 +114,8 @@ decided_moves g past receipt p rest first =
     let v = receipt.verdict in
     let next = drop-verdict (proposals past) rest (verdicts past) v p first in
     let merged = accepted_among-verdict (proposals past) (verdicts past) v p rest first in
-    same_standing (length (proposals past)) (length (verdicts past ++ v ∷ [])) (length (verdicts past) + 1) (drop (length (verdicts past ++ v ∷ [])) (proposals past)) rest _ _ _ _ (holder past) _ _ (observed g past)
-    (rw length-append refl) next (ap length merged ∙ version_by v (accepted past) p.rows) (ap (merge_of g) merged ∙ target_by g v (accepted past) p.rows) (stamp_decided g past receipt p rest first)
+    same_standing (length (proposals past)) (deciders past ++ (length past + 1) ∷ []) (deciders past ++ (length past + 1) ∷ []) (drop (length (verdicts past ++ v ∷ [])) (proposals past)) rest _ _ _ _ (holder past) _ _ (observed g past)
+    refl next (ap length merged ∙ version_by v (accepted past) p.rows) (ap (merge_of g) merged ∙ target_by g v (accepted past) p.rows) (stamp_decided g past receipt p rest first)
 
 check_moves : (g : Group) (past : List Entry) (queue : List Proposal) (answer : Reply) → pending past ≡ queue → answer ≡ check_reply g past queue → standing_of g (entry_of Check answer ∷ past) ≡ standing_after g (standing_of g past) (wires_of g past) (length past + 1) Check answer
 check_moves g past [] answer first is = rw is refl
@@ -129,7 +139,7 @@ wires_from sent made agents = record { commands = sent; reports = made; agent = 
 same_wires : (c : List Command) (r r2 : List Report) (a a2 : Entity → Agent) → r ≡ r2 → a ≡ a2 → wires_from c r a ≡ wires_from c r2 a2
 same_wires c r r2 a a2 p q = rw (p, q) refl
 
-same_report : (g : Group) (past : List Entry) → report_now g past ≡ report_in (wires_of g past)
+same_report : (g : Group) (past : List Entry) → report_now g past ≡ made_report (wires_of g past)
 same_report g past = fun_ext (λ e. rw (at_work_is (busy g past e) (work g past e)) refl)
 
 pub wires_of-next : (g : Group) (past : List Entry) (entry : Entry) → wires_of g (entry ∷ past) ≡ wires_after g (standing_of g past) (wires_of g past) entry.event entry.reply

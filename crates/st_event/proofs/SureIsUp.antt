@@ -11,7 +11,8 @@ use Rattle.st_net.specs.Groups.{Group}
 use Rattle.st_event.specs.Proposals.{target}
 use Rattle.st_net.specs.Merge.{vals_in}
 use Rattle.st_event.specs.Moments.{stamp, fence, busy, vals, health}
-use Rattle.st_event.specs.Observed.{observed, is_settled_by, is_sure_by, sure, actual, untold, failed_since}
+use Rattle.st_net.specs.Reports.{is_settled_by, is_sure_by}
+use Rattle.st_event.specs.Observed.{observed, sure, actual, untold, failed_since}
 use Rattle.st_event.specs.Facts.{IsShown}
 use Rattle.st_net.proofs.Tests.{both, turned, equal_numbers, equal_self, same_vals, same_vals_self}
 use Rattle.st_event.proofs.Made.{IsOwn, observed_own}

@@ -18,7 +18,8 @@ use Rattle.st_net.specs.Sets.{IsWithin}
 use Rattle.st_event.specs.Proposals.{is_acceptance, is_accepted, pending, target}
 use Rattle.st_net.specs.Numbered.{nth}
 use Rattle.st_event.specs.Moments.{heard, renews, is_taken, stamp, reports}
-use Rattle.st_event.specs.Observed.{observed, is_sure_by, sure, sure_after, failed_between}
+use Rattle.st_net.specs.Reports.{is_sure_by}
+use Rattle.st_event.specs.Observed.{observed, sure, sure_after, failed_between}
 use Rattle.st_event.specs.Replies.{reply, hear_reply, receipt_of}
 use Rattle.st_event.specs.Legal.{IsLegal, IsNext}
 use Rattle.st_event.specs.Network.{NamesLoss}

@@ -15,7 +15,8 @@ use Rattle.st_event.specs.Proposals.{target}
 use Rattle.st_net.specs.Merge.{vals_in}
 use Rattle.st_net.specs.Numbered.{nth}
 use Rattle.st_event.specs.Moments.{renews, is_taken, stamp, commands, fence, busy, vals, reports, number}
-use Rattle.st_event.specs.Observed.{observed, is_settled, is_settled_by}
+use Rattle.st_net.specs.Reports.{is_settled_by}
+use Rattle.st_event.specs.Observed.{observed, is_settled}
 use Rattle.st_event.specs.Past.{is_spoiled, target_at}
 use Rattle.st_event.specs.Legal.{IsLegal}
 use Rattle.st_net.proofs.Tests.{same_self, same_vals_self, equal_self, less, nth_pushed}

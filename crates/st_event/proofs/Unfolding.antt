@@ -21,7 +21,8 @@ use Rattle.st_net.specs.Numbered.{nth}
 use Rattle.st_event.specs.Proposals.{proposals_after, proposals, verdicts_after, verdicts, pending, is_acceptance, first_rows, target}
 use Rattle.st_event.specs.Locks.{holder_after, holder}
 use Rattle.st_event.specs.Moments.{heard, told, command_of, renews, is_taken, fence_after, begins, work_after, vals_after, health_after, is_finish_of, is_report_of, is_fail_of, commands_after, reports_after, stamp, commands, fence, busy, work, vals, health, number, reports}
-use Rattle.st_event.specs.Observed.{later_report, observed, failed_between, failed_since}
+use Rattle.st_net.specs.Reports.{later_report}
+use Rattle.st_event.specs.Observed.{observed, failed_between, failed_since}
 use Rattle.st_event.specs.Past.{is_spoiled, target_at}
 use Rattle.st_event.proofs.Made.{command_now, report_now}
 use Rattle.st_event.proofs.Queues.{drop-verdict}

@@ -1,5 +1,5 @@
 -- An agent as one value, and its step.
-use Rattle.std.specs.Prelude.{ℕ, ◌+◌, nat_lt, Bool, List, Option, Some, None, if◌then◌else◌}
+use Rattle.std.specs.Prelude.{ℕ, Bool, List, Option, Some, None, if◌then◌else◌}
 use Rattle.st_net.specs.declared.entity.Entity.{Entity}
 use Rattle.st_net.specs.declared.entity.Vals.{Vals}
 use Rattle.st_net.specs.declared.message.Command.{Command}
@@ -8,14 +8,8 @@ use Rattle.st_event.specs.declared.event.Event.TheVariants.{Deliver, Finish, Rep
 use Rattle.st_event.specs.declared.journal.Entry.{Entry}
 use Rattle.st_net.specs.Entities.{is_same_entity}
 use Rattle.st_net.specs.Groups.{Group}
+use Rattle.st_net.specs.Agents.{Agent, agent_told, agent_finished, agent_failed, agent_counted}
 use Rattle.st_event.specs.Moments.{command_of, fence, busy, work, vals, health, number}
-
-pub record Agent : Type 0 where
-  pub vals : Vals
-  pub health : ℕ
-  pub fence : ℕ
-  pub work : Option Vals
-  pub number : ℕ
 
 abbrev pub agent_from : Vals → ℕ → ℕ → Bool → Vals → ℕ → Agent
 agent_from vals health fence busy work number = record { vals = vals; health = health; fence = fence; work = if busy then Some work else None; number = number }
@@ -24,18 +18,9 @@ agent_from vals health fence busy work number = record { vals = vals; health = h
 abbrev pub agent_of : Group → List Entry → Entity → Agent
 agent_of g past e = agent_from (vals g past e) (health g past e) (fence g past e) (busy g past e) (work g past e) (number past e)
 
--- a command with a later stamp is begun
-abbrev pub agent_told : Option Command → Agent → Agent
-agent_told None a = a
-agent_told (Some c) a = if nat_lt a.fence c.stamp then record a { fence = c.stamp; work = Some c.vals } else a
-
-abbrev pub agent_finished : Option Vals → Agent → Agent
-agent_finished None a = a
-agent_finished (Some vals) a = record a { vals = vals; work = None }
-
 abbrev pub agent_after : Event → (ℕ → Option Command) → Entity → Agent → Agent
 agent_after (Deliver n) commands e a = agent_told (command_of e (commands n)) a
 agent_after (Finish at) commands e a = if is_same_entity at e then agent_finished a.work a else a
-agent_after (make_report at) commands e a = if is_same_entity at e then record a { number = a.number + 1 } else a
-agent_after (Fail at vals health) commands e a = if is_same_entity at e then record a { vals = vals; health = health } else a
+agent_after (make_report at) commands e a = if is_same_entity at e then agent_counted a else a
+agent_after (Fail at vals health) commands e a = if is_same_entity at e then agent_failed vals health a else a
 agent_after _ commands e a = a

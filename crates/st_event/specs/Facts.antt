@@ -8,7 +8,8 @@ use Rattle.st_net.specs.Levels.{level_of}
 use Rattle.st_net.specs.Groups.{Group}
 use Rattle.st_net.specs.Numbered.{nth}
 use Rattle.st_event.specs.Moments.{stamp, commands, fence, busy, work, vals, health, number, reports}
-use Rattle.st_event.specs.Observed.{opening_report, failed_since, failed_between}
+use Rattle.st_net.specs.Reports.{opening_report}
+use Rattle.st_event.specs.Observed.{failed_since, failed_between}
 use Rattle.st_event.specs.Past.{target_at, is_spoiled}
 
 -- a command is not from the future, and has what its entity's target was at its stamp

@@ -23,7 +23,8 @@ use Rattle.st_net.specs.Cuts.{IsCut, cut_value, least_cut, is_in_least_side}
 use Rattle.st_net.specs.Promises.{Keeps, is_kept}
 use Rattle.st_event.specs.Proposals.{accepted, pending, first_rows, is_acceptance, target}
 use Rattle.st_event.specs.Moments.{stamp, fence, commands, reports}
-use Rattle.st_event.specs.Observed.{opening_report, observed, sure}
+use Rattle.st_net.specs.Reports.{opening_report}
+use Rattle.st_event.specs.Observed.{observed, sure}
 use Rattle.st_event.specs.Replies.{reply}
 use Rattle.st_event.specs.Legal.{IsLegal, IsNext, AtEach}
 use Rattle.st_event.specs.Network.{KeepsPromises}

@@ -10,7 +10,7 @@ use Rattle.st_event.specs.declared.reply.Reply.{Reply}
 use Rattle.st_event.specs.declared.reply.Reply.TheVariants.{Taken, Sent}
 use Rattle.st_event.specs.declared.journal.Entry.{Entry}
 use Rattle.st_net.specs.Entities.{is_same_entity, is_same_vals}
-use Rattle.st_net.specs.Levels.{level_of}
+use Rattle.st_net.specs.Agents.{report_by}
 use Rattle.st_net.specs.Groups.{Group, opening_of, health_of}
 use Rattle.st_event.specs.Proposals.{target, pending, first_rows, is_acceptance}
 use Rattle.st_net.specs.Merge.{vals_in, alters}
@@ -99,10 +99,6 @@ commands_after _ reply command before = before
 abbrev pub reports_after : Event → (Entity → Report) → List Report → List Report
 reports_after (make_report e) report before = before ++ report e ∷ []
 reports_after _ report before = before
-
--- what an agent reports in this state
-abbrev pub report_by : Entity → ℕ → ℕ → Bool → Vals → ℕ → Report
-report_by e number fence busy vals health = record { entity = e; number = number; fence = fence; busy = busy; vals = vals; level = level_of e vals health busy }
 
 abbrev mutual
   -- the number of the last entry that changed or renewed the target of an entity

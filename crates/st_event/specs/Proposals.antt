@@ -1,6 +1,6 @@
 -- The proposals of a journal. A journal stands here with its newest entry first: `entry ∷ past` is the
 -- journal `past` with one more entry.
-use Rattle.std.specs.Prelude.{ℕ, Bool, true, false, List, [], ◌∷◌, ◌++◌, length, drop, if◌then◌else◌}
+use Rattle.std.specs.Prelude.{ℕ, ◌+◌, Bool, true, false, List, [], ◌∷◌, ◌++◌, length, drop, if◌then◌else◌}
 use Rattle.st_net.specs.declared.entity.Row.{Row}
 use Rattle.st_net.specs.declared.entity.Entity.{Entity}
 use Rattle.st_net.specs.declared.entity.Var.{Var}
@@ -46,6 +46,19 @@ verdicts_after _ reply before = before
 abbrev pub verdicts : List Entry → List Verdict
 verdicts [] = []
 verdicts (entry ∷ past) = verdicts_after entry.event entry.reply (verdicts past)
+
+-- the numbers of the entries that decide tickets 1, 2, 3 and so on, after entry n
+abbrev pub with_number_of : Reply → ℕ → List ℕ → List ℕ
+with_number_of (Decided receipt) n before = before ++ n ∷ []
+with_number_of _ n before = before
+
+abbrev pub deciders_after : Event → Reply → ℕ → List ℕ → List ℕ
+deciders_after Check reply n before = with_number_of reply n before
+deciders_after _ reply n before = before
+
+abbrev pub deciders : List Entry → List ℕ
+deciders [] = []
+deciders (entry ∷ past) = deciders_after entry.event entry.reply (length past + 1) (deciders past)
 
 -- the proposals that no verdict decides, the oldest first
 abbrev pub pending : List Entry → List Proposal

@@ -19,19 +19,21 @@ use Rattle.st_event.specs.declared.journal.TheConstants.{MAX_PENDING}
 use Rattle.st_event.specs.declared.journal.Entry.{Entry}
 use Rattle.st_net.specs.Groups.{Group}
 use Rattle.st_net.specs.Merge.{target_with, vals_in, alters, without_altered}
-use Rattle.st_event.specs.Proposals.{is_queued, is_accepted, proposals, verdicts, pending, version, target}
+use Rattle.st_event.specs.Proposals.{is_queued, is_accepted, proposals, deciders, pending, version, target}
 use Rattle.st_event.specs.Locks.{holder, holder_after}
 use Rattle.st_net.specs.Numbered.{nth}
-use Rattle.st_event.specs.Moments.{is_taken, renews, commands_after, reports_after, report_by, stamp, commands, reports, vals, health}
-use Rattle.st_event.specs.Observed.{later_report, observed, is_settled_by, is_sure_by}
+use Rattle.st_net.specs.Agents.{Agent, is_at_work, agent_report}
+use Rattle.st_event.specs.Moments.{is_taken, renews, commands_after, reports_after, stamp, commands, reports, vals, health}
+use Rattle.st_net.specs.Reports.{later_report, is_settled_by, is_sure_by}
+use Rattle.st_event.specs.Observed.{observed}
 use Rattle.st_event.specs.Judge.{judge, lack_at}
 use Rattle.st_event.specs.Replies.{lock_reply, unlock_reply, governing, blocked_or_sent, row_to, deliver_reply, hear_reply}
-use Rattle.st_event.specs.Agents.{Agent, agent_of, agent_after}
+use Rattle.st_event.specs.Agents.{agent_of, agent_after}
 
--- what the checker keeps
+-- what the checker keeps: how many tickets were given, the entries that decided tickets 1, 2, 3 and so on, and the rest by its name
 pub record Standing : Type 0 where
   pub tickets : ℕ
-  pub decided : ℕ
+  pub decided : List ℕ
   pub pending : List Proposal
   pub version : ℕ
   pub target : Entity → Var → ℕ
@@ -48,7 +50,7 @@ pub record Wires : Type 0 where
 abbrev pub standing_of : Group → List Entry → Standing
 standing_of g past = record {
   tickets = length (proposals past);
-  decided = length (verdicts past);
+  decided = deciders past;
   pending = pending past;
   version = version past;
   target = target g past;
@@ -70,7 +72,7 @@ settled_in g s e = is_settled_by (s.observed e) (s.stamp e) (vals_in g s.target 
 -- the receipt of a proposal that is decided as entry n
 abbrev pub receipt_in : Group → Standing → ℕ → Proposal → Receipt
 receipt_in g s n p = record {
-  ticket = s.decided + 1;
+  ticket = length s.decided + 1;
   entry = n;
   verdict = judge g s.observed s.target s.holder (sure_in g s) (without_altered g (sure_in g s) s.target p.rows) s.version p.app p.rows;
 }
@@ -78,10 +80,6 @@ receipt_in g s n p = record {
 abbrev pub check_reply_in : Group → Standing → ℕ → List Proposal → Reply
 check_reply_in g s n [] = Idle
 check_reply_in g s n (p ∷ ps) = Decided (receipt_in g s n p)
-
-abbrev pub is_at_work : Option Vals → Bool
-is_at_work None = false
-is_at_work (Some vals) = true
 
 abbrev pub send_reply_in : Group → Standing → ℕ → Entity → Var → Reply
 send_reply_in g s sent e v = if settled_in g s e then Settled else blocked_or_sent (lack_at g s.observed s.target e v) (row_to e v (s.target e)) sent
@@ -113,7 +111,7 @@ queue_one s p = record s { tickets = s.tickets + 1; pending = s.pending ++ p ∷
 abbrev pub decide_one : Group → Standing → ℕ → List Proposal → Verdict → Standing
 decide_one g s n [] verdict = s
 decide_one g s n (p ∷ ps) verdict = record s {
-  decided = s.decided + 1;
+  decided = s.decided ++ n ∷ [];
   pending = ps;
   version = if is_accepted verdict then s.version + 1 else s.version;
   target = if is_accepted verdict then target_with s.target p.rows else s.target;
@@ -143,14 +141,14 @@ standing_after g s w n _ reply = s
 abbrev pub command_in : Group → Standing → Entity → Command
 command_in g s e = record { entity = e; stamp = s.stamp e; vals = vals_in g s.target e }
 
--- what an agent reports
-abbrev pub report_in : Wires → Entity → Report
-report_in w e = let a = w.agent e in report_by e (a.number + 1) a.fence (is_at_work a.work) a.vals a.health
+-- what an entity's agent reports
+abbrev pub made_report : Wires → Entity → Report
+made_report w e = agent_report e (w.agent e)
 
 -- how the network is after an entry
 abbrev pub wires_after : Group → Standing → Wires → Event → Reply → Wires
 wires_after g s w event reply = record {
   commands = commands_after event reply (command_in g s) w.commands;
-  reports = reports_after event (report_in w) w.reports;
+  reports = reports_after event (made_report w) w.reports;
   agent = λ e. agent_after event (nth w.commands) e (w.agent e);
 }
