@@ -1,6 +1,6 @@
 //! A table with the values of each entity of a group. It opens by the topology, takes rows, and is read by entity.
 
-ghost use Rattle.std.specs.Prelude.{◌≡◌, [], All, IfOk};
+ghost use Rattle.std.specs.Prelude.{◌≡◌, [], All, length, IfOk};
 ghost use Rattle.st_net.specs.Groups.{opening_of};
 ghost use Rattle.st_net.specs.Entities.{vals_by};
 ghost use Rattle.st_net.specs.Merge.{merge_of, target_with};
@@ -60,6 +60,20 @@ impl Table {
     {
         self.devices.copy_from_slice(from.devices.as_slice());
         self.links.copy_from_slice(from.links.as_slice());
+    }
+
+    /// How many devices there are.
+    pub fn device_count(&self) -> usize
+        ensures { result ≡ length self.now.devices }
+    {
+        self.devices.len()
+    }
+
+    /// How many links there are.
+    pub fn link_count(&self) -> usize
+        ensures { result ≡ length self.now.links }
+    {
+        self.links.len()
     }
 
     /// The values of an entity.
