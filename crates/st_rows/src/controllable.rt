@@ -6,7 +6,7 @@ ghost use Rattle.st_net.specs.Groups.{IsEntityOf, no_link};
 ghost use Rattle.st_net.specs.Merge.{target_with};
 ghost use Rattle.st_event.specs.Judge.{needs_of as needs_of_lem, level_lack as level_lack_lem, power_lack as power_lack_lem, link_lack as link_lack_lem, lack_at};
 ghost use Rattle.st_overlay.specs.Values.{IsTableOf, value_in};
-ghost use Rattle.st_rows.specs.Reports.{report_in};
+ghost use Rattle.st_net.specs.InOrder.{report_in};
 
 use crate::report::report_of;
 use st_event::Lack;

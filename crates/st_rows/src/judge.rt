@@ -7,7 +7,7 @@ ghost use Rattle.st_net.specs.Merge.{target_with};
 ghost use Rattle.st_event.specs.Judge.{first_lack as first_lack_lem, first_locked as first_locked_lem, locked_cause, cause_or};
 ghost use Rattle.st_overlay.specs.Values.{IsTableOf, IsRowIn, value_in};
 ghost use Rattle.st_locks.specs.LockRows.{IsLockIn, holder_in, LocksOf};
-ghost use Rattle.st_rows.specs.Reports.{report_in};
+ghost use Rattle.st_net.specs.InOrder.{report_in};
 ghost use Rattle.st_rows.specs.Causes.{IsOfRow};
 
 use crate::controllable::lack;

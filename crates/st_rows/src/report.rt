@@ -2,7 +2,7 @@
 
 ghost use Rattle.std.specs.Prelude.{◌≡◌, ◌+◌, length};
 ghost use Rattle.st_net.specs.Groups.{IsEntityOf};
-ghost use Rattle.st_rows.specs.Reports.{report_in};
+ghost use Rattle.st_net.specs.InOrder.{report_in};
 
 use st_net::{Entity, GroupTopo, Report};
 
@@ -12,8 +12,5 @@ pub(crate) fn report_of(topo: &GroupTopo, observed: &[Report], e: Entity) -> Rep
     requires reports { length observed.now ≡ length topo.now.devices + length topo.now.links }
     ensures { result ≡ report_in topo.now observed.now e }
 {
-    match e {
-        Entity::Device(i) => observed[i as usize],
-        Entity::Link(i) => observed[topo.device_count() as usize + i as usize],
-    }
+    observed[topo.place(e)]
 }

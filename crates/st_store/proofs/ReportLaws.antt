@@ -10,11 +10,13 @@ use Rattle.st_net.specs.declared.message.Report.{Report}
 use Rattle.st_net.specs.Entities.{is_same_entity}
 use Rattle.st_net.specs.Groups.{Group, IsEntityOf}
 use Rattle.st_net.proofs.Tests.{same_entity}
-use Rattle.st_event.specs.Observed.{opening_report, later_report}
+use Rattle.st_net.specs.Reports.{opening_report, later_report}
 use Rattle.st_overlay.specs.Values.{Values, IsIn, IsTableOf}
 use Rattle.st_store.specs.declared.reports.Keep.{Keep}
 use Rattle.st_store.specs.declared.reports.Keep.TheVariants.{Taken, Old}
-use Rattle.st_store.specs.Reports.{report_in, place_in, keep_answer}
+use Rattle.st_net.specs.InOrder.{report_in, place_in, place_behind, entity_count}
+use Rattle.st_net.proofs.InOrder.{item_in_at, item_in-set}
+use Rattle.st_store.specs.Reports.{keep_answer}
 use Rattle.st_store.specs.Store.{StoreView, IsStoreOf, Keeps}
 
 -- the reports after the answer to one more
@@ -22,71 +24,9 @@ abbrev pub reports_with : Keep → List Report → ℕ → Report → List Repor
 reports_with Taken reports place report = set reports place report
 reports_with (Old number) reports place report = reports
 
-take_at : {X : Type 0} (n : ℕ) (xs : List X) (i : ℕ) (d : X) → i < n → get_or (take n xs) i d ≡ get_or xs i d
-take_at zero xs i d lt = absurd (omega arith)
-take_at (suc n) [] i d lt = refl
-take_at (suc n) (x ∷ xs) zero d lt = refl
-take_at (suc n) (x ∷ xs) (suc i) d lt = take_at n xs i d (omega arith)
-
-drop_at : {X : Type 0} (n : ℕ) (xs : List X) (i : ℕ) (d : X) → get_or (drop n xs) i d ≡ get_or xs (n + i) d
-drop_at zero xs i d = ap (λ (k : ℕ). get_or xs k d) (let e : i ≡ 0 + i = omega arith in e)
-drop_at (suc n) [] i d = refl
-drop_at (suc n) (x ∷ xs) i d =
-    let e : suc n + i ≡ suc (n + i) = omega arith in
-    rw e (drop_at n xs i d)
-
--- an entity of the group has its report in its place
-report_in_at : (g : Group) (reports : List Report) (e : Entity) (d : Report) → IsEntityOf g e → length reports ≡ length g.devices + length g.links → report_in g reports e ≡ get_or reports (place_in (length g.devices) e) d
-report_in_at g reports (Device i) d here count =
-    take_at (length g.devices) reports i (opening_report g (Device i)) here
-    ∙ get_or_default reports i (opening_report g (Device i)) d (omega arith)
-report_in_at g reports (Link i) d here count =
-    drop_at (length g.devices) reports i (opening_report g (Link i))
-    ∙ get_or_default reports (length g.devices + i) (opening_report g (Link i)) d (omega arith)
-
-pub place_within : (g : Group) (reports : List Report) (e : Entity) → IsEntityOf g e → length reports ≡ length g.devices + length g.links → place_in (length g.devices) e < length reports
-place_within g reports (Device i) here count = omega arith
-place_within g reports (Link i) here count = omega arith
-
-take_set_same : {X : Type 0} (n : ℕ) (xs : List X) (i : ℕ) (y d : X) → i < n → i < length xs → get_or (take n (set xs i y)) i d ≡ y
-take_set_same n xs i y d lt within = take_at n (set xs i y) i d lt ∙ get_or-set_same xs i y d within
-
-take_set_other : {X : Type 0} (n : ℕ) (xs : List X) (i j : ℕ) (y d : X) → j ≢ i → get_or (take n (set xs i y)) j d ≡ get_or (take n xs) j d
-take_set_other zero xs i j y d other = refl
-take_set_other (suc n) [] i j y d other = refl
-take_set_other (suc n) (x ∷ xs) zero zero y d other = absurd (other refl)
-take_set_other (suc n) (x ∷ xs) zero (suc j) y d other = refl
-take_set_other (suc n) (x ∷ xs) (suc i) zero y d other = refl
-take_set_other (suc n) (x ∷ xs) (suc i) (suc j) y d other = take_set_other n xs i j y d (λ same. other (ap suc same))
-
-differ : (i j : ℕ) → (i == j) ≡ false → j ≢ i
-differ i j other = grind (arith, nat_tests, other)
-
-same_number : (i j : ℕ) → (i == j) ≡ true → i ≡ j
-same_number i j same = grind (arith, nat_tests, same)
-
-drop_set_same : {X : Type 0} (n : ℕ) (xs : List X) (i : ℕ) (y d : X) → n + i < length xs → get_or (drop n (set xs (n + i) y)) i d ≡ y
-drop_set_same n xs i y d within = drop_at n (set xs (n + i) y) i d ∙ get_or-set_same xs (n + i) y d within
-
-drop_set_other : {X : Type 0} (n : ℕ) (xs : List X) (i j : ℕ) (y d : X) → (i == j) ≡ false → get_or (drop n (set xs (n + i) y)) j d ≡ get_or (drop n xs) j d
-drop_set_other n xs i j y d other =
-    ap (λ rest. get_or rest j d) (drop-set-add n xs i y)
-    ∙ get_or-set_other (drop n xs) i j y d (differ i j other)
-
 -- a report in the place of its entity's; the others stay
-report_in-set : (g : Group) (reports : List Report) (at e : Entity) (r : Report) → IsEntityOf g at → length reports ≡ length g.devices + length g.links → report_in g (set reports (place_in (length g.devices) at) r) e ≡ (if is_same_entity at e then r else report_in g reports e)
-report_in-set g reports (Device i) (Device j) r here count = by_number (i == j) refl
-  where
-    by_number : (same : Bool) → (i == j) ≡ same → get_or (take (length g.devices) (set reports i r)) j (opening_report g (Device j)) ≡ (if same then r else get_or (take (length g.devices) reports) j (opening_report g (Device j)))
-    by_number false other = take_set_other (length g.devices) reports i j r (opening_report g (Device j)) (differ i j other)
-    by_number true is = subst (λ (k : ℕ). get_or (take (length g.devices) (set reports i r)) k (opening_report g (Device j)) ≡ r) (same_number i j is) (take_set_same (length g.devices) reports i r (opening_report g (Device j)) here (omega arith))
-report_in-set g reports (Device i) (Link j) r here count = ap (λ rest. get_or rest j (opening_report g (Link j))) (drop-set-lt (length g.devices) reports i r here)
-report_in-set g reports (Link i) (Device j) r here count = ap (λ rest. get_or rest j (opening_report g (Device j))) (take-set-le (length g.devices) reports (length g.devices + i) r (omega arith))
-report_in-set g reports (Link i) (Link j) r here count = by_number (i == j) refl
-  where
-    by_number : (same : Bool) → (i == j) ≡ same → get_or (drop (length g.devices) (set reports (length g.devices + i) r)) j (opening_report g (Link j)) ≡ (if same then r else get_or (drop (length g.devices) reports) j (opening_report g (Link j)))
-    by_number false other = drop_set_other (length g.devices) reports i j r (opening_report g (Link j)) other
-    by_number true is = subst (λ (k : ℕ). get_or (drop (length g.devices) (set reports (length g.devices + i) r)) k (opening_report g (Link j)) ≡ r) (same_number i j is) (drop_set_same (length g.devices) reports i r (opening_report g (Link j)) (omega arith))
+report_in-set : (g : Group) (reports : List Report) (at e : Entity) (r : Report) → IsEntityOf g at → length reports ≡ entity_count g → report_in g (set reports (place_in g at) r) e ≡ (if is_same_entity at e then r else report_in g reports e)
+report_in-set g reports at e r here count = item_in-set g reports (opening_report g) at e r here count
 
 -- what is answered to a report whose number is no higher, and to one whose number is
 answer_at : (kept report : Report) (later : Bool) → nat_lt kept.number report.number ≡ later → keep_answer kept report ≡ (if later then Taken else Old kept.number)
@@ -105,7 +45,7 @@ pub keep_taken : (kept report : Report) → kept.number < report.number → Take
 keep_taken kept report lt = sym (answer_at kept report true (is_later kept.number report.number lt))
 
 -- the later of two reports is kept of the one's entity, and all others stay
-later_reports : (g : Group) (reports : List Report) (r : Report) (later : Bool) → IsEntityOf g r.entity → length reports ≡ length g.devices + length g.links → nat_lt (report_in g reports r.entity).number r.number ≡ later → (e : Entity) → report_in g (reports_with (if later then Taken else Old (report_in g reports r.entity).number) reports (place_in (length g.devices) r.entity) r) e ≡ later_report e (Some r) (report_in g reports e)
+later_reports : (g : Group) (reports : List Report) (r : Report) (later : Bool) → IsEntityOf g r.entity → length reports ≡ entity_count g → nat_lt (report_in g reports r.entity).number r.number ≡ later → (e : Entity) → report_in g (reports_with (if later then Taken else Old (report_in g reports r.entity).number) reports (place_in g r.entity) r) e ≡ later_report e (Some r) (report_in g reports e)
 later_reports g reports r true here count is e = report_in-set g reports r.entity e r here count ∙ by_entity (is_same_entity r.entity e) refl
   where
     by_entity : (same : Bool) → is_same_entity r.entity e ≡ same → (if same then r else report_in g reports e) ≡ (if same && nat_lt (report_in g reports e).number r.number then r else report_in g reports e)
@@ -126,16 +66,16 @@ IsEntityOf-table g t (Device i) of here = let d = of.devices in omega (arith, d)
 IsEntityOf-table g t (Link i) of here = let l = of.links in omega (arith, l)
 
 -- what a store keeps of a report that it is handed
-pub keeps : (g : Group) (old : StoreView) (observed : List Report) (place : ℕ) (report : Report) (keep : Keep) (d : Report) → IsStoreOf g old → IsIn old.target report.entity → place ≡ place_in (length old.target.devices) report.entity → keep ≡ keep_answer (get_or old.observed place d) report → observed ≡ reports_with keep old.observed place report → Keeps g old (record old { observed = observed }) report keep
+pub keeps : (g : Group) (old : StoreView) (observed : List Report) (place : ℕ) (report : Report) (keep : Keep) (d : Report) → IsStoreOf g old → IsIn old.target report.entity → place ≡ place_behind (length old.target.devices) report.entity → keep ≡ keep_answer (get_or old.observed place d) report → observed ≡ reports_with keep old.observed place report → Keeps g old (record old { observed = observed }) report keep
 keeps g old observed place report keep d of here at answer after =
     let entity = IsEntityOf-table g old.target report.entity of.table here in
-    let at_place : place ≡ place_in (length g.devices) report.entity = at ∙ ap (λ (n : ℕ). place_in n report.entity) of.table.devices in
-    let kept : get_or old.observed place d ≡ report_in g old.observed report.entity = ap (λ (k : ℕ). get_or old.observed k d) at_place ∙ sym (report_in_at g old.observed report.entity d entity of.reports) in
+    let at_place : place ≡ place_in g report.entity = at ∙ ap (λ (n : ℕ). place_behind n report.entity) of.table.devices in
+    let kept : get_or old.observed place d ≡ report_in g old.observed report.entity = ap (λ (k : ℕ). get_or old.observed k d) at_place ∙ sym (item_in_at g old.observed (opening_report g) report.entity d entity of.reports) in
     let answers : keep ≡ keep_answer (report_in g old.observed report.entity) report = answer ∙ ap (λ (r : Report). keep_answer r report) kept in
     record {
       answer = answers;
       observed = fun_ext (λ e.
-          ap (λ (reports : List Report). report_in g reports e) (after ∙ ap (λ (k : ℕ). reports_with keep old.observed k report) at_place ∙ ap (λ (k : Keep). reports_with k old.observed (place_in (length g.devices) report.entity) report) answers)
+          ap (λ (reports : List Report). report_in g reports e) (after ∙ ap (λ (k : ℕ). reports_with keep old.observed k report) at_place ∙ ap (λ (k : Keep). reports_with k old.observed (place_in g report.entity) report) answers)
           ∙ later_reports g old.observed report (nat_lt (report_in g old.observed report.entity).number report.number) entity of.reports refl e);
       of = record { table = of.table; reports = ap length after ∙ length-reports_with keep old.observed place report ∙ of.reports };
     }

@@ -7,7 +7,7 @@ use Rattle.st_net.specs.Groups.{Group}
 use Rattle.st_net.specs.Merge.{merge_of, target_with}
 use Rattle.st_event.specs.declared.event.Proposal.{Proposal}
 use Rattle.st_event.specs.declared.journal.TheConstants.{MAX_PENDING}
-use Rattle.st_event.specs.Observed.{opening_report, later_report}
+use Rattle.st_net.specs.Reports.{opening_report, later_report}
 use Rattle.st_event.specs.Proposals.{first_rows}
 use Rattle.st_overlay.specs.Values.{Values, IsTableOf, value_in}
 use Rattle.st_store.specs.declared.pending.Pending.{Pending}
@@ -18,7 +18,8 @@ use Rattle.st_store.specs.declared.reports.Keep.TheVariants.{Taken, Old}
 use Rattle.st_store.specs.declared.store.ValueAt.{ValueAt}
 use Rattle.st_store.specs.declared.store.ValueAt.TheVariants.{Value, NoVersion}
 use Rattle.st_store.specs.Changes.{ChangeLists, value_at, values_with}
-use Rattle.st_store.specs.Reports.{report_in, keep_answer}
+use Rattle.st_net.specs.InOrder.{report_in}
+use Rattle.st_store.specs.Reports.{keep_answer}
 
 -- the proposals that wait, the oldest first; how many tickets were given; the entries that decided tickets 1, 2, 3 and so on; the number of
 -- accepted proposals; the target; what it was at each version; and a report for each entity, in the order of entities

@@ -2,8 +2,8 @@
 
 ghost use Rattle.std.specs.Prelude.{◌≡◌, ◌+◌, ◌<◌, ◌^◌, length, IfOk};
 ghost use Rattle.st_net.specs.Groups.{IsEntityOf};
-ghost use Rattle.st_event.specs.Observed.{opening_report};
-ghost use Rattle.st_store.specs.Reports.{report_in, place_in};
+ghost use Rattle.st_net.specs.Reports.{opening_report};
+ghost use Rattle.st_net.specs.InOrder.{report_in};
 
 use st_net::{Entity, GroupTopo, Report, level_of};
 use std::alloc::{AllocError, Global};
@@ -47,15 +47,4 @@ pub fn opening_reports(alloc: Global, topo: &GroupTopo) -> Result<Vec<Report>, A
         reports.push(report_at_opening(topo, Entity::Link(i)))?;
     }
     Ok(reports)
-}
-
-/// Where an entity stands in the order of entities, the first of which are so many devices.
-pub fn place_of(devices: usize, entity: Entity) -> usize
-    requires { place_in devices entity < 2 ^ 64 }
-    ensures { result ≡ place_in devices entity }
-{
-    match entity {
-        Entity::Device(i) => i as usize,
-        Entity::Link(i) => devices + i as usize,
-    }
 }

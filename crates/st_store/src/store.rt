@@ -11,7 +11,7 @@ ghost use Rattle.st_store.specs.Changes.{value_at as value_at_lem};
 ghost use Rattle.st_store.specs.Store.{StoreView, IsStoreOf, IsStart, IsCounted, IsOldest, IsWaiting, IsNeverGiven, IsValueAt, Decides, Keeps, OldChangesNothing, put_answer, store_put};
 
 use crate::pending::{Pending, Put};
-use crate::reports::{Keep, opening_reports, place_of};
+use crate::reports::{Keep, opening_reports};
 use crate::versions::Versions;
 use st_event::{MAX_PENDING, Rows};
 use st_net::{AppId, Entity, GroupTopo, Report, Var};
@@ -159,7 +159,7 @@ impl Store {
         ensures rest { self.new ≡ record self.old { observed = self.new.observed } }
         ensures old { OldChangesNothing result self.old self.new }
     {
-        let place = place_of(self.versions.device_count(), report.entity);
+        let place = report.entity.place_behind(self.versions.device_count());
         let kept = self.observed[place].number;
         if report.number <= kept {
             return Keep::Old { kept };

@@ -2,7 +2,7 @@ use Rattle.std.proofs.Common.{◌≡◌, drop}
 use Rattle.st_net.specs.Merge.{target_with}
 use Rattle.st_event.specs.Judge.{first_lack}
 use Rattle.st_overlay.specs.Values.{value_in}
-use Rattle.st_rows.specs.Reports.{report_in}
+use Rattle.st_net.specs.InOrder.{report_in}
 use Rattle.st_rows.proofs.judge.first_lack.Given as goal
 
 -- no row so far has a lack
