@@ -1,6 +1,6 @@
 -- Entities that a group does not have: they open with nothing, and are in no set.
 use Rattle.std.proofs.Common.{◌≡◌, ℕ, ◌≤◌, List, length, take, drop, refl, sym, ◌∙◌, arith}
-use Rattle.std.specs.Prelude.{Bool, true, false, not, ◌&&◌, nat_lt, if◌then◌else◌}
+use Rattle.std.specs.Prelude.{Bool, true, false, not, ◌&&◌, nat_lt}
 use Rattle.std.proofs.lemmas.Bool.Decides.{nat_tests}
 use Rattle.std.proofs.lemmas.List.{get_or_past, length-take, length-drop}
 use Rattle.st_net.specs.Levels.{carries}
@@ -10,10 +10,9 @@ use Rattle.st_net.specs.declared.entity.Entity.TheVariants.{Device, Link}
 use Rattle.st_net.specs.declared.message.Report.{Report}
 use Rattle.st_net.specs.Groups.{Group, no_device, no_link, opening_of}
 use Rattle.st_net.specs.Sets.{Marks, MarksOf, is_in}
-use Rattle.st_event.specs.Observed.{opening_report}
+use Rattle.st_net.specs.Reports.{opening_report}
 use Rattle.st_overlay.specs.Values.{Values}
-use Rattle.st_store.specs.Reports.{report_in}
-use Rattle.st_control.specs.Stamps.{entity_count}
+use Rattle.st_net.specs.InOrder.{report_in, entity_count}
 use Rattle.st_control.specs.Sure.{shown_by, is_before_link, MarksShown}
 use Rattle.st_control.specs.declared.settled.Shown.TheVariants.{Sure}
 
@@ -66,15 +65,6 @@ keep_ways s false o true is none = cc
 -- once all links were seen, all that is in the other set is lost
 pub all_lost : (g : Group) (s o : Entity → Bool) (n : ℕ) (e : Entity) → n ≡ length g.links → (is_before_link g (length g.links) e ≡ false → o e ≡ false) → (s e && not (is_before_link g n e && o e)) ≡ (s e && not (o e))
 all_lost g s o n e count beyond = rw count (keep_ways (s e) (is_before_link g (length g.links) e) (o e) (is_before_link g (length g.links) e) refl beyond)
-
-stamp_ways : (here m here_is : Bool) (n o : ℕ) → here ≡ here_is → (here_is ≡ false → m ≡ false) → (if here && m then n else o) ≡ (if m then n else o)
-stamp_ways true m true n o is none = refl
-stamp_ways false m false n o is none = rw (none refl) refl
-stamp_ways true m false n o is none = cc
-stamp_ways false m true n o is none = cc
-
-pub all_stamped : (g : Group) (m : Entity → Bool) (stamp n : ℕ) (o : Entity → ℕ) (e : Entity) → n ≡ length g.links → (is_before_link g (length g.links) e ≡ false → m e ≡ false) → (if is_before_link g n e && m e then stamp else o e) ≡ (if m e then stamp else o e)
-all_stamped g m stamp n o e count beyond = rw count (stamp_ways (is_before_link g (length g.links) e) (m e) (is_before_link g (length g.links) e) stamp (o e) refl beyond)
 
 -- the marks of the sure entities are the set of these
 pub sure_is : (g : Group) (observed : List Report) (stamps : List ℕ) (values : Values) (set : Marks) → length observed ≡ entity_count g → MarksShown Sure g observed stamps values set → is_in set ≡ shown_by Sure g observed stamps values

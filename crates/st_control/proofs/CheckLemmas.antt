@@ -1,5 +1,5 @@
 -- What the verdict and the check of a proposal come to, over what a checker keeps.
-use Rattle.std.proofs.Common.{◌≡◌, ℕ, List, length-append, refl, sym, ◌∙◌, ap}
+use Rattle.std.proofs.Common.{◌≡◌, ℕ, List, refl, sym, ◌∙◌, ap}
 use Rattle.std.specs.Prelude.{Bool, true, false, not, ◌&&◌, nat_le, Option, Some, None, option_map, if◌then◌else◌}
 use Rattle.st_net.specs.declared.entity.Entity.{Entity}
 use Rattle.st_net.specs.declared.entity.Var.{Var}
@@ -22,7 +22,7 @@ use Rattle.st_control.specs.declared.control.Judged.{Judged}
 use Rattle.st_event.specs.Proposals.{first_rows}
 use Rattle.st_store.specs.Changes.{value_at}
 use Rattle.st_store.specs.Store.{StoreView, Decides}
-use Rattle.st_control.specs.Stamps.{stamp_in}
+use Rattle.st_net.specs.InOrder.{stamp_in}
 use Rattle.st_control.specs.Checker.{Checker, standing_in, Moves}
 use Rattle.st_control.specs.Verdict.{IsFirst, IsLatest, verdict_in, row_refusal, sure_without, first_broken_without, AreJudgedIn, IsJudgedIn, decided_as}
 use Rattle.st_control.proofs.StampLaws.{stamped_is}
@@ -80,7 +80,7 @@ refused_moves k new p n cause judged first is some decides =
     let decision : verdict_in k.group (standing_in k) p.app p.rows ≡ Refused cause = sym is.decision ∙ ap (λ (c : Option Cause). refusal_or_version c k.store.version) some in
     record {
       reply = λ w. rw (first, decision) refl;
-      standing = λ w. rw (decides.pending, decides.tickets, decides.decided, decides.version, decides.target, decides.observed, length-append, first) refl;
+      standing = λ w. rw (decides.pending, decides.tickets, decides.decided, decides.version, decides.target, decides.observed, first) refl;
       group = refl;
       versions = decides.versions;
     }
@@ -92,7 +92,7 @@ accepted_moves k new stamps p n version judged first is none latest decides coun
     let altered = stamped_is k.group judged.changed (value_in k.store.target) p.rows n k.stamps stamps is.altered stamped in
     record {
       reply = λ w. rw (first, decision) refl;
-      standing = λ w. rw (decides.pending, decides.tickets, decides.decided, decides.version, decides.target, decides.observed, length-append, altered, first) refl;
+      standing = λ w. rw (decides.pending, decides.tickets, decides.decided, decides.version, decides.target, decides.observed, altered, first) refl;
       group = refl;
       versions = decides.versions ∙ ap (λ (last : Entity → Var → ℕ). λ (v : ℕ). if nat_le v k.store.version then value_at k.store.versions v else target_with last (first_rows k.store.pending)) latest;
     }

@@ -129,39 +129,3 @@ lose_link g i s o old new is out was e = rw (is, link_more g i e) (lose_case (s 
 
 pub stay_link : (g : Group) (i : ℕ) (s o old : Entity → Bool) → o (Link i) ≡ false → ((e : Entity) → old e ≡ (s e && not (is_before_link g i e && o e))) → (e : Entity) → old e ≡ (s e && not (is_before_link g (i + 1) e && o e))
 stay_link g i s o old stays was e = rw (link_more g i e) (stay_case (s e) (o e) (is_before_link g i e) (is_same_entity (Link i) e) (old e) (out_there (Link i) e o false stays) (was e))
-
--- the same for numbers that are replaced where an entity is in a set
-number_case : (m before here : Bool) (n o old : ℕ) → (here ≡ true → m ≡ true) → old ≡ (if before && m then n else o) → (if here then n else old) ≡ (if (before || here) && m then n else o)
-number_case true true true n o old marked is = refl
-number_case true false true n o old marked is = refl
-number_case false before true n o old marked is = absurd (no (marked refl))
-  where
-    no : false ≡ true → ⊥
-    no h = cc
-number_case m true false n o old marked is = is
-number_case m false false n o old marked is = is
-
-rest_case : (m before here : Bool) (n o old : ℕ) → (here ≡ true → m ≡ false) → old ≡ (if before && m then n else o) → old ≡ (if (before || here) && m then n else o)
-rest_case m true here n o old unmarked is = is
-rest_case m false false n o old unmarked is = is
-rest_case false false true n o old unmarked is = is
-rest_case true false true n o old unmarked is = absurd (no (unmarked refl))
-  where
-    no : true ≡ false → ⊥
-    no h = cc
-
--- a function of the entity with one value replaced
-abbrev pub number_set : (Entity → ℕ) → Entity → ℕ → Entity → ℕ
-number_set old at n e = if is_same_entity at e then n else old e
-
-pub stamp_device : (i n : ℕ) (m : Entity → Bool) (o old new : Entity → ℕ) → new ≡ number_set old (Device i) n → m (Device i) ≡ true → ((e : Entity) → old e ≡ (if is_device_before i e && m e then n else o e)) → (e : Entity) → new e ≡ (if is_device_before (i + 1) e && m e then n else o e)
-stamp_device i n m o old new is marked was e = rw (is, device_more i e) (number_case (m e) (is_device_before i e) (is_same_entity (Device i) e) n (o e) (old e) (out_there (Device i) e m true marked) (was e))
-
-pub rest_device : (i n : ℕ) (m : Entity → Bool) (o old : Entity → ℕ) → m (Device i) ≡ false → ((e : Entity) → old e ≡ (if is_device_before i e && m e then n else o e)) → (e : Entity) → old e ≡ (if is_device_before (i + 1) e && m e then n else o e)
-rest_device i n m o old unmarked was e = rw (device_more i e) (rest_case (m e) (is_device_before i e) (is_same_entity (Device i) e) n (o e) (old e) (out_there (Device i) e m false unmarked) (was e))
-
-pub stamp_link : (g : Group) (i n : ℕ) (m : Entity → Bool) (o old new : Entity → ℕ) → new ≡ number_set old (Link i) n → m (Link i) ≡ true → ((e : Entity) → old e ≡ (if is_before_link g i e && m e then n else o e)) → (e : Entity) → new e ≡ (if is_before_link g (i + 1) e && m e then n else o e)
-stamp_link g i n m o old new is marked was e = rw (is, link_more g i e) (number_case (m e) (is_before_link g i e) (is_same_entity (Link i) e) n (o e) (old e) (out_there (Link i) e m true marked) (was e))
-
-pub rest_link : (g : Group) (i n : ℕ) (m : Entity → Bool) (o old : Entity → ℕ) → m (Link i) ≡ false → ((e : Entity) → old e ≡ (if is_before_link g i e && m e then n else o e)) → (e : Entity) → old e ≡ (if is_before_link g (i + 1) e && m e then n else o e)
-rest_link g i n m o old unmarked was e = rw (link_more g i e) (rest_case (m e) (is_before_link g i e) (is_same_entity (Link i) e) n (o e) (old e) (out_there (Link i) e m false unmarked) (was e))

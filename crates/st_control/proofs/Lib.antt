@@ -2,5 +2,6 @@ pub mod EntityLoops
 pub mod Beyond
 pub mod StampLaws
 pub mod StoreLaws
-pub mod ReportLaws
 pub mod CheckLemmas
+pub mod SendLemmas
+pub mod HearLemmas

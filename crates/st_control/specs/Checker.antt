@@ -1,12 +1,16 @@
 -- A checker as contracts see it, how its group stands by what it keeps, and what one call of it does.
-use Rattle.std.specs.Prelude.{◌≡◌, ℕ, List, [], length}
+use Rattle.std.specs.Prelude.{◌≡◌, ℕ, ◌+◌, List, [], length, Some}
 use Rattle.st_net.specs.declared.entity.Var.{Var}
 use Rattle.st_net.specs.Groups.{Group}
 use Rattle.st_net.specs.declared.entity.Entity.{Entity}
 use Rattle.st_event.specs.declared.event.Event.{Event}
+use Rattle.st_event.specs.declared.event.Event.TheVariants.{Send}
+use Rattle.st_net.specs.declared.message.Command.{Command as MadeCommand}
+use Rattle.st_net.specs.declared.message.Report.{Report}
 use Rattle.st_event.specs.declared.reply.Reply.{Reply}
-use Rattle.st_event.specs.declared.reply.Reply.TheVariants.{Queued, Full as full_reply, Decided as decided_reply, Idle as idle_reply, Granted as granted_reply, Held as held_reply, Released as released_reply, NotYours as not_yours_reply}
-use Rattle.st_event.specs.Standing.{Standing, Wires, standing_of, standing_after, reply_in}
+use Rattle.st_event.specs.declared.reply.Reply.TheVariants.{Queued, Full as full_reply, Decided as decided_reply, Idle as idle_reply, Granted as granted_reply, Held as held_reply, Released as released_reply, NotYours as not_yours_reply, Sent, Settled as settled_reply, Blocked as blocked_reply, Taken as taken_reply, Old as old_reply}
+use Rattle.st_event.specs.Replies.{hear_reply}
+use Rattle.st_event.specs.Standing.{Standing, Wires, standing_of, standing_after, reply_in, command_in, hear_one}
 use Rattle.st_event.specs.Versions.{value_at, versions_after}
 use Rattle.st_overlay.specs.Values.{value_in}
 use Rattle.st_locks.specs.LockRows.{LockRows, holder_in}
@@ -17,9 +21,12 @@ use Rattle.st_locks.specs.declared.table.Release.TheVariants.{Released, NotYours
 use Rattle.st_store.specs.declared.pending.Put.{Put}
 use Rattle.st_store.specs.declared.pending.Put.TheVariants.{Ticket, Full}
 use Rattle.st_store.specs.Changes.{value_at as value_at_version}
-use Rattle.st_store.specs.Reports.{report_in}
+use Rattle.st_net.specs.InOrder.{report_in, stamp_in}
 use Rattle.st_store.specs.Store.{StoreView}
-use Rattle.st_control.specs.Stamps.{stamp_in}
+use Rattle.st_store.specs.declared.reports.Keep.{Keep}
+use Rattle.st_store.specs.declared.reports.Keep.TheVariants.{Taken, Old}
+use Rattle.st_control.specs.declared.send.SendStep.{SendStep}
+use Rattle.st_control.specs.declared.send.SendStep.TheVariants.{Command, Settled, Blocked}
 use Rattle.st_control.specs.declared.control.Check.{Check}
 use Rattle.st_control.specs.declared.control.Check.TheVariants.{Decided, Idle}
 
@@ -36,7 +43,7 @@ pub record Checker : Type 0 where
 abbrev pub standing_in : Checker → Standing
 standing_in k = record {
   tickets = k.store.tickets;
-  decided = length k.store.decided;
+  decided = k.store.decided;
   pending = k.store.pending;
   version = k.store.version;
   target = value_in k.store.target;
@@ -71,6 +78,32 @@ pub record Moves (old new : Checker) (n : ℕ) (event : Event) (answer : Reply) 
   pub standing : (w : Wires) → standing_in new ≡ standing_after old.group (standing_in old) w n event answer
   pub group : new.group ≡ old.group
   pub versions : versions_in new ≡ versions_after (standing_in old) event answer (versions_in old)
+
+abbrev pub reply_of_send : ℕ → SendStep → Reply
+reply_of_send sent (Command command) = Sent (sent + 1)
+reply_of_send sent Settled = settled_reply
+reply_of_send sent (Blocked row) = blocked_reply row
+
+abbrev pub reply_of_keep : Keep → Reply
+reply_of_keep Taken = taken_reply
+reply_of_keep (Old kept) = old_reply kept
+
+-- what an entity is to be sent is what a Send of it calls for, whatever messages there are; and a command carries the entity's stamp and
+-- its target's values
+pub record Sends (k : Checker) (e : Entity) (step : SendStep) : Type 0 where
+  pub reply : (w : Wires) (n : ℕ) → reply_of_send (length w.commands) step ≡ reply_in k.group (standing_in k) w n (Send e)
+  pub command : (command : MadeCommand) → step ≡ Command command → command ≡ command_in k.group (standing_in k) e
+
+-- a report is heard as entry n
+pub record Hears (old new : Checker) (n : ℕ) (report : Report) (keep : Keep) : Type 0 where
+  pub reply : (made : ℕ) → reply_of_keep keep ≡ hear_reply (standing_in old).observed made (Some report)
+  pub standing : standing_in new ≡ hear_one old.group (standing_in old) n (Some report) (reply_of_keep keep)
+  pub group : new.group ≡ old.group
+  pub versions : versions_in new ≡ versions_in old
+
+abbrev pub OldChangesNothing : Keep → Checker → Checker → Type 0
+OldChangesNothing Taken old new = Unit {0}
+OldChangesNothing (Old kept) old new = new ≡ old
 
 -- the checker stands as an empty journal leaves its group
 pub record IsStart (g : Group) (k : Checker) : Type 0 where

@@ -8,7 +8,7 @@ use Rattle.st_promise.specs.Book.{IsBookOf}
 use Rattle.st_store.specs.Store.{IsStoreOf}
 use Rattle.st_control.specs.declared.control.Control.TheInside.{Inside}
 use Rattle.st_control.specs.Checker.{Checker}
-use Rattle.st_control.specs.Stamps.{entity_count}
+use Rattle.st_net.specs.InOrder.{entity_count}
 
 abbrev pub checker_of : Inside → Checker
 checker_of c = record {

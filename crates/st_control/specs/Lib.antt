@@ -1,4 +1,3 @@
-pub mod Stamps
 pub mod Checker
 pub mod Verdict
 pub mod Inside

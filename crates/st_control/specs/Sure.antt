@@ -7,12 +7,11 @@ use Rattle.st_net.specs.declared.message.Report.{Report}
 use Rattle.st_net.specs.Groups.{Group}
 use Rattle.st_net.specs.Merge.{vals_in}
 use Rattle.st_net.specs.Sets.{Marks, MarksOf, is_in}
-use Rattle.st_event.specs.Observed.{is_sure_by, is_settled_by}
+use Rattle.st_net.specs.Reports.{is_sure_by, is_settled_by}
 use Rattle.st_overlay.specs.Values.{Values, value_in}
-use Rattle.st_store.specs.Reports.{report_in}
+use Rattle.st_net.specs.InOrder.{report_in, stamp_in}
 use Rattle.st_control.specs.declared.settled.Shown.{Shown}
 use Rattle.st_control.specs.declared.settled.Shown.TheVariants.{Settled, Sure}
-use Rattle.st_control.specs.Stamps.{stamp_in}
 
 -- the entities of a group, in order, up to a device or a link
 abbrev pub is_device_before : ℕ → Entity → Bool

@@ -11,21 +11,23 @@ ghost use Rattle.st_event.specs.declared.reply.Cause.TheVariants.{Broken as brok
 ghost use Rattle.st_event.specs.Standing.{sure_in, settled_in};
 ghost use Rattle.st_locks.specs.LockRows.{LocksOf};
 ghost use Rattle.st_store.specs.Store.{IsStoreOf, proposal_of};
-ghost use Rattle.st_control.specs.Checker.{Moves, IsStart, standing_in, reply_of_put, reply_of_check, reply_of_grant, reply_of_release};
+ghost use Rattle.st_control.specs.Checker.{Moves, Sends, Hears, OldChangesNothing, IsStart, standing_in, reply_of_put, reply_of_check, reply_of_grant, reply_of_release};
 ghost use Rattle.st_control.specs.Verdict.{IsFirst, IsLatest, first_broken_without, AreJudgedIn, IsJudgedIn, decided_as};
-ghost use Rattle.st_control.specs.Stamps.{entity_count};
+ghost use Rattle.st_net.specs.InOrder.{entity_count};
 ghost use Rattle.st_control.specs.Sure.{MarksShown};
 
+use crate::send::{SendStep, governing_row, shows_other};
 use crate::settled::Shown;
 use crate::stamps::{opening_stamps, stamp_all};
 use crate::sure::{shown_set, take_out};
 use st_event::{Cause, Receipt, Rows, Verdict};
 use st_locks::{Grant, LockTable, Release};
-use st_net::{AppId, Entity, EntitySet, GroupTopo, Prio};
+use st_net::{AppId, Command, Entity, EntitySet, GroupTopo, Prio, Report};
 use st_overlay::changed;
+use st_plan::settled;
 use st_promise::Book;
-use st_rows::judge_rows;
-use st_store::{Pending, Put, Store};
+use st_rows::{judge_rows, lack};
+use st_store::{Keep, Pending, Put, Store};
 use std::alloc::{AllocError, Global};
 use std::marker::Model;
 
@@ -36,6 +38,20 @@ pub enum Check {
     Decided(Receipt),
     /// Nothing waits.
     Idle,
+}
+
+/// The answer to a check, twice: one to hand out and one to enter in a journal.
+#[derive(Drop)]
+pub struct Checks {
+    pub told: Check,
+    pub kept: Check,
+}
+
+/// A verdict, twice.
+#[derive(Drop)]
+struct Verdicts {
+    told: Verdict,
+    kept: Verdict,
 }
 
 /// What stands against a proposal, as far as it was judged, and the entities that its rows alter.
@@ -213,26 +229,65 @@ impl Control {
     }
 
     /// Decides the oldest proposal, of which this was judged, as entry number `entry`. At `Err` nothing has changed.
-    fn decide(&mut self, entry: u32, judged: Judged) -> Result<Verdict, AllocError>
+    fn decide(&mut self, entry: u32, judged: Judged) -> Result<Verdicts, AllocError>
         requires pending { 0 < length self.old.store.pending }
         requires marks { MarksOf self.old.group judged.changed }
         requires latest { IsLatest self.old.store }
-        ensures ok { (p : Proposal) → IsFirst self.old.store p → IsJudgedIn self.old p judged → IfOk result (λ verdict. Moves self.old self.new entry check_event (decided_as self.old entry verdict)) }
+        ensures ok { (p : Proposal) → IsFirst self.old.store p → IsJudgedIn self.old p judged → IfOk result (λ verdicts. Moves self.old self.new entry check_event (decided_as self.old entry verdicts.told)) }
+        ensures kept { IfOk result (λ verdicts. verdicts.kept ≡ verdicts.told) }
         ensures err { OnErr result (self.new ≡ self.old) }
     {
         let Judged { refusal, changed } = judged;
         match refusal {
             Some(cause) => {
+                let kept = cause.copy(self.alloc)?;
                 let _version = self.store.decide(entry, false)?;
-                Ok(Verdict::Refused(cause))
+                Ok(Verdicts {
+                    told: Verdict::Refused(cause),
+                    kept: Verdict::Refused(kept),
+                })
             }
             None => {
                 let version = self.store.decide(entry, true)?;
                 // What follows cannot fail.
                 stamp_all(&self.topo, self.stamps.as_mut_slice(), &changed, entry);
-                Ok(Verdict::Accepted { version })
+                Ok(Verdicts {
+                    told: Verdict::Accepted { version },
+                    kept: Verdict::Accepted { version },
+                })
             }
         }
+    }
+
+    /// Decides the oldest proposal that waits, as entry number `entry`, and gives the answer twice: a journal keeps one, and to copy
+    /// it once the proposal is decided could fail. At `Err` nothing has changed.
+    pub fn check_twice(&mut self, entry: u32) -> Result<Checks, AllocError>
+        ensures ok { IfOk result (λ checks. Moves self.old self.new entry check_event (reply_of_check checks.told)) }
+        ensures kept { IfOk result (λ checks. checks.kept ≡ checks.told) }
+        ensures err { OnErr result (self.new ≡ self.old) }
+    {
+        let Some(oldest) = self.store.oldest() else {
+            return Ok(Checks {
+                told: Check::Idle,
+                kept: Check::Idle,
+            });
+        };
+        let ticket = oldest.ticket;
+        let rows = self.rows_judged(oldest)?;
+        let judged = self.judged(rows)?;
+        let Verdicts { told, kept } = self.decide(entry, judged)?;
+        Ok(Checks {
+            told: Check::Decided(Receipt {
+                ticket,
+                entry,
+                verdict: told,
+            }),
+            kept: Check::Decided(Receipt {
+                ticket,
+                entry,
+                verdict: kept,
+            }),
+        })
     }
 
     /// Decides the oldest proposal that waits, as entry number `entry`. At `Err` nothing has changed.
@@ -240,18 +295,52 @@ impl Control {
         ensures ok { IfOk result (λ check. Moves self.old self.new entry check_event (reply_of_check check)) }
         ensures err { OnErr result (self.new ≡ self.old) }
     {
-        let Some(oldest) = self.store.oldest() else {
-            return Ok(Check::Idle);
-        };
-        let ticket = oldest.ticket;
-        let rows = self.rows_judged(oldest)?;
-        let judged = self.judged(rows)?;
-        let verdict = self.decide(entry, judged)?;
-        Ok(Check::Decided(Receipt {
-            ticket,
-            entry,
-            verdict,
-        }))
+        Ok(self.check_twice(entry)?.told)
+    }
+
+    /// What an entity is to be sent, so that it becomes as the target has it. `Settled` comes exactly where it is settled. Else the
+    /// governing variable is the lowest one whose observed value is not the target's, and power where there is none: `Blocked` comes
+    /// exactly where that variable can't be set to its target value now, and carries that row. A command has the entity's stamp and
+    /// all its target values. It takes constant time.
+    pub fn send(&self, entity: Entity) -> SendStep
+        requires { IsEntityOf self.now.group entity }
+        ensures { Sends self.now entity result }
+    {
+        let place = self.topo.place(entity);
+        let observed = self.store.observed();
+        let table = self.store.target();
+        let target = table.get(entity);
+        let stamp = self.stamps[place];
+        if settled(&observed[place], target, stamp) {
+            return SendStep::Settled;
+        }
+        let row = governing_row(entity, observed[place].vals, target);
+        match lack(&self.topo, observed, table, &[], &row) {
+            Some(_) => SendStep::Blocked { row },
+            None => SendStep::Command(Command {
+                entity,
+                stamp,
+                vals: target,
+            }),
+        }
+    }
+
+    /// Hears a report as entry number `entry`: it is kept, unless the kept one of its entity has a number that is no lower, which
+    /// changes nothing. A report that is taken renews its entity, whose stamp is then `entry`, where it shows that the command of the
+    /// entity's stamp was carried out and yet other values than the target's. It takes constant time.
+    pub fn hear(&mut self, entry: u32, report: Report) -> Keep
+        requires { IsEntityOf self.old.group report.entity }
+        ensures hears { Hears self.old self.new entry report result }
+        ensures old { OldChangesNothing result self.old self.new }
+    {
+        let place = self.topo.place(report.entity);
+        let target = self.store.target().get(report.entity);
+        let is_renewed = shows_other(&report, self.stamps[place], target);
+        let keep = self.store.keep(report);
+        if keep == Keep::Taken && is_renewed {
+            self.stamps[place] = entry;
+        }
+        keep
     }
 
     /// Gives a lock of an entity to an application, where no other holds it. At `Held` nothing changes.

@@ -4,10 +4,12 @@
 
 mod control;
 mod replies;
+mod send;
 mod settled;
 mod stamps;
 mod sure;
 
-pub use control::{Check, Control};
-pub use replies::{check_reply, grant_reply, put_reply, release_reply};
-pub use st_store::Put;
+pub use control::{Check, Checks, Control};
+pub use replies::{check_reply, grant_reply, keep_reply, put_reply, release_reply};
+pub use send::SendStep;
+pub use st_store::{Keep, Put};

@@ -1,16 +1,18 @@
 //! What the checker answers, as replies of a journal.
 
-ghost use Rattle.std.specs.Prelude.{◌≡◌};
-ghost use Rattle.st_control.specs.Checker.{reply_of_put, reply_of_check, reply_of_grant, reply_of_release};
+ghost use Rattle.std.specs.Prelude.{◌≡◌, IsTrue};
+ghost use Rattle.st_event.specs.Events.{is_without_side};
+ghost use Rattle.st_control.specs.Checker.{reply_of_put, reply_of_check, reply_of_grant, reply_of_keep, reply_of_release};
 
 use crate::control::Check;
 use st_event::Reply;
 use st_locks::{Grant, Release};
-use st_store::Put;
+use st_store::{Keep, Put};
 
 /// The reply that stands for the answer to a proposal.
 pub fn put_reply(put: Put) -> Reply
-    ensures { result ≡ reply_of_put put }
+    ensures reply { result ≡ reply_of_put put }
+    ensures plain { IsTrue (is_without_side result) }
 {
     match put {
         Put::Ticket(ticket) => Reply::Queued { ticket },
@@ -30,7 +32,8 @@ pub fn check_reply(check: Check) -> Reply
 
 /// The reply that stands for the answer to a request for a lock.
 pub fn grant_reply(grant: Grant) -> Reply
-    ensures { result ≡ reply_of_grant grant }
+    ensures reply { result ≡ reply_of_grant grant }
+    ensures plain { IsTrue (is_without_side result) }
 {
     match grant {
         Grant::Granted => Reply::Granted,
@@ -38,9 +41,21 @@ pub fn grant_reply(grant: Grant) -> Reply
     }
 }
 
+/// The reply that stands for the answer to a report.
+pub fn keep_reply(keep: Keep) -> Reply
+    ensures reply { result ≡ reply_of_keep keep }
+    ensures plain { IsTrue (is_without_side result) }
+{
+    match keep {
+        Keep::Taken => Reply::Taken,
+        Keep::Old { kept } => Reply::Old { kept },
+    }
+}
+
 /// The reply that stands for the answer to a release of a lock.
 pub fn release_reply(release: Release) -> Reply
-    ensures { result ≡ reply_of_release release }
+    ensures reply { result ≡ reply_of_release release }
+    ensures plain { IsTrue (is_without_side result) }
 {
     match release {
         Release::Released => Reply::Released,

@@ -2,7 +2,7 @@
 
 ghost use Rattle.std.specs.Prelude.{◌≡◌, length, IfOk, if◌then◌else◌};
 ghost use Rattle.st_net.specs.Sets.{is_in, MarksOf};
-ghost use Rattle.st_control.specs.Stamps.{entity_count, stamp_in};
+ghost use Rattle.st_net.specs.InOrder.{entity_count, stamp_in};
 
 use st_net::{Entity, EntitySet, GroupTopo};
 use std::alloc::{AllocError, Global};

@@ -4,25 +4,13 @@ ghost use Rattle.std.specs.Prelude.{◌≡◌, ◌<◌, ◌&&◌, not, length, I
 ghost use Rattle.st_net.specs.Groups.{IsEntityOf};
 ghost use Rattle.st_net.specs.Sets.{is_in, MarksOf};
 ghost use Rattle.st_overlay.specs.Values.{IsTableOf};
-ghost use Rattle.st_control.specs.Stamps.{entity_count, place_in};
+ghost use Rattle.st_net.specs.InOrder.{entity_count, place_in};
 ghost use Rattle.st_control.specs.Sure.{shown_by, MarksShown};
 
 use crate::settled::{Shown, is_shown};
 use st_net::{Entity, EntitySet, GroupTopo, Report};
 use st_overlay::Table;
 use std::alloc::{AllocError, Global};
-
-/// Where an entity stands in the order of entities.
-fn place_of(topo: &GroupTopo, entity: Entity) -> usize
-    requires { IsEntityOf topo.now entity }
-    ensures place { result ≡ place_in topo.now entity }
-    ensures within { result < entity_count topo.now }
-{
-    match entity {
-        Entity::Device(i) => i as usize,
-        Entity::Link(i) => topo.device_count() as usize + i as usize,
-    }
-}
 
 /// Whether an entity is settled, or sure.
 fn is_shown_at(
@@ -39,7 +27,7 @@ fn is_shown_at(
     requires stamps { length stamps.now ≡ entity_count topo.now }
     ensures { result ≡ shown_by shown topo.now observed.now stamps.now table.now entity }
 {
-    let place = place_of(topo, entity);
+    let place = topo.place(entity);
     is_shown(
         shown,
         entity,

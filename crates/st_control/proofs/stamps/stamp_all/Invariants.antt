@@ -2,7 +2,7 @@ use Rattle.std.proofs.Common.{◌≡◌}
 use Rattle.std.specs.Prelude.{◌&&◌, if◌then◌else◌}
 use Rattle.st_net.specs.declared.entity.Entity.{Entity}
 use Rattle.st_net.specs.Sets.{is_in}
-use Rattle.st_control.specs.Stamps.{stamp_in}
+use Rattle.st_net.specs.InOrder.{stamp_in}
 use Rattle.st_control.specs.Sure.{is_device_before, is_before_link}
 use Rattle.st_control.proofs.stamps.stamp_all.Given as goal
 

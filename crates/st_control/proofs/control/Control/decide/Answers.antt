@@ -1,11 +1,11 @@
 use Rattle.std.proofs.Common.{◌≡◌, ℕ, List, ◌++◌, length, take, drop, ap, sym, subst, ◌∙◌}
-use Rattle.std.specs.Prelude.{true, false, if◌then◌else◌}
+use Rattle.std.specs.Prelude.{if◌then◌else◌}
 use Rattle.st_net.specs.declared.entity.Entity.{Entity}
 use Rattle.st_net.specs.Sets.{is_in}
 use Rattle.st_event.specs.declared.event.Event.TheVariants.{Check}
 use Rattle.st_event.specs.declared.event.Proposal.{Proposal}
 use Rattle.st_event.specs.declared.reply.Verdict.TheVariants.{Accepted, Refused}
-use Rattle.st_control.specs.Stamps.{stamp_in}
+use Rattle.st_net.specs.InOrder.{stamp_in}
 use Rattle.st_control.specs.Inside.{checker_of}
 use Rattle.st_control.specs.Checker.{Checker, Moves}
 use Rattle.st_control.specs.Verdict.{IsFirst, IsLatest, IsJudgedIn, decided_as}
@@ -16,7 +16,7 @@ use Rattle.st_control.proofs.control.Control.decide.Goals as goal
 
 pub invariant_of-self-in-Some : goal.invariant_of-self-in-Some
 invariant_of-self-in-Some c =
-    let kept = store_decided c.self.inside.topo c.self.inside.store c.decide.new.self c.args.entry false c.self.invariant.store_of c.self.invariant.fits c.in_ok-_version-in-Some.ensures.ok in
+    let kept = store_decided c.self.inside.topo c.self.inside.store c.decide.new.self _ _ c.self.invariant.store_of c.self.invariant.fits c.in_ok-_version-in-Some.ensures.ok in
     record {
       store_of = kept.of;
       fits = kept.fits;
@@ -32,7 +32,7 @@ returns-in-Some-clause-ok c =
 
 pub invariant_of-self-in-None : goal.invariant_of-self-in-None
 invariant_of-self-in-None c =
-    let kept = store_decided c.self.inside.topo c.self.inside.store c.decide-in-None.new.self c.args.entry true c.self.invariant.store_of c.self.invariant.fits c.in_ok-version-in-None.ensures.ok in
+    let kept = store_decided c.self.inside.topo c.self.inside.store c.decide-in-None.new.self _ _ c.self.invariant.store_of c.self.invariant.fits c.in_ok-version-in-None.ensures.ok in
     let back = whole c.self.inside.stamps.len c.stamp_all.new.stamps (drop (length c.stamp_all.new.stamps) c.self.inside.stamps.items) (sym (c.stamp_all.ensures.count ∙ c.as_mut_slice.ensures.len)) in
     record {
       store_of = kept.of;

@@ -1,9 +1,8 @@
-use Rattle.st_control.proofs.ReportLaws.{reports_are}
 use Rattle.st_control.proofs.control.Control.rows_judged.Goals as goal
 
 pub returns-clause-judged : goal.returns-clause-judged
 returns-clause-judged c = record {
-  first = rw (← c.self.view_is, ← c.target-table.ensures.target, ← c.observed.ensures, ← reports_are c.self.inside.topo c.observed.result.now, ← c.as_slice-rows.ensures) c.judge_rows-refusal.ensures.first;
+  first = rw (← c.self.view_is, ← c.target-table.ensures.target, ← c.observed.ensures, ← c.as_slice-rows.ensures) c.judge_rows-refusal.ensures.first;
   marks = rw (← c.self.view_is) c.in_ok-changed.ensures.of;
   altered = rw (← c.self.view_is, ← c.target-table.ensures.target, ← c.as_slice-rows.ensures) c.in_ok-changed.ensures.altered;
 }

@@ -5,7 +5,7 @@ use Rattle.st_event.specs.declared.reply.Reply.TheVariants.{Decided}
 use Rattle.st_store.specs.Store.{proposal_of}
 use Rattle.st_control.specs.Checker.{Checker, Moves}
 use Rattle.st_control.specs.Verdict.{IsFirst, IsJudgedIn, decided_as}
-use Rattle.st_control.proofs.control.Control.check.Goals as goal
+use Rattle.st_control.proofs.control.Control.check_twice.Goals as goal
 
 pub decide-requires-clause-marks : goal.decide-requires-clause-marks
 decide-requires-clause-marks c =
@@ -19,7 +19,7 @@ returns-clause-ok c =
     let same = c.in_ok-judged.ensures.same in
     let judged = c.in_ok-judged.ensures.judged p c.in_ok-rows.ensures.judged in
     let first = subst (λ (k : Checker). IsFirst k.store p) (c.self.view_is ∙ sym same) oldest.first in
-    let moves = c.in_ok-verdict.ensures.ok p first (subst (λ (k : Checker). IsJudgedIn k p c.in_ok-judged.judged) (sym same) judged) in
+    let moves = c.in_ok-told.ensures.ok p first (subst (λ (k : Checker). IsJudgedIn k p c.in_ok-judged.judged) (sym same) judged) in
     let ticket : c.in-Some.oldest.now.ticket ≡ length c.args.self.now.store.decided + 1 = oldest.ticket ∙ ap (λ (k : Checker). length k.store.decided + 1) c.self.view_is in
-    subst (λ (t : ℕ). Moves c.args.self.now c.decide.new.self c.args.entry Check (Decided (record { ticket = t; entry = c.args.entry; verdict = c.in_ok-verdict.verdict }))) (sym ticket)
-    (subst (λ (k : Checker). Moves k c.decide.new.self c.args.entry Check (decided_as k c.args.entry c.in_ok-verdict.verdict)) same moves)
+    subst (λ (t : ℕ). Moves c.args.self.now c.decide.new.self c.args.entry Check (Decided (record { ticket = t; entry = c.args.entry; verdict = c.in_ok-told.field-0.told }))) (sym ticket)
+    (subst (λ (k : Checker). Moves k c.decide.new.self c.args.entry Check (decided_as k c.args.entry c.in_ok-told.field-0.told)) same moves)
