@@ -1,0 +1,6 @@
+pub mod MachineLaws
+pub mod PlantLaws
+pub mod RunLaws
+pub mod SettleLaws
+pub mod RoundLaws
+pub mod WorldLaws

@@ -1,0 +1,337 @@
+-- Steps of a world as the run of their events, and what is left of a run from where a world stands.
+use Rattle.std.proofs.Common.{◌≡◌, ℕ, ◌+◌, ◌^◌, ◌<◌, List, ◌∷◌, length, map, drop, get_or, refl, ap, sym, ◌∙◌, subst, add-one, drop-cons, length-append, arith}
+use Rattle.std.specs.Prelude.{false, true, not, nat_lt, All, Result, Ok, Err, OnErr}
+use Rattle.std.specs.List.{filter}
+use Rattle.std.proofs.lemmas.Bool.Decides.{nat_tests}
+use Rattle.std.proofs.lemmas.Result.{on_err_weaker}
+use Rattle.std.proofs.lemmas.List.Sums.{length-filter, count_by-le-length}
+use Rattle.std.proofs.lemmas.List.FromFn.{length-map-range_with_len}
+use Rattle.st_net.specs.declared.entity.Entity.{Entity}
+use Rattle.st_net.specs.declared.entity.Entity.TheVariants.{Device, Link}
+use Rattle.st_net.specs.declared.entity.Var.{Var}
+use Rattle.st_net.specs.declared.message.Report.{Report}
+use Rattle.st_net.specs.Groups.{Group, IsEntityOf, IsSound}
+use Rattle.st_net.specs.InOrder.{entities_of, report_in, stamp_in}
+use Rattle.st_net.specs.Merge.{vals_in}
+use Rattle.st_net.specs.Reports.{is_settled_by}
+use Rattle.st_net.proofs.Tests.{less}
+use Rattle.st_event.specs.declared.event.Event.{Event}
+use Rattle.st_event.specs.declared.event.Event.TheVariants.{Finish, Report as make_report}
+use Rattle.st_event.specs.declared.reply.Reply.{Reply}
+use Rattle.st_event.specs.declared.journal.Entry.{Entry}
+use Rattle.st_event.specs.declared.journal.TheConstants.{MAX_ENTRIES}
+use Rattle.st_event.specs.History.{History}
+use Rattle.st_event.specs.Legal.{IsLegal}
+use Rattle.st_event.specs.Observed.{is_settled}
+use Rattle.st_event.specs.Services.{entry_after}
+use Rattle.st_event.proofs.Promises.{entry_of}
+use Rattle.st_event.specs.Standing.{Standing, standing_of}
+use Rattle.st_wire.specs.declared.line.WireLine.{WireLine}
+use Rattle.st_overlay.specs.Values.{Values, IsTableOf, value_in}
+use Rattle.st_store.specs.Store.{StoreView, IsStoreOf}
+use Rattle.st_plan.specs.Unsettled.{unsettled_in}
+use Rattle.st_control.specs.Checker.{Checker, standing_in}
+use Rattle.st_world.specs.declared.world.Stepped.{Stepped}
+use Rattle.st_world.specs.declared.world.Stepped.TheVariants.{Did, JournalFull}
+use Rattle.st_world.specs.declared.world.rounds.Going.{Going}
+use Rattle.st_world.specs.declared.world.rounds.Going.TheVariants.{On, Full}
+use Rattle.st_world.specs.World.{WorldView, IsBeginning, Steps}
+use Rattle.st_world.specs.Rounds.{Run, run_from, run_at, enter, enter_all, enter_told, arrivals_of, newest_arrivals, turn, turns, round, unsettled, HasSamePlant, IsPartOf, SettlesSent}
+use Rattle.st_world.proofs.RunLaws.{entered, beginning-self, beginning-more, enter-grows, enter_all-grows, enter_told-grows, turn-grows, turns-grows, enter-stopped, enter_all-stopped, enter_told-stopped, turns-stopped, unsettled_fit}
+use Rattle.st_world.proofs.SettleLaws.{round_made}
+
+-- what is left of a run
+
+-- a world that was reached on the way of a run: what is left, from where the world stands, ends as all of the run
+pub record IsOnWay (old now : WorldView) (whole left : Run) : Type 0 where
+  pub began : IsBeginning old.history.past now.history.past
+  pub plant : HasSamePlant old now
+  pub ends : left ≡ whole
+
+-- the plant is as at the start, since it is as it was in between
+plant_whole : (old now new : WorldView) → HasSamePlant old now → HasSamePlant now new → HasSamePlant old new
+plant_whole old now new before after = record { group = after.group ∙ before.group; lines = after.lines ∙ before.lines }
+
+-- on the way of what was left on the way
+way_more : (old now next : WorldView) (whole left less : Run) → IsOnWay old now whole left → IsOnWay now next left less → IsOnWay old next whole less
+way_more old now next whole left less way more = record {
+  began = beginning-more old.history.past now.history.past next.history.past way.began more.began;
+  plant = plant_whole old now next way.plant more.plant;
+  ends = more.ends ∙ way.ends;
+}
+
+-- a first part was entered whole: what follows it is left
+pub way_from : (rest : Group → List WireLine → Run → Run) (old now : WorldView) (first : Run) (going : Going) → IsBeginning old.history.past first.past → run_at going now ≡ first → going ≡ On → HasSamePlant old now → IsOnWay old now (rest old.history.group old.lines first) (rest now.history.group now.lines (run_from now.history.past))
+way_from rest old now first going grows is on plant = record {
+  began = subst (λ (run : Run). IsBeginning old.history.past run.past) (sym is) grows;
+  plant = plant;
+  ends = ap (λ (g : Group). rest g now.lines (run_from now.history.past)) plant.group ∙ ap (λ (lines : List WireLine). rest old.history.group lines (run_from now.history.past)) plant.lines ∙ ap (λ (at : Going). rest old.history.group old.lines (run_at at now)) (sym on) ∙ ap (rest old.history.group old.lines) is;
+}
+
+-- a part of what is left makes a part of all
+part_of_whole : (old now new : WorldView) (whole left : Run) → IsOnWay old now whole left → IsPartOf now new left → IsPartOf old new whole
+part_of_whole old now new whole left way p = record { began = beginning-more old.history.past now.history.past new.history.past way.began p.began; part = subst (λ (run : Run). IsBeginning new.history.past run.past) way.ends p.part }
+
+-- and where the last call met an `Err`
+pub part_whole : {T E : Type 0} (r : Result T E) (old now new : WorldView) (whole left : Run) → IsOnWay old now whole left → OnErr r (IsPartOf now new left) → OnErr r (IsPartOf old new whole)
+part_whole r old now new whole left way part = on_err_weaker r (part_of_whole old now new whole left way) part
+
+-- what holds anyway holds at an `Err`
+err_of : {T E P : Type 0} (r : Result T E) → P → OnErr r P
+err_of (Ok x) holds = tt
+err_of (Err e) holds = holds
+
+-- a part of what a run begins with is a part of the run
+pub part_more : {T E : Type 0} (r : Result T E) (old new : WorldView) (first whole : Run) → IsBeginning first.past whole.past → IsPartOf old new first → OnErr r (IsPartOf old new whole)
+part_more r old new first whole grows part = err_of r (record { began = part.began; part = beginning-more new.history.past first.past whole.past part.part grows })
+
+-- where nothing was entered, no part of the run was
+pub none_entered : {T E : Type 0} (r : Result T E) (old new : WorldView) (run : Run) → IsBeginning old.history.past run.past → new.history ≡ old.history → OnErr r (IsPartOf old new run)
+none_entered r old new run grows same =
+    let stands : old.history.past ≡ new.history.past = ap (λ (h : History). h.past) (sym same) in
+    err_of r (record { began = subst (λ (past : List Entry). IsBeginning old.history.past past) stands (beginning-self old.history.past); part = subst (λ (past : List Entry). IsBeginning past run.past) stands grows })
+
+-- one step
+
+-- where there is room, a step enters the event with the reply that is called for
+enters_next : (old new : History) (event : Event) (answer : Reply) → Steps old new event (Did answer) → run_from new.past ≡ enter old.group (run_from old.past) event
+enters_next old new event answer steps =
+    ap (λ (h : History). run_from h.past) steps.1
+    ∙ ap (λ (a : Reply). run_from (entry_of event a ∷ old.past)) steps.0.answer
+    ∙ sym (ap (entered (run_from old.past) (entry_after old.group old.past event) false) (less (length old.past) MAX_ENTRIES steps.0.room))
+
+-- a number is not less than an equal one
+not_less_self : (n m : ℕ) → n ≡ m → nat_lt n m ≡ false
+not_less_self n m is = grind (arith, nat_tests)
+
+-- where there is none, the run stops
+stops_full : (old new : WorldView) (event : Event) (entries : ℕ) → Steps old.history new.history event (JournalFull entries) → run_at Full new ≡ enter old.history.group (run_from old.history.past) event
+stops_full old new event entries steps =
+    ap (λ (h : History). entered (run_from h.past) (entry_after old.history.group old.history.past event) false false) steps.2
+    ∙ sym (ap (entered (run_from old.history.past) (entry_after old.history.group old.history.past event) false) (not_less_self (length old.history.past) MAX_ENTRIES steps.0))
+
+-- the arrivals of the newest entry's reply
+abbrev with_newest : Group → List WireLine → Run → Run
+with_newest g lines run = enter_all g run (newest_arrivals lines run.past)
+
+-- an event was entered, and the arrivals that its reply calls for are left
+pub told_way : (old now : WorldView) (event : Event) (stepped : Stepped) (answer : Reply) → Steps old.history now.history event stepped → stepped ≡ Did answer → now.lines ≡ old.lines → IsOnWay old now (enter_told old.history.group old.lines (run_from old.history.past) event) (enter_all now.history.group (run_from now.history.past) (arrivals_of now.lines answer))
+told_way old now event stepped answer steps is lines =
+    let did : Steps old.history now.history event (Did answer) = subst (λ (s : Stepped). Steps old.history now.history event s) is steps in
+    let plant : HasSamePlant old now = record { group = ap (λ (h : History). h.group) did.1; lines = lines } in
+    let way = way_from with_newest old now (enter old.history.group (run_from old.history.past) event) On (enter-grows old.history.group (run_from old.history.past) event) (enters_next old.history now.history event answer did) refl plant in
+    let newest : newest_arrivals now.lines now.history.past ≡ arrivals_of now.lines answer = ap (λ (h : History). newest_arrivals now.lines h.past) did.1 in
+    record { began = way.began; plant = way.plant; ends = ap (enter_all now.history.group (run_from now.history.past)) (sym newest) ∙ way.ends }
+
+-- an event with arrivals met a full journal
+pub told_stops : (old now : WorldView) (event : Event) (stepped : Stepped) (entries : ℕ) → Steps old.history now.history event stepped → stepped ≡ JournalFull entries → run_at Full now ≡ enter_told old.history.group old.lines (run_from old.history.past) event
+told_stops old now event stepped entries steps is =
+    let full = stops_full old now event entries (subst (λ (s : Stepped). Steps old.history now.history event s) is steps) in
+    sym (enter_all-stopped old.history.group (run_at Full now) (newest_arrivals old.lines now.history.past) refl)
+    ∙ ap (with_newest old.history.group old.lines) full
+
+-- one part after another. `first` is the next of the parts that are left, and `rest` are those behind it
+
+-- the first item of those that are left
+first_left : {X : Type 0} (xs : List X) (i : ℕ) (default : X) → i < length xs → drop i xs ≡ get_or xs i default ∷ drop (i + 1) xs
+first_left xs i default low = rw (add-one, drop-cons xs i default low) refl
+
+-- the next part was entered whole
+part_goes : (rest : Group → List WireLine → Run → Run) (old now next : WorldView) (whole left first : Run) (going : Going) → IsOnWay old now whole left → left ≡ rest now.history.group now.lines first → IsBeginning now.history.past first.past → run_at going next ≡ first → going ≡ On → HasSamePlant now next → IsOnWay old next whole (rest next.history.group next.lines (run_from next.history.past))
+part_goes rest old now next whole left first going way split grows is on plant =
+    let here = way_from rest now next first going grows is on plant in
+    way_more old now next whole left (rest next.history.group next.lines (run_from next.history.past)) way (record { began = here.began; plant = here.plant; ends = here.ends ∙ sym split })
+
+-- the next part met a full journal: the run stops there, whatever was to follow
+pub stops_there : (rest : Run → Run) (now : WorldView) (first : Run) (going : Going) → run_at going now ≡ first → going ≡ Full → rest (run_at Full now) ≡ run_at Full now → run_at Full now ≡ rest first
+stops_there rest now first going is full stays = sym stays ∙ ap (λ (at : Going). rest (run_at at now)) (sym full) ∙ ap rest is
+
+-- a part of the next part was entered
+part_parts : {T E : Type 0} (r : Result T E) (old now next : WorldView) (whole left behind first : Run) → IsOnWay old now whole left → left ≡ behind → IsBeginning first.past behind.past → IsPartOf now next first → OnErr r (IsPartOf old next whole)
+part_parts r old now next whole left behind first way split grows part =
+    part_whole r old now next whole left way (part_more r now next first left (subst (λ (run : Run). IsBeginning first.past run.past) (sym split) grows) part)
+
+-- messages that arrive one after another
+
+-- the arrivals of these messages, from where a world stands
+abbrev pub arrivals_from : (ℕ → Event) → WorldView → List ℕ → Run
+arrivals_from make w numbers = enter_all w.history.group (run_from w.history.past) (map make numbers)
+
+-- on the way of the arrivals of these messages, those from place i on are left
+abbrev pub IsArriving : (ℕ → Event) → WorldView → WorldView → List ℕ → ℕ → Type 0
+IsArriving make old now numbers i = IsOnWay old now (arrivals_from make old numbers) (arrivals_from make now (drop i numbers))
+
+-- the arrival at a place, from where a world stands
+abbrev arrival_at : (ℕ → Event) → WorldView → List ℕ → ℕ → Run
+arrival_at make w numbers i = enter w.history.group (run_from w.history.past) (make (get_or numbers i 0))
+
+-- the arrivals behind a place
+abbrev arrivals_behind : (ℕ → Event) → List ℕ → ℕ → Group → List WireLine → Run → Run
+arrivals_behind make numbers i g lines run = enter_all g run (map make (drop (i + 1) numbers))
+
+-- the arrivals that are left are that at the place, and then those behind it
+first_arrival : (make : ℕ → Event) (w : WorldView) (numbers : List ℕ) (i : ℕ) → i < length numbers → arrivals_from make w (drop i numbers) ≡ arrivals_behind make numbers i w.history.group w.lines (arrival_at make w numbers i)
+first_arrival make w numbers i low = ap (arrivals_from make w) (first_left numbers i 0 low)
+
+-- one message more arrived
+pub arrival_goes : (make : ℕ → Event) (old now next : WorldView) (numbers : List ℕ) (i : ℕ) (going : Going) → IsArriving make old now numbers i → i < length numbers → run_at going next ≡ arrival_at make now numbers i → going ≡ On → HasSamePlant now next → IsArriving make old next numbers (i + 1)
+arrival_goes make old now next numbers i going way low =
+    part_goes (arrivals_behind make numbers i) old now next (arrivals_from make old numbers) (arrivals_from make now (drop i numbers)) (arrival_at make now numbers i) going way
+    (first_arrival make now numbers i low) (enter-grows now.history.group (run_from now.history.past) (make (get_or numbers i 0)))
+
+-- the next one met a full journal
+pub arrival_stops : (make : ℕ → Event) (old now next : WorldView) (numbers : List ℕ) (i : ℕ) (going : Going) → IsArriving make old now numbers i → i < length numbers → run_at going next ≡ arrival_at make now numbers i → going ≡ Full → run_at Full next ≡ arrivals_from make old numbers
+arrival_stops make old now next numbers i going way low is full =
+    stops_there (arrivals_behind make numbers i now.history.group now.lines) next (arrival_at make now numbers i) going is full (enter_all-stopped now.history.group (run_at Full next) (map make (drop (i + 1) numbers)) refl)
+    ∙ sym (first_arrival make now numbers i low)
+    ∙ way.ends
+
+-- the next one met an `Err`
+pub arrival_parts : {T E : Type 0} (r : Result T E) (make : ℕ → Event) (old now next : WorldView) (numbers : List ℕ) (i : ℕ) → IsArriving make old now numbers i → i < length numbers → IsPartOf now next (arrival_at make now numbers i) → OnErr r (IsPartOf old next (arrivals_from make old numbers))
+arrival_parts r make old now next numbers i way low =
+    let first = arrival_at make now numbers i in
+    part_parts r old now next (arrivals_from make old numbers) (arrivals_from make now (drop i numbers)) (arrivals_behind make numbers i now.history.group now.lines first) first way
+    (first_arrival make now numbers i low) (enter_all-grows now.history.group first (map make (drop (i + 1) numbers)))
+
+-- before any message arrived
+pub no_arrivals_part : {T E : Type 0} (r : Result T E) (w : WorldView) (events : List Event) → OnErr r (IsPartOf w w (enter_all w.history.group (run_from w.history.past) events))
+no_arrivals_part r w events = none_entered r w w (enter_all w.history.group (run_from w.history.past) events) (enter_all-grows w.history.group (run_from w.history.past) events) refl
+
+-- a turn
+
+-- a report with its arrivals
+abbrev pub reporting : Entity → Group → List WireLine → Run → Run
+reporting e g lines run = enter_told g lines run (make_report e)
+
+-- the end of a turn: a finish, and a report with its arrivals
+abbrev pub ending : Entity → Group → List WireLine → Run → Run
+ending e g lines run = reporting e g lines (enter g run (Finish e))
+
+-- the end of a turn leaves what was entered before
+pub ending-grows : (e : Entity) (g : Group) (lines : List WireLine) (run : Run) → IsBeginning run.past (ending e g lines run).past
+ending-grows e g lines run =
+    let finished = enter g run (Finish e) in
+    beginning-more run.past finished.past (ending e g lines run).past (enter-grows g run (Finish e)) (enter_told-grows g lines finished (make_report e))
+
+-- a run that has stopped stays as it is
+pub ending-stopped : (e : Entity) (g : Group) (lines : List WireLine) (run : Run) → run.stopped ≡ true → ending e g lines run ≡ run
+ending-stopped e g lines run stopped = ap (reporting e g lines) (enter-stopped g run (Finish e) stopped) ∙ enter_told-stopped g lines run (make_report e) stopped
+
+-- turns one after another
+
+-- the turns of these entities, from where a world stands
+abbrev pub turns_from : WorldView → List Entity → Run
+turns_from w es = turns w.history.group w.lines (run_from w.history.past) es
+
+-- on the way of the turns of these entities, those from place i on are left
+abbrev pub IsTurning : WorldView → WorldView → List Entity → ℕ → Type 0
+IsTurning old now es i = IsOnWay old now (turns_from old es) (turns_from now (drop i es))
+
+-- the turn at a place, from where a world stands
+abbrev turn_at : WorldView → List Entity → ℕ → Run
+turn_at w es i = turn w.history.group w.lines (run_from w.history.past) (get_or es i (Device 0))
+
+-- the turns behind a place
+abbrev turns_behind : List Entity → ℕ → Group → List WireLine → Run → Run
+turns_behind es i g lines run = turns g lines run (drop (i + 1) es)
+
+-- the turns that are left are that at the place, and then those behind it
+first_turn : (w : WorldView) (es : List Entity) (i : ℕ) → i < length es → turns_from w (drop i es) ≡ turns_behind es i w.history.group w.lines (turn_at w es i)
+first_turn w es i low = ap (turns_from w) (first_left es i (Device 0) low)
+
+-- one entity more had its turn
+pub turn_goes : (old now next : WorldView) (es : List Entity) (i : ℕ) (going : Going) → IsTurning old now es i → i < length es → run_at going next ≡ turn_at now es i → going ≡ On → HasSamePlant now next → IsTurning old next es (i + 1)
+turn_goes old now next es i going way low =
+    part_goes (turns_behind es i) old now next (turns_from old es) (turns_from now (drop i es)) (turn_at now es i) going way
+    (first_turn now es i low) (turn-grows now.history.group now.lines (run_from now.history.past) (get_or es i (Device 0)))
+
+-- the next turn met a full journal
+pub turn_stops : (old now next : WorldView) (es : List Entity) (i : ℕ) (going : Going) → IsTurning old now es i → i < length es → run_at going next ≡ turn_at now es i → going ≡ Full → run_at Full next ≡ turns_from old es
+turn_stops old now next es i going way low is full =
+    stops_there (turns_behind es i now.history.group now.lines) next (turn_at now es i) going is full (turns-stopped now.history.group now.lines (run_at Full next) (drop (i + 1) es) refl)
+    ∙ sym (first_turn now es i low)
+    ∙ way.ends
+
+-- a part of the next turn was entered
+pub turn_parts : {T E : Type 0} (r : Result T E) (old now next : WorldView) (es : List Entity) (i : ℕ) → IsTurning old now es i → i < length es → IsPartOf now next (turn_at now es i) → OnErr r (IsPartOf old next (turns_from old es))
+turn_parts r old now next es i way low =
+    let first = turn_at now es i in
+    part_parts r old now next (turns_from old es) (turns_from now (drop i es)) (turns_behind es i now.history.group now.lines first) first way
+    (first_turn now es i low) (turns-grows now.history.group now.lines first (drop (i + 1) es))
+
+-- the entities that are not settled
+
+-- those of a group by what is known of each entity
+abbrev unsettled_by : Group → (Entity → Report) → (Entity → ℕ) → (Entity → Var → ℕ) → List Entity
+unsettled_by g reports stamps values = filter (λ e. not (is_settled_by (reports e) (stamps e) (vals_in g values e))) (entities_of g)
+
+-- by what a checker keeps that stands as a journal leaves its group, they are those by the journal
+unsettled_in_checker : (g : Group) (past : List Entry) (k : Checker) → k.group ≡ g → standing_in k ≡ standing_of g past → unsettled_in g k.store.observed k.store.target k.stamps ≡ unsettled g past
+unsettled_in_checker g past k group stands =
+    ap (λ (h : Group). unsettled_by g (report_in h k.store.observed) (stamp_in g k.stamps) (value_in k.store.target)) (sym group)
+    ∙ ap (λ (h : Group). unsettled_by g (report_in k.group k.store.observed) (stamp_in h k.stamps) (value_in k.store.target)) (sym group)
+    ∙ ap (λ (s : Standing). unsettled_by g s.observed s.stamp s.target) stands
+
+-- and so by what its store, its target, its kept reports and its stamps are
+pub planned : (g : Group) (past : List Entry) (k : Checker) (s : StoreView) (reports : List Report) (t : Values) (stamps : List ℕ) → k.group ≡ g → standing_in k ≡ standing_of g past → s ≡ k.store → reports ≡ s.observed → t ≡ s.target → stamps ≡ k.stamps → unsettled_in g reports t stamps ≡ unsettled g past
+planned g past k s reports t stamps group stands store observed table kept =
+    ap (λ (x : List Report). unsettled_in g x t stamps) observed
+    ∙ ap (λ (x : Values). unsettled_in g s.observed x stamps) table
+    ∙ ap (unsettled_in g s.observed s.target) kept
+    ∙ ap (λ (x : StoreView). unsettled_in g x.observed x.target k.stamps) store
+    ∙ unsettled_in_checker g past k group stands
+
+-- its target is a table of the group
+pub planned_table : (g h : Group) (s : StoreView) (t : Values) → h ≡ g → IsStoreOf h s → t ≡ s.target → IsTableOf g t
+planned_table g h s t group store table = subst (λ (x : Values). IsTableOf g x) (sym table) (subst (λ (x : Group). IsTableOf x s.target) group store.table)
+
+-- they are entities of the group
+pub planned_own : (g : Group) (past : List Entry) (entities : List Entity) → entities ≡ unsettled g past → All (IsEntityOf g) entities
+planned_own g past entities is = subst (λ (es : List Entity). All (IsEntityOf g) es) (sym is) (unsettled_fit g past)
+
+-- there are no more than a number of 32 bits can tell
+few_unsettled : (g : Group) (past : List Entry) → IsSound g → length (unsettled g past) < 2 ^ 32
+few_unsettled g past sound =
+    let kept = length-filter (λ e. not (is_settled g past e)) (entities_of g) in
+    let few = count_by-le-length (λ e. not (is_settled g past e)) (entities_of g) in
+    let devices = sound.few_devices in
+    let links = sound.few_links in
+    let all = entities_count g in
+    omega (arith, kept, few, devices, links, all)
+  where
+    -- as many as the devices and the links
+    entities_count : (g : Group) → length (entities_of g) ≡ length g.devices + length g.links
+    entities_count g = rw (length-append, length-map-range_with_len Device 0, length-map-range_with_len Link 0) refl
+
+-- so their count fits, also of a group that is as a sound one
+pub count_fits : (g h : Group) (past : List Entry) (entities : List Entity) (count : ℕ) → IsSound g → h ≡ g → entities ≡ unsettled h past → count ≡ length entities → count < 2 ^ 32
+count_fits g h past entities count sound group is counted =
+    let few = few_unsettled h past (subst (λ (x : Group). IsSound x) (sym group) sound) in
+    let same = counted ∙ ap (λ (es : List Entity). length es) is in
+    rw same few
+
+-- a round
+
+-- the turns of the entities that are not settled are the round
+pub round_entered : (old new : WorldView) (es items : List Entity) (going other : Going) → run_at going new ≡ turns_from old es → going ≡ other → es ≡ items → items ≡ unsettled old.history.group old.history.past → run_at other new ≡ round old.history.group old.lines old.history.past
+round_entered old new es items going other is at read all =
+    ap (λ (x : Going). run_at x new) (sym at) ∙ is ∙ ap (turns_from old) read ∙ ap (turns_from old) all
+
+-- a run that was entered is a part of itself
+pub all_part : {T E : Type 0} (r : Result T E) (old new : WorldView) (whole : Run) (going : Going) → IsBeginning old.history.past whole.past → run_at going new ≡ whole → OnErr r (IsPartOf old new whole)
+all_part r old new whole going grows is =
+    let stands : whole.past ≡ new.history.past = ap (λ (run : Run). run.past) (sym is) in
+    err_of r (record {
+      began = subst (λ (past : List Entry). IsBeginning old.history.past past) stands grows;
+      part = subst (λ (past : List Entry). IsBeginning past whole.past) stands (beginning-self whole.past);
+    })
+
+-- a round that met no full journal settles what it is to settle
+pub round_did_settle : (old new : WorldView) → IsLegal old.history.group old.history.past → run_at On new ≡ round old.history.group old.lines old.history.past → HasSamePlant old new → SettlesSent old new
+round_did_settle old new legal is plant =
+    let made = round_made old.history.group old.lines old.history.past new.history.past legal (sym is) in
+    record {
+      made = made.0;
+      all = made.1;
+      settled = λ none e sent never. ap (λ (g : Group). is_settled g new.history.past e) plant.group ∙ made.2 none e sent never;
+    }

@@ -1,0 +1,9 @@
+use Rattle.st_net.specs.Agents.{agent_counted}
+use Rattle.st_world.proofs.PlantLaws.{changed}
+use Rattle.st_world.proofs.plant.Plant.report.Goals as goal
+
+pub returns-clause-agents : goal.returns-clause-agents
+returns-clause-agents c = (changed _ _ _ _ _ _ _ agent_counted c.self.view_is c.requires.plant c.requires.entity c.place.ensures.place c.index_mut.ensures.value c.report.ensures.agent).agents
+
+pub returns-clause-plant : goal.returns-clause-plant
+returns-clause-plant c = (changed _ _ _ _ _ _ _ agent_counted c.self.view_is c.requires.plant c.requires.entity c.place.ensures.place c.index_mut.ensures.value c.report.ensures.agent).plant

@@ -1,0 +1,4 @@
+pub mod Plant
+pub mod Machine
+pub mod World
+pub mod Rounds

@@ -1,0 +1,118 @@
+-- What a round does: each entity that is not settled is sent its command, finishes, and reports.
+use Rattle.std.specs.Prelude.{◌≡◌, Bool, true, false, not, ◌&&◌, ◌⊎◌, nat_lt, List, [], ◌∷◌, ◌++◌, length, map, if◌then◌else◌}
+use Rattle.std.specs.List.{filter}
+use Rattle.st_net.specs.declared.entity.Entity.{Entity}
+use Rattle.st_net.specs.Entities.{is_same_entity}
+use Rattle.st_net.specs.Groups.{Group}
+use Rattle.st_net.specs.InOrder.{entities_of}
+use Rattle.st_event.specs.declared.event.Event.{Event}
+use Rattle.st_event.specs.declared.event.Event.TheVariants.{Send, Deliver, Finish, Report as make_report, Hear}
+use Rattle.st_event.specs.declared.reply.Reply.{Reply}
+use Rattle.st_event.specs.declared.reply.Reply.TheVariants.{Sent, Reported}
+use Rattle.st_event.specs.declared.journal.Entry.{Entry}
+use Rattle.st_event.specs.declared.journal.TheConstants.{MAX_ENTRIES}
+use Rattle.st_event.specs.Moments.{is_sent, is_fail_of}
+use Rattle.st_event.specs.Observed.{is_settled}
+use Rattle.st_event.specs.Services.{entry_after}
+use Rattle.st_wire.specs.declared.line.WireKind.TheVariants.{Command as command_kind, Report as report_kind}
+use Rattle.st_wire.specs.declared.line.WireLine.{WireLine}
+use Rattle.st_wire.specs.Deliveries.{deliveries}
+use Rattle.st_world.specs.World.{WorldView, IsBeginning}
+use Rattle.st_world.specs.declared.world.rounds.Going.{Going}
+use Rattle.st_world.specs.declared.world.rounds.Going.TheVariants.{On, Full}
+use Rattle.st_world.specs.declared.world.rounds.Rounded.{Rounded}
+use Rattle.st_world.specs.declared.world.rounds.Rounded.TheVariants.{Did, JournalFull}
+
+-- a journal, and whether an event met it full: then nothing more is entered
+pub record Run : Type 0 where
+  pub past : List Entry
+  pub stopped : Bool
+
+abbrev pub run_from : List Entry → Run
+run_from past = record { past = past; stopped = false }
+
+-- an event with its reply, where there is room
+abbrev pub enter : Group → Run → Event → Run
+enter g run event =
+    if run.stopped then run else (if nat_lt (length run.past) MAX_ENTRIES then record { past = entry_after g run.past event ∷ run.past; stopped = false } else record { past = run.past; stopped = true })
+
+abbrev pub enter_all : Group → Run → List Event → Run
+enter_all g run [] = run
+enter_all g run (event ∷ events) = enter_all g (enter g run event) events
+
+-- the arrivals that a reply calls for: those of the turn of the message that was sent or made
+abbrev pub arrivals_of : List WireLine → Reply → List Event
+arrivals_of lines (Sent n) = map Deliver (deliveries lines command_kind n)
+arrivals_of lines (Reported n) = map Hear (deliveries lines report_kind n)
+arrivals_of lines _ = []
+
+abbrev pub newest_arrivals : List WireLine → List Entry → List Event
+newest_arrivals lines [] = []
+newest_arrivals lines (entry ∷ past) = arrivals_of lines entry.reply
+
+-- an event, and then the arrivals that its reply calls for
+abbrev pub enter_told : Group → List WireLine → Run → Event → Run
+enter_told g lines run event = let next = enter g run event in enter_all g next (newest_arrivals lines next.past)
+
+-- the turn of an entity: Send with the arrivals of its command, Finish, Report with the arrivals of its report
+abbrev pub turn : Group → List WireLine → Run → Entity → Run
+turn g lines run e = enter_told g lines (enter g (enter_told g lines run (Send e)) (Finish e)) (make_report e)
+
+abbrev pub turns : Group → List WireLine → Run → List Entity → Run
+turns g lines run [] = run
+turns g lines run (e ∷ es) = turns g lines (turn g lines run e) es
+
+-- the entities that are not settled, in order
+abbrev pub unsettled : Group → List Entry → List Entity
+unsettled g past = filter (λ e. not (is_settled g past e)) (entities_of g)
+
+-- a round: the turns of the entities that are not settled at its start
+abbrev pub round : Group → List WireLine → List Entry → Run
+round g lines past = turns g lines (run_from past) (unsettled g past)
+
+-- all of a round was entered, and so many entities are not settled behind it; or it met a full journal
+abbrev pub Rounds : WorldView → WorldView → Rounded → Type 0
+Rounds old new (Did count) = (round old.history.group old.lines old.history.past ≡ record { past = new.history.past; stopped = false }) × (count ≡ length (unsettled new.history.group new.history.past))
+Rounds old new (JournalFull entries) = (round old.history.group old.lines old.history.past ≡ record { past = new.history.past; stopped = true }) × (entries ≡ MAX_ENTRIES)
+
+-- how a run stands, by the world that made it and by whether it met a full journal
+abbrev pub is_full : Going → Bool
+is_full On = false
+is_full Full = true
+
+abbrev pub run_at : Going → WorldView → Run
+run_at going w = record { past = w.history.past; stopped = is_full going }
+
+-- a part of a run was entered, from its start
+pub record IsPartOf (old new : WorldView) (run : Run) : Type 0 where
+  pub began : IsBeginning old.history.past new.history.past
+  pub part : IsBeginning new.history.past run.past
+
+-- the group and the loss plan are as before
+pub record HasSamePlant (old new : WorldView) : Type 0 where
+  pub group : new.history.group ≡ old.history.group
+  pub lines : new.lines ≡ old.lines
+
+-- these entries send the entity a command
+abbrev pub is_sending : Entity → Event → Bool
+is_sending e (Send at) = is_same_entity at e
+is_sending e _ = false
+
+abbrev pub WasSent : List Entry → Entity → Type 0
+WasSent [] e = ⊥
+WasSent (entry ∷ past) e = ((is_sending e entry.event && is_sent entry.reply) ≡ true) ⊎ WasSent past e
+
+-- the entity never failed
+abbrev pub NeverFailed : List Entry → Entity → Type 0
+NeverFailed [] e = Unit {0}
+NeverFailed (entry ∷ past) e = (is_fail_of e entry.event ≡ false) × NeverFailed past e
+
+-- of a loss plan without lines, each entity that was sent a command in the round and never failed is settled behind it
+pub record SettlesSent (old new : WorldView) : Type 0 where
+  pub made : List Entry
+  pub all : new.history.past ≡ made ++ old.history.past
+  pub settled : old.lines ≡ [] → (e : Entity) → WasSent made e → NeverFailed new.history.past e → is_settled new.history.group new.history.past e ≡ true
+
+abbrev pub DidSettle : WorldView → WorldView → Rounded → Type 0
+DidSettle old new (Did count) = SettlesSent old new
+DidSettle old new (JournalFull entries) = Unit {0}

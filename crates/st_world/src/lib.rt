@@ -1,0 +1,12 @@
+//! One group's whole machine: its checker, its simulated agents, its messages and its journal. Every event of the group is entered
+//! here with its reply; services and scripts drive it, and reports are read from it.
+#![tactic(auto)]
+
+mod machine;
+mod plant;
+#[cfg(test)]
+mod tests;
+mod world;
+
+pub use world::rounds::{Going, Rounded};
+pub use world::{Stepped, World};

@@ -1,0 +1,277 @@
+//! A group without its journal: the checker, an agent for each entity, and all messages. It answers each event, and the world enters
+//! the event with that reply.
+
+ghost use Rattle.std.specs.Prelude.{◌≡◌, ℕ, ◌<◌, ◌≤◌, ◌+◌, ◌^◌, length, IfOk, IsOk, IsTrue, OnOk, OnErr};
+ghost use Rattle.st_net.specs.Groups.{IsEntityOf};
+ghost use Rattle.st_net.specs.Ranges.{RowsFit};
+ghost use Rattle.st_event.specs.declared.event.Event.TheVariants.{Submit, Check as check_event, Lock, Unlock, Send, Deliver, Finish as finish_event, Report as report_event, Hear, Fail};
+ghost use Rattle.st_event.specs.declared.journal.TheConstants.{MAX_ENTRIES};
+ghost use Rattle.st_event.specs.Events.{is_without_side};
+ghost use Rattle.st_event.specs.Legal.{Fits};
+ghost use Rattle.st_world.specs.Plant.{IsPlantOf, agent_in};
+ghost use Rattle.st_world.specs.Machine.{Answers, HasSameMachine, IsBelow, IsOpening, is_sure_event};
+
+use crate::plant::Plant;
+use st_agent::{Delivery, Finish};
+use st_control::{
+    Control, SendStep, check_reply, grant_reply, keep_reply, put_reply, release_reply,
+};
+use st_event::{Event, Reply, Rows};
+use st_net::{AppId, Entity, GroupTopo, Prio, Vals};
+use st_wire::{Took, Wire};
+use std::alloc::{AllocError, Global};
+use std::marker::Model;
+
+/// A reply, twice: one to hand out and one to enter.
+#[derive(Drop)]
+pub struct Answered {
+    pub told: Reply,
+    pub kept: Reply,
+}
+
+/// A group's checker, its agents and its messages.
+#[derive(Drop)]
+pub struct Machine {
+    alloc: Global,
+    control: Control,
+    plant: Plant,
+    wire: Wire,
+}
+
+impl Model for Machine {
+    ghost use Rattle.st_world.specs.Machine.{MachineView, IsMachine};
+
+    ghost Value = { MachineView };
+
+    ghost view = { λ m. record { checker = m.control; agents = m.plant; messages = m.wire } };
+
+    ghost invariant = { λ m. IsMachine (record { checker = m.control; agents = m.plant; messages = m.wire }) };
+}
+
+/// A reply without a side, twice. It takes no memory.
+fn twice(alloc: Global, told: Reply) -> Answered
+    requires { IsTrue (is_without_side told) }
+    ensures told { result.told ≡ told }
+    ensures kept { result.kept ≡ told }
+{
+    match told.copy(alloc) {
+        Ok(kept) => Answered { told, kept },
+        Err(_) => unreachable!(),
+    }
+}
+
+impl Machine {
+    /// A group at its opening.
+    pub fn start(alloc: Global, topo: GroupTopo) -> Result<Machine, AllocError>
+        ensures { IfOk result (IsOpening topo) }
+    {
+        let plant = Plant::start(alloc, &topo)?;
+        let control = Control::start(alloc, topo)?;
+        Ok(Machine {
+            alloc,
+            control,
+            plant,
+            wire: Wire::start(alloc),
+        })
+    }
+
+    /// The checker.
+    pub fn control(&self) -> &Control
+        ensures { result.now ≡ self.now.checker }
+    {
+        &self.control
+    }
+
+    /// The agents.
+    pub fn plant(&self) -> &Plant
+        ensures agents { result.now ≡ self.now.agents }
+        ensures of { IsPlantOf self.now.checker.group result.now }
+    {
+        &self.plant
+    }
+
+    /// The messages.
+    pub fn wire(&self) -> &Wire
+        ensures { result.now ≡ self.now.messages }
+    {
+        &self.wire
+    }
+
+    /// Makes room, so that the next `n` messages take no memory.
+    pub fn reserve(&mut self, n: u32) -> Result<(), AllocError>
+        ensures room { OnOk result (n ≤ self.new.messages.room) }
+        ensures sure { n ≤ self.old.messages.room → IsOk result }
+        ensures more { self.old.messages.room ≤ self.new.messages.room }
+        ensures same { HasSameMachine self.old self.new }
+    {
+        self.wire.reserve(n)
+    }
+
+    /// An application proposes rows.
+    fn submit(&mut self, app: AppId, rows: &Rows) -> Result<Reply, AllocError>
+        requires fits { RowsFit self.old.checker.group rows.now }
+        requires tickets { self.old.checker.store.tickets + 1 < 2 ^ 32 }
+        ensures ok { IfOk result (λ reply. (n : ℕ) → Answers self.old self.new n (Submit app rows.now) reply) }
+        ensures plain { IfOk result (λ reply. IsTrue (is_without_side reply)) }
+        ensures err { OnErr result (self.new ≡ self.old) }
+        ensures room { self.new.messages ≡ self.old.messages }
+    {
+        let asked = rows.copy(self.alloc)?;
+        Ok(put_reply(self.control.submit(app, asked)?))
+    }
+
+    /// The oldest proposal is decided.
+    fn check(&mut self, entry: u32) -> Result<Answered, AllocError>
+        ensures ok { IfOk result (λ answered. Answers self.old self.new entry check_event answered.told) }
+        ensures kept { IfOk result (λ answered. answered.kept ≡ answered.told) }
+        ensures err { OnErr result (self.new ≡ self.old) }
+        ensures room { self.new.messages ≡ self.old.messages }
+    {
+        let checks = self.control.check_twice(entry)?;
+        Ok(Answered {
+            told: check_reply(checks.told),
+            kept: check_reply(checks.kept),
+        })
+    }
+
+    /// An application asks for a lock.
+    fn lock(&mut self, app: AppId, entity: Entity, prio: Prio) -> Reply
+        requires { IsEntityOf self.old.checker.group entity }
+        ensures ok { (n : ℕ) → Answers self.old self.new n (Lock app entity prio) result }
+        ensures plain { IsTrue (is_without_side result) }
+        ensures room { self.new.messages ≡ self.old.messages }
+    {
+        grant_reply(self.control.lock(app, entity, prio))
+    }
+
+    /// An application gives a lock back.
+    fn unlock(&mut self, app: AppId, entity: Entity, prio: Prio) -> Reply
+        requires { IsEntityOf self.old.checker.group entity }
+        ensures ok { (n : ℕ) → Answers self.old self.new n (Unlock app entity prio) result }
+        ensures plain { IsTrue (is_without_side result) }
+        ensures room { self.new.messages ≡ self.old.messages }
+    {
+        release_reply(self.control.unlock(app, entity, prio))
+    }
+
+    /// An entity is sent the command that it calls for. At `Err` nothing has changed.
+    fn send(&mut self, entity: Entity) -> Result<Reply, AllocError>
+        requires entity { IsEntityOf self.old.checker.group entity }
+        requires count { length self.old.messages.commands + 1 < 2 ^ 32 }
+        ensures ok { IfOk result (λ reply. (n : ℕ) → Answers self.old self.new n (Send entity) reply) }
+        ensures plain { IfOk result (λ reply. IsTrue (is_without_side reply)) }
+        ensures err { OnErr result (HasSameMachine self.old self.new) }
+        ensures sure { 0 < self.old.messages.room → IsOk result }
+        ensures room { self.old.messages.room ≤ self.new.messages.room + 1 }
+    {
+        match self.control.send(entity) {
+            SendStep::Command(command) => Ok(Reply::Sent {
+                command: self.wire.push_command(command)?,
+            }),
+            SendStep::Settled => Ok(Reply::Settled),
+            SendStep::Blocked { row } => Ok(Reply::Blocked { row }),
+        }
+    }
+
+    /// A command reaches its agent.
+    fn deliver(&mut self, command: u32) -> Reply
+        ensures ok { (n : ℕ) → Answers self.old self.new n (Deliver command) result }
+        ensures plain { IsTrue (is_without_side result) }
+        ensures room { self.new.messages ≡ self.old.messages }
+    {
+        match self.wire.command(command) {
+            Took::Got(command) => match self.plant.deliver(self.control.topo(), command) {
+                Delivery::Begun => Reply::Begun,
+                Delivery::Stale { fence } => Reply::Stale { fence },
+            },
+            Took::NoSuch { sent } => Reply::NoSuch { sent },
+        }
+    }
+
+    /// An agent carries out its command in work.
+    fn finish(&mut self, entity: Entity) -> Reply
+        requires { IsEntityOf self.old.checker.group entity }
+        ensures ok { (n : ℕ) → Answers self.old self.new n (finish_event entity) result }
+        ensures plain { IsTrue (is_without_side result) }
+        ensures room { self.new.messages ≡ self.old.messages }
+    {
+        match self.plant.finish(self.control.topo(), entity) {
+            Finish::Done => Reply::Done,
+            Finish::NotBusy => Reply::NotBusy,
+        }
+    }
+
+    /// An agent says how its entity is. At `Err` nothing has changed.
+    fn report(&mut self, entity: Entity) -> Result<Reply, AllocError>
+        requires entity { IsEntityOf self.old.checker.group entity }
+        requires count { length self.old.messages.reports + 1 < 2 ^ 32 }
+        requires number { (agent_in self.old.checker.group self.old.agents entity).number + 1 < 2 ^ 32 }
+        ensures ok { IfOk result (λ reply. (n : ℕ) → Answers self.old self.new n (report_event entity) reply) }
+        ensures plain { IfOk result (λ reply. IsTrue (is_without_side reply)) }
+        ensures err { OnErr result (HasSameMachine self.old self.new) }
+        ensures sure { 0 < self.old.messages.room → IsOk result }
+        ensures room { self.old.messages.room ≤ self.new.messages.room + 1 }
+    {
+        // Room first: it can fail, and what follows cannot.
+        self.wire.reserve(1)?;
+        let report = self.plant.report(self.control.topo(), entity);
+        match self.wire.push_report(report) {
+            Ok(report) => Ok(Reply::Reported { report }),
+            Err(_) => unreachable!(),
+        }
+    }
+
+    /// The checker hears a report, as entry number `entry`.
+    fn hear(&mut self, entry: u32, report: u32) -> Reply
+        ensures ok { Answers self.old self.new entry (Hear report) result }
+        ensures plain { IsTrue (is_without_side result) }
+        ensures room { self.new.messages ≡ self.old.messages }
+    {
+        match self.wire.report(report) {
+            Took::Got(report) => keep_reply(self.control.hear(entry, report)),
+            Took::NoSuch { sent } => Reply::NoSuch { sent },
+        }
+    }
+
+    /// An entity changes of itself.
+    fn fail(&mut self, entity: Entity, vals: Vals, health: u32) -> Reply
+        requires { IsEntityOf self.old.checker.group entity }
+        ensures ok { (n : ℕ) → Answers self.old self.new n (Fail entity vals health) result }
+        ensures plain { IsTrue (is_without_side result) }
+        ensures room { self.new.messages ≡ self.old.messages }
+    {
+        self.plant.fail(self.control.topo(), entity, vals, health);
+        Reply::Changed
+    }
+
+    /// Answers an event as entry number `entry`. At `Err` nothing has changed. Where there is room, only proposals and decisions take
+    /// memory.
+    pub fn answer(&mut self, entry: u32, event: &Event) -> Result<Answered, AllocError>
+        requires fits { Fits self.old.checker.group event.now }
+        requires below { IsBelow entry self.old }
+        requires few { entry ≤ MAX_ENTRIES }
+        ensures ok { IfOk result (λ answered. Answers self.old self.new entry event.now answered.told) }
+        ensures kept { IfOk result (λ answered. answered.kept ≡ answered.told) }
+        ensures err { OnErr result (HasSameMachine self.old self.new) }
+        ensures sure { 0 < self.old.messages.room → IsTrue (is_sure_event event.now) → IsOk result }
+        ensures room { self.old.messages.room ≤ self.new.messages.room + 1 }
+    {
+        let reply = match event {
+            Event::Submit { app, rows } => self.submit(*app, rows)?,
+            Event::Check => return self.check(entry),
+            Event::Lock { app, entity, prio } => self.lock(*app, *entity, *prio),
+            Event::Unlock { app, entity, prio } => self.unlock(*app, *entity, *prio),
+            Event::Send { entity } => self.send(*entity)?,
+            Event::Deliver { command } => self.deliver(*command),
+            Event::Finish { entity } => self.finish(*entity),
+            Event::Report { entity } => self.report(*entity)?,
+            Event::Hear { report } => self.hear(entry, *report),
+            Event::Fail {
+                entity,
+                vals,
+                health,
+            } => self.fail(*entity, *vals, *health),
+        };
+        Ok(twice(self.alloc, reply))
+    }
+}

@@ -1,0 +1,200 @@
+//! One group's world: every event goes through `World::step`, which asks the group's machine for the reply and enters both in the
+//! journal. Scripts and services drive it, and reports are read from it.
+
+ghost use Rattle.std.specs.Prelude.{◌≡◌, [], ◌∷◌, ◌++◌, ◌<◌, ◌≤◌, ◌+◌, IfOk, IsOk, IsTrue, OnOk, OnErr, reverse};
+ghost use Rattle.std.specs.Vec.{vec_len, vec_capacity};
+ghost use Rattle.st_net.specs.Groups.{IsSound, IsEntityOf};
+ghost use Rattle.st_event.specs.Agents.{agent_of};
+ghost use Rattle.st_event.specs.Facts.{AgentsAgree};
+ghost use Rattle.st_event.specs.Legal.{Fits, IsLegal, AtEach};
+ghost use Rattle.st_event.specs.Moments.{commands, reports};
+ghost use Rattle.st_event.specs.Network.{KeepsPromises};
+ghost use Rattle.st_event.specs.Standing.{standing_of};
+ghost use Rattle.st_event.specs.Versions.{value_at};
+ghost use Rattle.st_control.specs.Checker.{standing_in, versions_in};
+ghost use Rattle.st_world.specs.Machine.{is_sure_event};
+ghost use Rattle.st_world.specs.World.{Steps};
+
+mod fit;
+pub mod rounds;
+
+use crate::machine::{Answered, Machine};
+use st_agent::Agent;
+use st_control::Control;
+use st_event::{Entries, Entry, Event, Journal, MAX_ENTRIES, Reply};
+use st_net::{Entity, GroupTopo};
+use st_wire::{LossPlan, Wire};
+use std::alloc::{AllocError, Global};
+use std::marker::Model;
+
+/// The answer to an event.
+#[derive(Drop)]
+pub enum Stepped {
+    /// The event was entered with this reply.
+    Did(Reply),
+    /// The journal has as many entries as it may have, which is this number: nothing has changed.
+    JournalFull { entries: u32 },
+}
+
+/// One group with its agents, its messages, the plan by which messages are lost, and its journal.
+#[derive(Drop)]
+pub struct World {
+    alloc: Global,
+    machine: Machine,
+    plan: LossPlan,
+    journal: Vec<Entry>,
+}
+
+impl Model for World {
+    ghost use Rattle.std.specs.Prelude.{◌-◌, min, reverse};
+    ghost use Rattle.std.specs.Vec.{vec_len, vec_capacity};
+    ghost use Rattle.st_world.specs.World.{WorldView, Agrees};
+
+    ghost Value = { WorldView };
+
+    ghost view = { λ w. record { history = record { group = w.machine.checker.group; past = reverse w.journal.items }; lines = w.plan; room = min (vec_capacity w.journal - vec_len w.journal) w.machine.messages.room } };
+
+    ghost invariant = { λ w. Agrees w.machine w.journal.items };
+}
+
+/// Enters an event with its reply at the end of a journal that has room.
+fn enter_last(journal: &mut Vec<Entry>, event: Event, reply: Reply)
+    requires { vec_len journal.old < vec_capacity journal.old }
+    ensures entry { journal.new.items ≡ journal.old.items ++ record { event = event; reply = reply } ∷ [] }
+    ensures room { vec_capacity journal.old ≤ vec_capacity journal.new }
+{
+    match journal.push(Entry { event, reply }) {
+        Ok(()) => {}
+        Err(_) => unreachable!(),
+    }
+}
+
+impl World {
+    /// A group at its opening, with a plan by which its messages are lost, come again or come late.
+    pub fn start(alloc: Global, topo: GroupTopo, plan: LossPlan) -> Result<World, AllocError>
+        ensures history { IfOk result (λ world. world.history ≡ record { group = topo; past = [] }) }
+        ensures lines { IfOk result (λ world. world.lines ≡ plan) }
+    {
+        let machine = Machine::start(alloc, topo)?;
+        Ok(World {
+            alloc,
+            machine,
+            plan,
+            journal: Vec::new(alloc),
+        })
+    }
+
+    /// Enters an event with the reply that the entries before it call for. `JournalFull` comes exactly where the journal has
+    /// 200,000 entries, and then nothing changes. A Deliver or a Hear of a message that was never sent is entered as NoSuch. At
+    /// `Err` the group, its journal and its plan are as they were, and the event is dropped. Where there is room, only proposals and
+    /// decisions take memory. It takes constant time but for the rows of a proposal, and for a decision.
+    pub fn step(&mut self, event: Event) -> Result<Stepped, AllocError>
+        requires { Fits self.old.history.group event }
+        ensures ok { IfOk result (Steps self.old.history self.new.history event) }
+        ensures err { OnErr result (self.new.history ≡ self.old.history) }
+        ensures plan { self.new.lines ≡ self.old.lines }
+        ensures sure { 0 < self.old.room → IsTrue (is_sure_event event) → IsOk result }
+        ensures room { self.old.room ≤ self.new.room + 1 }
+    {
+        if self.journal.len() >= MAX_ENTRIES {
+            return Ok(Stepped::JournalFull {
+                entries: MAX_ENTRIES as u32,
+            });
+        }
+        let entry = self.journal.len() as u32 + 1;
+        // Room first: once the machine has answered, the entry has to follow.
+        self.journal.reserve(1)?;
+        let Answered { told, kept } = self.machine.answer(entry, &event)?;
+        enter_last(&mut self.journal, event, kept);
+        Ok(Stepped::Did(told))
+    }
+
+    /// Makes room for `n` entries: the next `n` steps of Lock, Unlock, Send, Deliver, Finish, Report, Hear and Fail take no memory,
+    /// so none of them is refused for want of it. Nothing else changes, also at `Err`.
+    pub fn reserve(&mut self, n: u32) -> Result<(), AllocError>
+        ensures room { OnOk result (n ≤ self.new.room) }
+        ensures more { self.old.room ≤ self.new.room }
+        ensures history { self.new.history ≡ self.old.history }
+        ensures plan { self.new.lines ≡ self.old.lines }
+    {
+        self.journal.reserve(n as usize)?;
+        self.machine.reserve(n)
+    }
+
+    /// The checker, which stands as the journal leaves the group.
+    pub fn control(&self) -> &Control
+        ensures group { result.now.group ≡ self.now.history.group }
+        ensures standing { standing_in result.now ≡ standing_of self.now.history.group self.now.history.past }
+        ensures versions { versions_in result.now ≡ value_at self.now.history.group self.now.history.past }
+    {
+        self.machine.control()
+    }
+
+    /// The agent of an entity, as the journal leaves it.
+    pub fn agent(&self, e: Entity) -> &Agent
+        requires { IsEntityOf self.now.history.group e }
+        ensures { result.now ≡ record { entity = e; agent = agent_of self.now.history.group self.now.history.past e } }
+    {
+        self.machine.plant().agent(self.machine.control().topo(), e)
+    }
+
+    /// All messages that were sent.
+    pub fn wire(&self) -> &Wire
+        ensures commands { result.now.commands ≡ commands self.now.history.group self.now.history.past }
+        ensures reports { result.now.reports ≡ reports self.now.history.group self.now.history.past }
+    {
+        self.machine.wire()
+    }
+
+    /// The plan that the world was started with.
+    pub fn plan(&self) -> &LossPlan
+        ensures { result.now ≡ self.now.lines }
+    {
+        &self.plan
+    }
+
+    /// The journal, the oldest entry first.
+    pub fn journal(&self) -> &[Entry]
+        ensures { reverse result.now ≡ self.now.history.past }
+    {
+        self.journal.as_slice()
+    }
+
+    /// The journal as that of the group of this number, given back without taking memory.
+    pub fn into_journal(self, group: u32) -> Journal
+        ensures group { result.group ≡ group }
+        ensures entries { reverse result.entries ≡ self.history.past }
+    {
+        Journal {
+            group,
+            entries: Entries::new(self.journal),
+        }
+    }
+
+    /// The journal is legal, and the group is sound.
+    pub fn is_legal(&self)
+        ensures legal { IsLegal self.now.history.group self.now.history.past }
+        ensures sound { IsSound self.now.history.group }
+    {
+        self.machine.control().topo().is_sound();
+    }
+
+    /// At each moment so far: each entity of the sure set carries in the simulated network, or failed since the report by which it is
+    /// known; while no entity had failed, each promise that held at the opening held in the sure set, in the simulated network, and
+    /// in every set that has the sure entities; and where an entry took a promise from the sure set, it was the hearing of a report of
+    /// an entity that had failed in between.
+    pub fn keeps_promises(&self)
+        ensures { AtEach (KeepsPromises self.now.history.group) self.now.history.past }
+    {
+        self.is_legal();
+    }
+
+    /// At each moment so far commands, agents and reports agreed with the target: no command is newer than its entity's stamp, and it
+    /// has the target's values of its stamp; no fence is above the stamp; a report that is not busy tells what its agent is until that one
+    /// begins a command or its entity fails; and an agent that is not busy and was not spoiled by a failure has the target's values of its fence.
+    pub fn agents_agree(&self)
+        ensures { AtEach (AgentsAgree self.now.history.group) self.now.history.past }
+    {
+        self.is_legal();
+    }
+}

@@ -1,0 +1,203 @@
+//! Rounds of a world: each entity that is not settled is sent its command, carries it out and reports, as far as the loss plan lets
+//! messages through.
+
+ghost use Rattle.std.specs.Prelude.{◌≡◌, All, IfOk, OnErr, map};
+ghost use Rattle.st_net.specs.Groups.{IsEntityOf};
+ghost use Rattle.st_event.specs.declared.event.Event.TheVariants.{Deliver, Finish, Report as report_event, Hear};
+ghost use Rattle.st_event.specs.Legal.{Fits};
+ghost use Rattle.st_world.specs.Rounds.{arrivals_of, enter as enter_lem, enter_all, enter_told, turn as turn_lem, turns as turns_lem, round as round_lem, run_from, run_at, unsettled as unsettled_lem, Rounds, IsPartOf, HasSamePlant, DidSettle};
+
+use crate::world::{Stepped, World};
+use st_event::{Event, MAX_ENTRIES, Reply};
+use st_net::Entity;
+use st_plan::plan;
+use st_wire::WireKind;
+use std::alloc::AllocError;
+
+/// The answer to a round.
+#[derive(Clone, Copy, Debug, PartialEq, Eq)]
+pub enum Rounded {
+    /// All of it was entered, and so many entities are not settled after it.
+    Did { unsettled: u32 },
+    /// It met a journal that has as many entries as it may have, which is this number. What was entered before stands.
+    JournalFull { entries: u32 },
+}
+
+/// Whether a run of events goes on, or met a full journal.
+#[derive(Clone, Copy, Debug, PartialEq, Eq)]
+pub enum Going {
+    On,
+    Full,
+}
+
+impl World {
+    /// The entities that are not settled, in order.
+    pub fn unsettled(&self) -> Result<Vec<Entity>, AllocError>
+        ensures entities { IfOk result (λ entities. entities.items ≡ unsettled_lem self.now.history.group self.now.history.past) }
+        ensures own { IfOk result (λ entities. All (IsEntityOf self.now.history.group) entities.items) }
+    {
+        let control = self.control();
+        let store = control.store();
+        control.topo().is_sound();
+        plan(
+            self.alloc,
+            store.observed(),
+            store.target(),
+            control.stamps(),
+        )
+    }
+
+    /// Enters an event. As in all of these runs, at `Full` and at `Err` what was entered is a part of the run, from its start.
+    fn enter(&mut self, event: Event) -> Result<Going, AllocError>
+        requires { Fits self.old.history.group event }
+        ensures ok { IfOk result (λ going. run_at going self.new ≡ enter_lem self.old.history.group (run_from self.old.history.past) event) }
+        ensures err { OnErr result (IsPartOf self.old self.new (enter_lem self.old.history.group (run_from self.old.history.past) event)) }
+        ensures plant { HasSamePlant self.old self.new }
+    {
+        match self.step(event)? {
+            Stepped::Did(_) => Ok(Going::On),
+            Stepped::JournalFull { .. } => Ok(Going::Full),
+        }
+    }
+
+    /// Delivers these commands, one after another.
+    fn deliver_all(&mut self, commands: &[u32]) -> Result<Going, AllocError>
+        ensures ok { IfOk result (λ going. run_at going self.new ≡ enter_all self.old.history.group (run_from self.old.history.past) (map Deliver commands.now)) }
+        ensures err { OnErr result (IsPartOf self.old self.new (enter_all self.old.history.group (run_from self.old.history.past) (map Deliver commands.now))) }
+        ensures plant { HasSamePlant self.old self.new }
+    {
+        for command in commands {
+            match self.enter(Event::Deliver { command: *command })? {
+                Going::On => {}
+                Going::Full => return Ok(Going::Full),
+            }
+        }
+        Ok(Going::On)
+    }
+
+    /// Hears these reports, one after another.
+    fn hear_all(&mut self, reports: &[u32]) -> Result<Going, AllocError>
+        ensures ok { IfOk result (λ going. run_at going self.new ≡ enter_all self.old.history.group (run_from self.old.history.past) (map Hear reports.now)) }
+        ensures err { OnErr result (IsPartOf self.old self.new (enter_all self.old.history.group (run_from self.old.history.past) (map Hear reports.now))) }
+        ensures plant { HasSamePlant self.old self.new }
+    {
+        for report in reports {
+            match self.enter(Event::Hear { report: *report })? {
+                Going::On => {}
+                Going::Full => return Ok(Going::Full),
+            }
+        }
+        Ok(Going::On)
+    }
+
+    /// Enters the arrivals that a reply calls for: those of the turn of the message that was sent or made.
+    fn enter_arrivals(&mut self, reply: Reply) -> Result<Going, AllocError>
+        ensures ok { IfOk result (λ going. run_at going self.new ≡ enter_all self.old.history.group (run_from self.old.history.past) (arrivals_of self.old.lines reply)) }
+        ensures err { OnErr result (IsPartOf self.old self.new (enter_all self.old.history.group (run_from self.old.history.past) (arrivals_of self.old.lines reply))) }
+        ensures plant { HasSamePlant self.old self.new }
+    {
+        match reply {
+            Reply::Sent { command } => {
+                let commands = self.plan().deliveries(WireKind::Command, command)?;
+                self.deliver_all(commands.as_slice())
+            }
+            Reply::Reported { report } => {
+                let reports = self.plan().deliveries(WireKind::Report, report)?;
+                self.hear_all(reports.as_slice())
+            }
+            _ => Ok(Going::On),
+        }
+    }
+
+    /// Enters an event, and then the arrivals that its reply calls for.
+    fn enter_with_arrivals(&mut self, event: Event) -> Result<Going, AllocError>
+        requires { Fits self.old.history.group event }
+        ensures ok { IfOk result (λ going. run_at going self.new ≡ enter_told self.old.history.group self.old.lines (run_from self.old.history.past) event) }
+        ensures err { OnErr result (IsPartOf self.old self.new (enter_told self.old.history.group self.old.lines (run_from self.old.history.past) event)) }
+        ensures plant { HasSamePlant self.old self.new }
+    {
+        match self.step(event)? {
+            Stepped::Did(reply) => self.enter_arrivals(reply),
+            Stepped::JournalFull { .. } => Ok(Going::Full),
+        }
+    }
+
+    /// Lets an entity's agent report, and hears what arrives at the report's turn. At `Full` the journal met its limit; then, and at
+    /// `Err`, a part of these events was entered, from the first, and stands.
+    pub fn poll(&mut self, entity: Entity) -> Result<Going, AllocError>
+        requires { IsEntityOf self.old.history.group entity }
+        ensures ok { IfOk result (λ going. run_at going self.new ≡ enter_told self.old.history.group self.old.lines (run_from self.old.history.past) (report_event entity)) }
+        ensures err { OnErr result (IsPartOf self.old self.new (enter_told self.old.history.group self.old.lines (run_from self.old.history.past) (report_event entity))) }
+        ensures plant { HasSamePlant self.old self.new }
+    {
+        self.enter_with_arrivals(Event::Report { entity })
+    }
+
+    /// Lets an entity's agent carry out its command in work, and then report.
+    fn finish_and_report(&mut self, entity: Entity) -> Result<Going, AllocError>
+        requires { IsEntityOf self.old.history.group entity }
+        ensures ok { IfOk result (λ going. run_at going self.new ≡ enter_told self.old.history.group self.old.lines (enter_lem self.old.history.group (run_from self.old.history.past) (Finish entity)) (report_event entity)) }
+        ensures err { OnErr result (IsPartOf self.old self.new (enter_told self.old.history.group self.old.lines (enter_lem self.old.history.group (run_from self.old.history.past) (Finish entity)) (report_event entity))) }
+        ensures plant { HasSamePlant self.old self.new }
+    {
+        match self.enter(Event::Finish { entity })? {
+            Going::On => self.enter_with_arrivals(Event::Report { entity }),
+            Going::Full => Ok(Going::Full),
+        }
+    }
+
+    /// The turn of an entity.
+    fn turn(&mut self, entity: Entity) -> Result<Going, AllocError>
+        requires { IsEntityOf self.old.history.group entity }
+        ensures ok { IfOk result (λ going. run_at going self.new ≡ turn_lem self.old.history.group self.old.lines (run_from self.old.history.past) entity) }
+        ensures err { OnErr result (IsPartOf self.old self.new (turn_lem self.old.history.group self.old.lines (run_from self.old.history.past) entity)) }
+        ensures plant { HasSamePlant self.old self.new }
+    {
+        match self.enter_with_arrivals(Event::Send { entity })? {
+            Going::On => self.finish_and_report(entity),
+            Going::Full => Ok(Going::Full),
+        }
+    }
+
+    /// The turns of these entities, one after another.
+    fn turns(&mut self, entities: &[Entity]) -> Result<Going, AllocError>
+        requires { All (IsEntityOf self.old.history.group) entities.now }
+        ensures ok { IfOk result (λ going. run_at going self.new ≡ turns_lem self.old.history.group self.old.lines (run_from self.old.history.past) entities.now) }
+        ensures err { OnErr result (IsPartOf self.old self.new (turns_lem self.old.history.group self.old.lines (run_from self.old.history.past) entities.now)) }
+        ensures plant { HasSamePlant self.old self.new }
+    {
+        for entity in entities {
+            match self.turn(*entity)? {
+                Going::On => {}
+                Going::Full => return Ok(Going::Full),
+            }
+        }
+        Ok(Going::On)
+    }
+
+    /// A round: the entities that are not settled as it begins, in order, each have their turn. That is a Send; where a command was
+    /// sent, a Deliver of each command that arrives at its turn; a Finish; a Report; and a Hear of each report that arrives at that
+    /// one's turn. `JournalFull` comes exactly where one more entry was due at 200,000. At `JournalFull` and at `Err` a part of the
+    /// round was entered, from its start, and stands. The time grows with the entities of the group, and with the lines of the plan for
+    /// each message that is sent.
+    pub fn round(&mut self) -> Result<Rounded, AllocError>
+        ensures ok { IfOk result (Rounds self.old self.new) }
+        ensures err { OnErr result (IsPartOf self.old self.new (round_lem self.old.history.group self.old.lines self.old.history.past)) }
+        ensures plant { HasSamePlant self.old self.new }
+        ensures settles { IfOk result (DidSettle self.old self.new) }
+    {
+        self.is_legal();
+        let entities = self.unsettled()?;
+        match self.turns(entities.as_slice())? {
+            Going::On => {
+                let left = self.unsettled()?;
+                Ok(Rounded::Did {
+                    unsettled: left.len() as u32,
+                })
+            }
+            Going::Full => Ok(Rounded::JournalFull {
+                entries: MAX_ENTRIES as u32,
+            }),
+        }
+    }
+}
