@@ -4,9 +4,9 @@ use Rattle.std.specs.Prelude.{Bool, true, false, cond, nat_le, nat_lt, Option, S
 use Rattle.std.specs.List.{AllByRecursion}
 use Rattle.std.proofs.lemmas.List.{length-map, length_push, length-append, map_push, map-append}
 use Rattle.std.proofs.lemmas.Bool.Decides.{nat_tests}
-use Rattle.st_net.proofs.Tests.{both, less_is}
 use Rattle.st_text.specs.AllowedBytes.{has_allowed_bytes}
 use Rattle.st_text.specs.Tokens.{tokens_of}
+use Rattle.st_net.proofs.Tests.{both, less_is}
 use Rattle.st_net.specs.declared.parts.Parts.{Parts}
 use Rattle.st_net.specs.Names.{place_of, is_among, is_name}
 use Rattle.st_net.specs.Groups.{are_new}

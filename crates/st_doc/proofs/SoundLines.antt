@@ -4,7 +4,6 @@ use Rattle.std.specs.Prelude.{Bool, true, false, not, cond, ◌&&◌, nat_le, na
 use Rattle.std.specs.Str.{all_ascii_digits}
 use Rattle.std.specs.Str.Parse.{digits_value}
 use Rattle.std.proofs.lemmas.Bool.{leb-true}
-use Rattle.st_text.specs.Numbers.{number_of, is_number, has_leading_zero}
 use Rattle.st_net.proofs.Tests.{both, less_is}
 use Rattle.st_net.specs.declared.parts.DevicePart.{DevicePart}
 use Rattle.st_net.specs.declared.parts.LinkPart.{LinkPart}
@@ -14,6 +13,7 @@ use Rattle.st_net.specs.declared.entity.Entity.{Entity}
 use Rattle.st_net.specs.declared.entity.Entity.TheVariants.{Device, Link}
 use Rattle.st_net.specs.Groups.{entity_or}
 use Rattle.std.proofs.lemmas.List.{length-map}
+use Rattle.st_text.specs.Numbers.{number_of, is_number, has_leading_zero}
 use Rattle.st_net.specs.declared.topo.TheConstants.{MAX_LINKS, MAX_PROMISES, MAX_CAPACITY, MAX_PERCENT}
 use Rattle.st_net.specs.Names.{is_name, place_of, is_among}
 use Rattle.st_net.specs.Ranges.{is_in_range, is_free_of}

@@ -1,49 +1,13 @@
 -- What stands in a text after one printing and a part of the next, and after some turns of a loop.
-use Rattle.std.proofs.Common.{◌≡◌, ℕ, zero, suc, ◌+◌, ◌<◌, ◌≤◌, List, [], ◌∷◌, ◌++◌, length, map, get_or, take, drop, refl, sym, ◌∙◌, ap, append_assoc, add-one, inl, inr, arith}
-use Rattle.std.specs.Prelude.{flat_map, min, ◌⊎◌, Result, Ok, Err, OnErr, OnOk}
-use Rattle.std.proofs.lemmas.List.{append-nil, take_more, drop_more, take-append-drop}
-use Rattle.st_text.specs.Words.{ended, line_text, text_of}
+use Rattle.std.proofs.Common.{◌≡◌, ℕ, zero, suc, ◌+◌, ◌<◌, ◌≤◌, List, [], ◌∷◌, ◌++◌, length, map, get_or, take, refl, sym, ◌∙◌, ap, append_assoc, add-one, inl, inr, arith}
+use Rattle.std.specs.Prelude.{flat_map, min, ◌⊎◌}
+use Rattle.std.proofs.lemmas.List.{append-nil}
+use Rattle.st_text.specs.Words.{ended, line_text, text_of, spaced}
+use Rattle.st_text.specs.Printed.{HoldsPart}
+use Rattle.st_text.proofs.PrintLemmas.{part_none, part_first, part_next, part_along, both_added, IsByElement, line_bytes}
 use Rattle.st_net.specs.declared.parts.Parts.{Parts}
 use Rattle.st_wire.specs.declared.line.WireLine.{WireLine}
-use Rattle.st_doc.specs.Printed.{Words, wire_words, wires_lines, HoldsPart}
-use Rattle.st_doc.specs.PrintedWords.{spaced, line_of_words}
-
--- nothing was added
-pub part_none : (old new text : List ℕ) → new ≡ old → HoldsPart old new text
-part_none old new text same = record { done = []; left = text; text_is = refl; new_is = same ∙ sym (append-nil old) }
-
--- a part of a text's first part
-pub part_first : (old new a b : List ℕ) → HoldsPart old new a → HoldsPart old new (a ++ b)
-part_first old new a b part = record { done = part.done; left = part.left ++ b; text_is = ap (λ t. t ++ b) part.text_is ∙ append_assoc part.done part.left b; new_is = part.new_is }
-
--- the whole of a first text, and a part of a second
-pub part_next : (old mid new a b : List ℕ) → mid ≡ old ++ a → HoldsPart mid new b → HoldsPart old new (a ++ b)
-part_next old mid new a b whole part = record {
-  done = a ++ part.done;
-  left = part.left;
-  text_is = ap (λ t. a ++ t) part.text_is ∙ sym (append_assoc a part.done part.left);
-  new_is = part.new_is ∙ (ap (λ t. t ++ part.done) whole ∙ append_assoc old a part.done);
-}
-
--- the whole of two texts
-pub both_added : (old mid new a b : List ℕ) → mid ≡ old ++ a → new ≡ mid ++ b → new ≡ old ++ (a ++ b)
-both_added old mid new a b first second = second ∙ (ap (λ t. t ++ b) first ∙ append_assoc old a b)
-
-pub part_along : (old new text whole : List ℕ) → text ≡ whole → HoldsPart old new whole → HoldsPart old new text
-part_along old new text whole is part = record { done = part.done; left = part.left; text_is = is ∙ part.text_is; new_is = part.new_is }
-
--- what holds after an Err, or after an Ok
-pub err_of : {T E P : Type 0} (r : Result T E) → P → OnErr r P
-err_of (Ok x) p = tt
-err_of (Err e) p = p
-
-pub err_by : {T E P Q : Type 0} (r : Result T E) → (P → Q) → OnErr r P → OnErr r Q
-err_by (Ok x) f p = tt
-err_by (Err e) f p = f p
-
-pub ok_by : {T E P Q : Type 0} (r : Result T E) → (P → Q) → OnOk r P → OnOk r Q
-ok_by (Err e) f p = tt
-ok_by (Ok x) f p = f p
+use Rattle.st_doc.specs.Printed.{Words, wire_words, wires_lines}
 
 -- the text of lines behind lines
 pub text_append : (a b : List Words) → text_of (a ++ b) ≡ text_of a ++ text_of b
@@ -59,82 +23,35 @@ next_lines old mid new a b whole part = part_along old new (text_of (a ++ b)) (t
 pub both_lines : (old mid new : List ℕ) (a b : List Words) → mid ≡ old ++ text_of a → new ≡ mid ++ text_of b → new ≡ old ++ text_of (a ++ b)
 both_lines old mid new a b first second = both_added old mid new (text_of a) (text_of b) first second ∙ ap (λ t. old ++ t) (sym (text_append a b))
 
--- a text of a list, by its elements in order
-pub record IsByElement {X : Type 0} (F : List X → List ℕ) (f : X → List ℕ) : Type 0 where
-  pub none : F [] ≡ []
-  pub more : (x : X) (xs : List X) → F (x ∷ xs) ≡ f x ++ F xs
-
-by_append : {X : Type 0} (F : List X → List ℕ) (f : X → List ℕ) → IsByElement F f → (xs ys : List X) → F (xs ++ ys) ≡ F xs ++ F ys
-by_append F f by [] ys = ap (λ t. t ++ F ys) (sym by.none)
-by_append F f by (x ∷ xs) ys = by.more x (xs ++ ys) ∙ (ap (λ t. f x ++ t) (by_append F f by xs ys) ∙ (sym (append_assoc (f x) (F xs) (F ys)) ∙ ap (λ t. t ++ F ys) (sym (by.more x xs))))
-
-by_one : {X : Type 0} (F : List X → List ℕ) (f : X → List ℕ) → IsByElement F f → (x : X) → F (x ∷ []) ≡ f x
-by_one F f by x = by.more x [] ∙ (ap (λ t. f x ++ t) by.none ∙ append-nil (f x))
-
--- one more turn of a loop over the list
-pub by_next : {X : Type 0} (F : List X → List ℕ) (f : X → List ℕ) → IsByElement F f → (xs : List X) (i : ℕ) (x d : X) (old mid new : List ℕ) → i < length xs → x ≡ get_or xs i d → mid ≡ old ++ F (take i xs) → new ≡ mid ++ f x → new ≡ old ++ F (take (i + 1) xs)
-by_next F f by xs i x d old mid new within is before added =
-    let step : F (take (i + 1) xs) ≡ F (take i xs) ++ f x = ap F (take_more xs i d within) ∙ (by_append F f by (take i xs) (get_or xs i d ∷ []) ∙ ap (λ t. F (take i xs) ++ t) (by_one F f by (get_or xs i d) ∙ ap f (sym is))) in
-    both_added old mid new (F (take i xs)) (f x) before added ∙ ap (λ t. old ++ t) (sym step)
-
--- a turn that broke off
-pub by_part : {X : Type 0} (F : List X → List ℕ) (f : X → List ℕ) → IsByElement F f → (xs : List X) (i : ℕ) (x d : X) (old mid new : List ℕ) → i < length xs → x ≡ get_or xs i d → mid ≡ old ++ F (take i xs) → HoldsPart mid new (f x) → HoldsPart old new (F xs)
-by_part F f by xs i x d old mid new within is before part =
-    let rest : F (drop i xs) ≡ f x ++ F (drop (i + 1) xs) = ap F (drop_more xs i d within) ∙ (by.more (get_or xs i d) (drop (i + 1) xs) ∙ ap (λ y. f y ++ F (drop (i + 1) xs)) (sym is)) in
-    let whole : F xs ≡ F (take i xs) ++ (f x ++ F (drop (i + 1) xs)) = ap F (sym (take-append-drop i xs)) ∙ (by_append F f by (take i xs) (drop i xs) ∙ ap (λ t. F (take i xs) ++ t) rest) in
-    let both_parts = part_next old mid new (F (take i xs)) (f x ++ F (drop (i + 1) xs)) before (part_first mid new (f x) (F (drop (i + 1) xs)) part) in
-    record { done = both_parts.done; left = both_parts.left; text_is = whole ∙ both_parts.text_is; new_is = both_parts.new_is }
-
--- lines, one or more of each element, and words, each behind a space
+-- lines, one or more of each element
 pub lines_by : {X : Type 0} (words : X → Words) → IsByElement (λ xs. text_of (map words xs)) (λ x. text_of (words x ∷ []))
 lines_by words = record { none = refl; more = λ x xs. text_append (words x ∷ []) (map words xs) }
 
 pub sections_by : {X : Type 0} (lines : X → List Words) → IsByElement (λ xs. text_of (flat_map lines xs)) (λ x. text_of (lines x))
 sections_by lines = record { none = refl; more = λ x xs. text_append (lines x) (flat_map lines xs) }
 
-pub words_by : {X : Type 0} (word : X → List ℕ) → IsByElement (λ xs. spaced (map word xs)) (λ x. 32 ∷ word x)
-words_by word = record { none = refl; more = λ x xs. refl }
-
--- a line of words is its first word, the others behind a space each, and LF
-rest_spaced : (w : List ℕ) (words : Words) → line_text (w ∷ words) ≡ w ++ spaced words
-rest_spaced w [] = sym (append-nil w)
-rest_spaced w (v ∷ words) = ap (λ t. w ++ 32 ∷ t) (rest_spaced v words)
-
-pub line_bytes : (w : List ℕ) (words : Words) → line_of_words (w ∷ words) ≡ (w ++ spaced words) ++ 10 ∷ []
-line_bytes w words = append-nil (ended (line_text (w ∷ words))) ∙ ap (λ t. t ++ 10 ∷ []) (rest_spaced w words)
-
-pub line_begun : (old new w : List ℕ) (words : Words) → HoldsPart old new (w ++ spaced words) → HoldsPart old new (line_of_words (w ∷ words))
-line_begun old new w words part = part_along old new _ _ (line_bytes w words) (part_first old new (w ++ spaced words) (10 ∷ []) part)
-
 -- words behind words
 spaced_append : (a b : Words) → spaced (a ++ b) ≡ spaced a ++ spaced b
 spaced_append [] b = refl
 spaced_append (w ∷ a) b = ap (λ t. 32 ∷ w ++ t) (spaced_append a b) ∙ ap (λ t. 32 ∷ t) (sym (append_assoc w (spaced a) (spaced b)))
 
-two_parts : (w : List ℕ) (a b : Words) → line_of_words (w ∷ (a ++ b)) ≡ (w ++ spaced a) ++ (spaced b ++ 10 ∷ [])
+two_parts : (w : List ℕ) (a b : Words) → text_of ((w ∷ (a ++ b)) ∷ []) ≡ (w ++ spaced a) ++ (spaced b ++ 10 ∷ [])
 two_parts w a b =
     line_bytes w (a ++ b) ∙ ap (λ t. (w ++ t) ++ 10 ∷ []) (spaced_append a b)
     ∙ (ap (λ t. t ++ 10 ∷ []) (sym (append_assoc w (spaced a) (spaced b))) ∙ append_assoc (w ++ spaced a) (spaced b) (10 ∷ []))
 
 -- a line that was begun, and then more of its words, and its end
-pub line_first : (old new w : List ℕ) (a b : Words) → HoldsPart old new (w ++ spaced a) → HoldsPart old new (line_of_words (w ∷ (a ++ b)))
+pub line_first : (old new w : List ℕ) (a b : Words) → HoldsPart old new (w ++ spaced a) → HoldsPart old new (text_of ((w ∷ (a ++ b)) ∷ []))
 line_first old new w a b part = part_along old new _ _ (two_parts w a b) (part_first old new (w ++ spaced a) (spaced b ++ 10 ∷ []) part)
 
-pub line_next : (old mid new w : List ℕ) (a b : Words) → mid ≡ old ++ (w ++ spaced a) → HoldsPart mid new (spaced b) → HoldsPart old new (line_of_words (w ∷ (a ++ b)))
+pub line_next : (old mid new w : List ℕ) (a b : Words) → mid ≡ old ++ (w ++ spaced a) → HoldsPart mid new (spaced b) → HoldsPart old new (text_of ((w ∷ (a ++ b)) ∷ []))
 line_next old mid new w a b before part = part_along old new _ _ (two_parts w a b) (part_next old mid new (w ++ spaced a) (spaced b ++ 10 ∷ []) before (part_first mid new (spaced b) (10 ∷ []) part))
 
-pub line_unended : (old mid next new w : List ℕ) (a b : Words) → mid ≡ old ++ (w ++ spaced a) → next ≡ mid ++ spaced b → new ≡ next → HoldsPart old new (line_of_words (w ∷ (a ++ b)))
+pub line_unended : (old mid next new w : List ℕ) (a b : Words) → mid ≡ old ++ (w ++ spaced a) → next ≡ mid ++ spaced b → new ≡ next → HoldsPart old new (text_of ((w ∷ (a ++ b)) ∷ []))
 line_unended old mid next new w a b before more same = part_along old new _ _ (two_parts w a b) (part_next old mid new (w ++ spaced a) (spaced b ++ 10 ∷ []) before (part_next mid next new (spaced b) (10 ∷ []) more (part_none next new (10 ∷ []) same)))
 
-pub line_ended : (old mid next new w : List ℕ) (a b : Words) → mid ≡ old ++ (w ++ spaced a) → next ≡ mid ++ spaced b → new ≡ next ++ 10 ∷ [] → new ≡ old ++ line_of_words (w ∷ (a ++ b))
+pub line_ended : (old mid next new w : List ℕ) (a b : Words) → mid ≡ old ++ (w ++ spaced a) → next ≡ mid ++ spaced b → new ≡ next ++ 10 ∷ [] → new ≡ old ++ text_of ((w ∷ (a ++ b)) ∷ [])
 line_ended old mid next new w a b before more end = both_added old mid new (w ++ spaced a) (spaced b ++ 10 ∷ []) before (both_added mid next new (spaced b) (10 ∷ []) more end) ∙ ap (λ t. old ++ t) (sym (two_parts w a b))
-
--- a line of words that ends
-pub line_whole : (old mid new w : List ℕ) (words : Words) → mid ≡ old ++ (w ++ spaced words) → new ≡ mid ++ 10 ∷ [] → new ≡ old ++ line_of_words (w ∷ words)
-line_whole old mid new w words before end = both_added old mid new (w ++ spaced words) (10 ∷ []) before end ∙ ap (λ t. old ++ t) (sym (line_bytes w words))
-
-pub line_almost : (old mid new w : List ℕ) (words : Words) → mid ≡ old ++ (w ++ spaced words) → new ≡ mid → HoldsPart old new (line_of_words (w ∷ words))
-line_almost old mid new w words before same = part_along old new _ _ (line_bytes w words) (part_next old mid new (w ++ spaced words) (10 ∷ []) before (part_none mid new (10 ∷ []) same))
 
 -- lines behind which nothing follows
 pub last_lines : (old new : List ℕ) (a : List Words) → new ≡ old ++ text_of a → new ≡ old ++ text_of (a ++ [])

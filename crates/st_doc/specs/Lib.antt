@@ -10,4 +10,3 @@ pub mod ReaderInside
 pub mod Sound
 pub mod Printed
 pub mod ReadingBack
-pub mod PrintedWords

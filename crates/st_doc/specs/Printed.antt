@@ -1,6 +1,7 @@
 -- The text of a document: lines of words, section by section.
-use Rattle.std.specs.Prelude.{◌≡◌, ℕ, List, [], ◌∷◌, ◌++◌, Bool, true, false, ◌==◌, if◌then◌else◌, map, flat_map, codes, decimal, slice_index_or, None}
+use Rattle.std.specs.Prelude.{ℕ, List, [], ◌∷◌, ◌++◌, Bool, true, false, ◌==◌, if◌then◌else◌, map, flat_map, codes, decimal, slice_index_or, None}
 use Rattle.st_text.specs.Words.{text_of}
+use Rattle.st_text.specs.Printed as words
 use Rattle.st_net.specs.declared.entity.Entity.{Entity}
 use Rattle.st_net.specs.declared.entity.Prio.{Prio}
 use Rattle.st_net.specs.declared.entity.Prio.TheVariants.{Low, High}
@@ -51,13 +52,13 @@ wire_kind_word Report = codes "report"
 
 -- VAR=NUMBER, NAME.VAR=NUMBER and NAME.VAR
 abbrev pub value_word : Var → ℕ → List ℕ
-value_word var value = var_word var ++ 61 ∷ decimal value
+value_word var value = words.value_word (var_word var) value
 
 abbrev pub assignment_word : List ℕ → Var → ℕ → List ℕ
-assignment_word name var value = name ++ 46 ∷ value_word var value
+assignment_word name var value = words.assignment_word name (var_word var) value
 
 abbrev pub variable_word : List ℕ → Var → List ℕ
-variable_word name var = name ++ 46 ∷ var_word var
+variable_word name var = words.variable_word name (var_word var)
 
 -- the lines of a group's parts: an end is printed without a group
 abbrev pub group_words : List ℕ → Words
@@ -176,10 +177,3 @@ printed_doc doc = text_of (doc_lines doc)
 -- the document without the place of journals, which are not printed
 abbrev pub without_journals : Doc → Doc
 without_journals doc = record doc { journal_at = None }
-
--- behind what the text held stands a part of this one, from its beginning
-pub record HoldsPart (old new text : List ℕ) : Type 0 where
-  pub done : List ℕ
-  pub left : List ℕ
-  pub text_is : text ≡ done ++ left
-  pub new_is : new ≡ old ++ done

@@ -1,5 +1,4 @@
-//! What a document declares. The reader makes it from text, the generator from a few numbers, and the runs and the printer
-//! take it.
+//! What a document declares. The reader makes it from text, and the runs and the printer take it.
 
 use crate::fault::DocFault;
 use crate::lists::{Acts, AppOrder, DocGroups, DocWires, Scripts};

@@ -2,7 +2,8 @@
 
 ghost use Rattle.std.specs.Prelude.{◌≡◌, ◌++◌, ◌∷◌, [], OnOk, OnErr, Ok, flat_map, map};
 ghost use Rattle.st_text.specs.Words.{text_of};
-ghost use Rattle.st_doc.specs.Printed.{HoldsPart, group_lines, app_name_at, app_lines, order_words, doc_lines, printed_doc, without_journals};
+ghost use Rattle.st_text.specs.Printed.{HoldsPart};
+ghost use Rattle.st_doc.specs.Printed.{group_lines, app_name_at, app_lines, order_words, doc_lines, printed_doc, without_journals};
 ghost use Rattle.st_doc.specs.Reading.{document_of};
 ghost use Rattle.st_doc.specs.Sound.{IsSoundDoc};
 
@@ -17,10 +18,10 @@ use acts::print_acts;
 use opening::{print_healths, print_opens};
 use parts::{print_devices, print_links, print_promises};
 use st_net::Parts;
-use st_text::Text;
+use st_text::{Text, Word};
 use std::alloc::AllocError;
 use wires::print_wires;
-use words::{Word, print_line};
+use words::print_line;
 
 /// Adds the section of a group. After `Err` the text holds a part of it.
 fn print_group(group: &Parts, out: &mut Text) -> Result<(), AllocError>

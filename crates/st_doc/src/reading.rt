@@ -89,3 +89,6 @@ fn read_lines(
         kind: DocKind::Header,
     }))
 }
+
+#[cfg(test)]
+mod tests;

@@ -3,6 +3,8 @@ use Rattle.std.proofs.Common.{◌≡◌, ℕ, zero, suc, ◌+◌, ◌-◌, ◌<�
 use Rattle.std.specs.Prelude.{◌⊎◌, ◌==◌, if◌then◌else◌}
 use Rattle.std.proofs.lemmas.Bool.{cases_eq}
 use Rattle.std.proofs.lemmas.List.{length-append, get_or_append_left, get_or-append_right, get_or_at}
+use Rattle.st_text.specs.Words.{line}
+use Rattle.st_text.proofs.PrintLemmas.{IsByElement, by_append}
 use Rattle.st_net.specs.declared.entity.Entity.{Entity}
 use Rattle.st_net.specs.declared.entity.Entity.TheVariants.{Device, Link}
 use Rattle.st_net.specs.declared.entity.Var.{Var}
@@ -10,9 +12,8 @@ use Rattle.st_net.specs.Groups.{Group, IsEntityOf, name_of, opening_of}
 use Rattle.st_net.specs.Entities.{value_of, vars_of}
 use Rattle.st_net.specs.Sets.{Marks, MarksOf, IsMarkIn}
 use Rattle.st_overlay.specs.Values.{Values, IsIn, IsTableOf}
-use Rattle.st_report.specs.Words.{line, assignment}
+use Rattle.st_report.specs.Words.{assignment}
 use Rattle.st_report.specs.GroupReport.{first_devices, first_links, entities_of, target_lines_of, target_lines, unsettled_lines}
-use Rattle.st_report.proofs.PrintLemmas.{IsByElement, by_append}
 
 length-first_devices : (n : ℕ) → length (first_devices n) ≡ n
 length-first_devices zero = refl

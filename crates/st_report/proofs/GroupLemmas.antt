@@ -1,5 +1,7 @@
 -- The lines of a group as they grow, and a part of all where memory ends.
 use Rattle.std.proofs.Common.{◌≡◌, ℕ, List, [], ◌++◌, sym, ap, ◌∙◌, append_assoc, Bool}
+use Rattle.st_text.specs.Printed.{HoldsPart}
+use Rattle.st_text.proofs.PrintLemmas.{part_first, part_along}
 use Rattle.st_net.specs.declared.entity.Entity.{Entity}
 use Rattle.st_net.specs.Groups.{Group}
 use Rattle.st_event.specs.declared.journal.Entry.{Entry}
@@ -7,8 +9,6 @@ use Rattle.st_event.specs.Proposals.{proposals, verdicts, target}
 use Rattle.st_event.specs.Observed.{actual, is_settled}
 use Rattle.st_report.specs.Counted.{head_lines, counts_line, promise_lines}
 use Rattle.st_report.specs.GroupReport.{entities_of, lock_lines, receipt_lines, target_lines, unsettled_lines, wire_line, lost_lines, group_report}
-use Rattle.st_report.specs.Printed.{HoldsPart}
-use Rattle.st_report.proofs.PrintLemmas.{part_first, part_along}
 
 -- the lines as far as each printer comes
 abbrev pub to_locks : Group → List (List ℕ) → List Entry → List ℕ

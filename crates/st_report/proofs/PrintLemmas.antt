@@ -1,34 +1,15 @@
 -- What stands in a text after one printing and a part of the next, and after some turns of a loop.
 use Rattle.std.proofs.Common.{◌≡◌, ℕ, ◌+◌, ◌<◌, ◌≤◌, List, [], ◌∷◌, ◌++◌, length, get_or, take, drop, refl, sym, ◌∙◌, ap, append_assoc, decimal, codes}
 use Rattle.std.specs.Prelude.{reverse, Result, Ok, Err, OnErr, OnOk}
-use Rattle.std.proofs.lemmas.List.{append-nil, take_more, drop_more, take-append-drop, take_all, reverse-append}
+use Rattle.std.proofs.lemmas.List.{append-nil, take_more, take-append-drop, take_all, reverse-append}
+use Rattle.st_text.specs.Words.{spaced, line}
+use Rattle.st_text.specs.Printed.{HoldsPart}
+use Rattle.st_text.proofs.PrintLemmas.{part_none, part_first, part_next, part_along, both_added, IsByElement, by_append}
 use Rattle.st_net.specs.declared.entity.Entity.TheVariants.{Device}
 use Rattle.st_net.specs.declared.promise.Broken.{Broken}
 use Rattle.st_net.specs.Groups.{Group, name_of, promise_of}
-use Rattle.st_report.specs.Words.{spaced, line, device_words, kind_word}
+use Rattle.st_report.specs.Words.{device_words, kind_word}
 use Rattle.st_report.specs.GroupReport.{lock_line_of, lock_lines}
-use Rattle.st_report.specs.Printed.{HoldsPart, text_of, words_text}
-
--- nothing was added
-pub part_none : (old new text : List ℕ) → new ≡ old → HoldsPart old new text
-part_none old new text same = record { done = []; left = text; text_is = refl; new_is = same ∙ sym (append-nil old) }
-
--- a part of a text's first part
-pub part_first : (old new a b : List ℕ) → HoldsPart old new a → HoldsPart old new (a ++ b)
-part_first old new a b part = record { done = part.done; left = part.left ++ b; text_is = ap (λ t. t ++ b) part.text_is ∙ append_assoc part.done part.left b; new_is = part.new_is }
-
--- the whole of a first text, and a part of a second
-pub part_next : (old mid new a b : List ℕ) → mid ≡ old ++ a → HoldsPart mid new b → HoldsPart old new (a ++ b)
-part_next old mid new a b whole part = record {
-  done = a ++ part.done;
-  left = part.left;
-  text_is = ap (λ t. a ++ t) part.text_is ∙ sym (append_assoc a part.done part.left);
-  new_is = part.new_is ∙ (ap (λ t. t ++ part.done) whole ∙ append_assoc old a part.done);
-}
-
--- the whole of two texts
-pub both : (old mid new a b : List ℕ) → mid ≡ old ++ a → new ≡ mid ++ b → new ≡ old ++ (a ++ b)
-both old mid new a b first second = second ∙ (ap (λ t. t ++ b) first ∙ append_assoc old a b)
 
 -- the first text and no more
 pub part_at : (old mid new a b : List ℕ) → mid ≡ old ++ a → new ≡ mid → HoldsPart old new (a ++ b)
@@ -37,14 +18,6 @@ part_at old mid new a b first same = part_next old mid new a b first (part_none 
 -- what is added behind a text, and nothing of the next
 pub part_rest : (old mid new text a rest : List ℕ) → text ≡ a ++ rest → mid ≡ old ++ a → new ≡ mid → HoldsPart old new text
 part_rest old mid new text a rest is first same = record { done = a; left = rest; text_is = is; new_is = same ∙ first }
-
-pub err_of : {T E P : Type 0} (r : Result T E) → P → OnErr r P
-err_of (Ok x) p = tt
-err_of (Err e) p = p
-
-pub err_by : {T E P Q : Type 0} (r : Result T E) → (P → Q) → OnErr r P → OnErr r Q
-err_by (Ok x) f p = tt
-err_by (Err e) f p = f p
 
 -- the same of a last printing, whose result is the answer
 pub tail_rest : {T E : Type 0} (r : Result T E) (old mid new text a rest : List ℕ) → text ≡ a ++ rest → mid ≡ old ++ a → OnErr r (new ≡ mid) → OnErr r (HoldsPart old new text)
@@ -57,33 +30,7 @@ tail_next (Err e) old mid new a b first part = part_next old mid new a b first p
 
 pub tail_both : {T E : Type 0} (r : Result T E) (old mid new a b : List ℕ) → mid ≡ old ++ a → OnOk r (new ≡ mid ++ b) → OnOk r (new ≡ old ++ (a ++ b))
 tail_both (Err e) old mid new a b first second = tt
-tail_both (Ok x) old mid new a b first second = both old mid new a b first second
-
--- a text of a list, by its elements in order
-pub record IsByElement {X : Type 0} (F : List X → List ℕ) (f : X → List ℕ) : Type 0 where
-  pub none : F [] ≡ []
-  pub more : (x : X) (xs : List X) → F (x ∷ xs) ≡ f x ++ F xs
-
-pub by_append : {X : Type 0} (F : List X → List ℕ) (f : X → List ℕ) → IsByElement F f → (xs ys : List X) → F (xs ++ ys) ≡ F xs ++ F ys
-by_append F f by [] ys = ap (λ t. t ++ F ys) (sym by.none)
-by_append F f by (x ∷ xs) ys = by.more x (xs ++ ys) ∙ (ap (λ t. f x ++ t) (by_append F f by xs ys) ∙ (sym (append_assoc (f x) (F xs) (F ys)) ∙ ap (λ t. t ++ F ys) (sym (by.more x xs))))
-
-by_one : {X : Type 0} (F : List X → List ℕ) (f : X → List ℕ) → IsByElement F f → (x : X) → F (x ∷ []) ≡ f x
-by_one F f by x = by.more x [] ∙ (ap (λ t. f x ++ t) by.none ∙ append-nil (f x))
-
--- one more turn of a loop over the list
-pub by_next : {X : Type 0} (F : List X → List ℕ) (f : X → List ℕ) → IsByElement F f → (xs : List X) (i : ℕ) (x d : X) (old mid new : List ℕ) → i < length xs → x ≡ get_or xs i d → mid ≡ old ++ F (take i xs) → new ≡ mid ++ f x → new ≡ old ++ F (take (i + 1) xs)
-by_next F f by xs i x d old mid new within is before added =
-    let step : F (take (i + 1) xs) ≡ F (take i xs) ++ f x = ap F (take_more xs i d within) ∙ (by_append F f by (take i xs) (get_or xs i d ∷ []) ∙ ap (λ t. F (take i xs) ++ t) (by_one F f by (get_or xs i d) ∙ ap f (sym is))) in
-    both old mid new (F (take i xs)) (f x) before added ∙ ap (λ t. old ++ t) (sym step)
-
--- a turn that broke off
-pub by_part : {X : Type 0} (F : List X → List ℕ) (f : X → List ℕ) → IsByElement F f → (xs : List X) (i : ℕ) (x d : X) (old mid new : List ℕ) → i < length xs → x ≡ get_or xs i d → mid ≡ old ++ F (take i xs) → HoldsPart mid new (f x) → HoldsPart old new (F xs)
-by_part F f by xs i x d old mid new within is before part =
-    let rest : F (drop i xs) ≡ f x ++ F (drop (i + 1) xs) = ap F (drop_more xs i d within) ∙ (by.more (get_or xs i d) (drop (i + 1) xs) ∙ ap (λ y. f y ++ F (drop (i + 1) xs)) (sym is)) in
-    let whole : F xs ≡ F (take i xs) ++ (f x ++ F (drop (i + 1) xs)) = ap F (sym (take-append-drop i xs)) ∙ (by_append F f by (take i xs) (drop i xs) ∙ ap (λ t. F (take i xs) ++ t) rest) in
-    let both_parts = part_next old mid new (F (take i xs)) (f x ++ F (drop (i + 1) xs)) before (part_first mid new (f x) (F (drop (i + 1) xs)) part) in
-    record { done = both_parts.done; left = both_parts.left; text_is = whole ∙ both_parts.text_is; new_is = both_parts.new_is }
+tail_both (Ok x) old mid new a b first second = both_added old mid new a b first second
 
 -- the end of the loop
 pub by_end : {X : Type 0} (F : List X → List ℕ) (xs : List X) (i : ℕ) (old new : List ℕ) → length xs ≤ i → new ≡ old ++ F (take i xs) → new ≡ old ++ F xs
@@ -107,7 +54,7 @@ later F f by (x ∷ new) past =
 
 pub past_step : {X : Type 0} (F : List X → List ℕ) (f : X → List X → List ℕ) → IsByPast F f → (xs : List X) (i : ℕ) (x d : X) (old mid new : List ℕ) → i < length xs → x ≡ get_or xs i d → mid ≡ old ++ F (reverse (take i xs)) → new ≡ mid ++ f x (reverse (take i xs)) → new ≡ old ++ F (reverse (take (i + 1) xs))
 past_step F f by xs i x d old mid new within is before added =
-    both old mid new (F (reverse (take i xs))) (f x (reverse (take i xs))) before added ∙ ap (λ t. old ++ t) (sym (ap F (past_next xs i x d within is) ∙ by.more x (reverse (take i xs))))
+    both_added old mid new (F (reverse (take i xs))) (f x (reverse (take i xs))) before added ∙ ap (λ t. old ++ t) (sym (ap F (past_next xs i x d within is) ∙ by.more x (reverse (take i xs))))
 
 pub past_part : {X : Type 0} (F : List X → List ℕ) (f : X → List X → List ℕ) → IsByPast F f → (xs : List X) (i : ℕ) (x d : X) (old mid new : List ℕ) → i < length xs → x ≡ get_or xs i d → mid ≡ old ++ F (reverse (take i xs)) → HoldsPart mid new (f x (reverse (take i xs))) → HoldsPart old new (F (reverse xs))
 past_part F f by xs i x d old mid new within is before part =
@@ -116,10 +63,6 @@ past_part F f by xs i x d old mid new within is before part =
     let all : reverse xs ≡ reverse (drop (i + 1) xs) ++ reverse (take (i + 1) xs) = ap reverse (sym (take-append-drop (i + 1) xs)) ∙ reverse-append (take (i + 1) xs) (drop (i + 1) xs) in
     let whole = part_first old new (F (reverse (take i xs)) ++ f x (reverse (take i xs))) end.0 (part_next old mid new (F (reverse (take i xs))) (f x (reverse (take i xs))) before part) in
     record { done = whole.done; left = whole.left; text_is = ap F all ∙ (end.1 ∙ (ap (λ t. t ++ end.0) now ∙ whole.text_is)); new_is = whole.new_is }
-
--- words are printed one by one
-pub words_by : IsByElement words_text (λ word. 32 ∷ text_of word)
-words_by = record { none = refl; more = λ word words. refl }
 
 -- devices' names are printed one by one
 pub devices_by : (g : Group) → IsByElement (λ devices. spaced (device_words g devices)) (λ device. 32 ∷ name_of g (Device device))
@@ -154,9 +97,6 @@ line_of_two head first second =
     ap (λ t. (head ++ t) ++ 10 ∷ []) (by_append spaced _ spaced_by first second) ∙
     (ap (λ t. t ++ 10 ∷ []) (sym (append_assoc head (spaced first) (spaced second))) ∙ append_assoc (head ++ spaced first) (spaced second) (10 ∷ []))
 
-pub part_along : (old new text whole : List ℕ) → text ≡ whole → HoldsPart old new whole → HoldsPart old new text
-part_along old new text whole is part = record { done = part.done; left = part.left; text_is = is ∙ part.text_is; new_is = part.new_is }
-
 pub err_along : {T E : Type 0} (r : Result T E) (old new text whole : List ℕ) → text ≡ whole → OnErr r (HoldsPart old new whole) → OnErr r (HoldsPart old new text)
 err_along (Ok x) old new text whole is part = tt
 err_along (Err e) old new text whole is part = part_along old new text whole is part
@@ -177,7 +117,7 @@ line_unended (Err e) old mid next new head first second before more same = part_
 
 pub line_ended : {T E : Type 0} (r : Result T E) (old mid next new head : List ℕ) (first second : List (List ℕ)) → mid ≡ old ++ (head ++ spaced first) → next ≡ mid ++ spaced second → OnOk r (new ≡ next ++ 10 ∷ []) → OnOk r (new ≡ old ++ line head (first ++ second))
 line_ended (Err e) old mid next new head first second before more same = tt
-line_ended (Ok x) old mid next new head first second before more same = both old mid new (head ++ spaced first) (spaced second ++ 10 ∷ []) before (both mid next new (spaced second) (10 ∷ []) more same) ∙ ap (λ t. old ++ t) (sym (line_of_two head first second))
+line_ended (Ok x) old mid next new head first second before more same = both_added old mid new (head ++ spaced first) (spaced second ++ 10 ∷ []) before (both_added mid next new (spaced second) (10 ∷ []) more same) ∙ ap (λ t. old ++ t) (sym (line_of_two head first second))
 
 -- lock lines are printed entry by entry
 pub locks_by : (g : Group) (apps : List (List ℕ)) → IsByPast (lock_lines g apps) (λ entry past. lock_line_of g apps entry.event entry.reply)

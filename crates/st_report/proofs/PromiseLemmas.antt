@@ -2,13 +2,13 @@
 use Rattle.std.proofs.Common.{◌≡◌, ℕ, ◌+◌, ◌<◌, List, [], ◌∷◌, length, get_or, map, cond, refl, sym, ◌∙◌, ap, Bool}
 use Rattle.std.specs.Prelude.{count_by, not, ◌&&◌, if◌then◌else◌}
 use Rattle.std.proofs.lemmas.List.{get_or-map}
+use Rattle.st_text.proofs.PrintLemmas.{IsByElement}
 use Rattle.st_net.specs.declared.entity.Entity.{Entity}
 use Rattle.st_net.specs.declared.promise.Promise.{Promise}
 use Rattle.st_net.specs.Groups.{Group, no_promise, promise_of}
 use Rattle.st_net.specs.Promises.{is_kept}
 use Rattle.st_report.specs.Counted.{lost_line}
 use Rattle.st_report.specs.GroupReport.{kept_count, lost_lines}
-use Rattle.st_report.proofs.PrintLemmas.{IsByElement}
 use Rattle.st_report.proofs.JournalLemmas.{count_cons}
 
 -- how many hold is how many marks are set

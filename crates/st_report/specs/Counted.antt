@@ -1,5 +1,6 @@
 -- What the lines of a group count in its journal, and what a receipt's line takes from it.
 use Rattle.std.specs.Prelude.{ℕ, Bool, true, false, List, [], ◌∷◌, ◌++◌, length, decimal, codes, Option, Some, None, option_map}
+use Rattle.st_text.specs.Words.{line}
 use Rattle.st_net.specs.declared.entity.AppId.{AppId}
 use Rattle.st_event.specs.declared.event.Event.{Event}
 use Rattle.st_event.specs.declared.event.Event.TheVariants.{Submit, Check, Send, Report as make_report}
@@ -14,7 +15,7 @@ use Rattle.st_net.specs.Groups.{Group, name_of}
 use Rattle.st_event.specs.Proposals.{is_accepted, version}
 use Rattle.st_event.specs.Moments.{is_sent}
 use Rattle.st_report.specs.GroupReport.{kept_count, lost_lines}
-use Rattle.st_report.specs.Words.{line, app_word, verdict_words}
+use Rattle.st_report.specs.Words.{app_word, verdict_words}
 
 -- the application whose proposal an entry queues
 abbrev pub proposer_in : Event → Reply → Option AppId

@@ -1,5 +1,6 @@
 -- The lines of a group in a report, each number by the definitions over its journal.
 use Rattle.std.specs.Prelude.{ℕ, ◌+◌, zero, suc, Bool, true, false, not, ◌&&◌, ◌==◌, List, [], ◌∷◌, ◌++◌, length, codes, decimal, if◌then◌else◌}
+use Rattle.st_text.specs.Words.{line}
 use Rattle.st_net.specs.declared.entity.Entity.{Entity}
 use Rattle.st_net.specs.declared.entity.Entity.TheVariants.{Device, Link}
 use Rattle.st_net.specs.declared.entity.Var.{Var}
@@ -17,7 +18,7 @@ use Rattle.st_event.specs.declared.journal.Entry.{Entry}
 use Rattle.st_event.specs.Proposals.{proposals, verdicts, version, target}
 use Rattle.st_event.specs.Moments.{commands, reports}
 use Rattle.st_event.specs.Observed.{is_settled, actual}
-use Rattle.st_report.specs.Words.{line, assignment, app_word, prio_word, lock_reply_words, verdict_words}
+use Rattle.st_report.specs.Words.{assignment, app_word, prio_word, lock_reply_words, verdict_words}
 
 -- a line for a request or a return of a lock
 abbrev pub lock_line_of : Group → List (List ℕ) → Event → Reply → List ℕ

@@ -1,5 +1,4 @@
 pub mod Words
-pub mod Printed
 pub mod GroupReport
 pub mod Counted
 pub mod Standing

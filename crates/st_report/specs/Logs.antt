@@ -1,10 +1,11 @@
 -- The lines of what applications read: the version that was seen or asked for, and the variable's value at it.
 use Rattle.std.specs.Prelude.{ℕ, List, [], ◌∷◌, codes, decimal}
+use Rattle.st_text.specs.Words.{line}
 use Rattle.st_net.specs.Groups.{Group}
 use Rattle.st_event.specs.declared.act.LogEntry.{LogEntry}
 use Rattle.st_event.specs.declared.act.LogSaw.{LogSaw}
 use Rattle.st_event.specs.declared.act.LogSaw.TheVariants.{Seen, At, NoVersion}
-use Rattle.st_report.specs.Words.{line, variable}
+use Rattle.st_report.specs.Words.{variable}
 
 -- what the command saw: `version` before the version of the target that it met, `at` before one that it asked for
 abbrev pub saw_words : LogSaw → List (List ℕ)

@@ -1,5 +1,7 @@
 -- How names, numbers, variables and rows are printed, and lines of words.
-use Rattle.std.specs.Prelude.{ℕ, List, [], ◌∷◌, ◌++◌, codes, decimal, map, slice_index_or, Option, Some, None}
+use Rattle.std.specs.Prelude.{ℕ, List, [], ◌∷◌, codes, decimal, map, slice_index_or, Option, Some, None}
+pub use Rattle.st_text.specs.Words.{spaced, line}
+use Rattle.st_text.specs.Printed.{variable_word, assignment_word}
 use Rattle.st_net.specs.declared.entity.AppId.{AppId}
 use Rattle.st_net.specs.declared.entity.Entity.{Entity}
 use Rattle.st_net.specs.declared.entity.Entity.TheVariants.{Device}
@@ -21,15 +23,7 @@ use Rattle.st_event.specs.declared.reply.Reply.TheVariants.{Granted, Held, Relea
 use Rattle.st_event.specs.declared.reply.Verdict.{Verdict}
 use Rattle.st_event.specs.declared.reply.Verdict.TheVariants.{Accepted, Refused}
 
--- words, each behind a space
-abbrev pub spaced : List (List ℕ) → List ℕ
-spaced [] = []
-spaced (word ∷ words) = 32 ∷ word ++ spaced words
-
--- a line: a word, more words, each behind a space, and LF
-abbrev pub line : List ℕ → List (List ℕ) → List ℕ
-line word words = word ++ spaced words ++ 10 ∷ []
-
+-- the words for a variable, a lock and how a promise breaks
 abbrev pub var_word : Var → List ℕ
 var_word Power = codes "power"
 var_word Firmware = codes "firmware"
@@ -52,11 +46,11 @@ app_word apps app = slice_index_or apps app.0 []
 
 -- NAME.VAR
 abbrev pub variable : Group → Entity → Var → List ℕ
-variable g e var = name_of g e ++ 46 ∷ var_word var
+variable g e var = variable_word (name_of g e) (var_word var)
 
 -- NAME.VAR=NUMBER
 abbrev pub assignment : Group → Row → List ℕ
-assignment g row = name_of g row.entity ++ 46 ∷ var_word row.var ++ 61 ∷ decimal row.value
+assignment g row = assignment_word (name_of g row.entity) (var_word row.var) row.value
 
 abbrev pub device_words : Group → List ℕ → List (List ℕ)
 device_words g devices = map (λ d. name_of g (Device d)) devices

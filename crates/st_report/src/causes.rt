@@ -1,14 +1,15 @@
 //! What a receipt says of its verdict: accepted as a version, or refused with its cause.
 
 ghost use Rattle.std.specs.Prelude.{◌≡◌, ◌++◌, OnOk, OnErr, map, take};
+ghost use Rattle.st_text.specs.Printed.{HoldsPart};
+ghost use Rattle.st_text.specs.Words.{spaced};
 ghost use Rattle.st_net.specs.Groups.{promise_of};
-ghost use Rattle.st_report.specs.Printed.{HoldsPart};
-ghost use Rattle.st_report.specs.Words.{spaced, device_words, lack_words, broken_words, cause_words, verdict_words};
+ghost use Rattle.st_report.specs.Words.{device_words, lack_words, broken_words, cause_words, verdict_words};
 
-use crate::words::{Word, app_name, entity_name, kind_word, print_word, print_words, prio_word};
+use crate::words::{app_name, entity_name, kind_word, prio_word, var_word};
 use st_event::{Cause, Lack, Verdict};
 use st_net::{Broken, Entity, GroupTopo, Name, Promise, Row};
-use st_text::Text;
+use st_text::{Text, Word, print_word, print_words};
 use std::alloc::AllocError;
 
 /// Adds the names of devices, by their numbers. After `Err` the text holds a part of them.
@@ -45,7 +46,7 @@ fn print_lack(topo: &GroupTopo, row: Row, lack: Lack, out: &mut Text) -> Result<
 {
     let assignment = Word::Assignment {
         name: entity_name(topo, row.entity),
-        var: row.var,
+        var: var_word(row.var),
         value: row.value,
     };
     match lack {

@@ -1,8 +1,8 @@
 //! The lines of one group, all of them in order.
 
 ghost use Rattle.std.specs.Prelude.{◌≡◌, ◌++◌, OnOk, OnErr, reverse};
+ghost use Rattle.st_text.specs.Printed.{HoldsPart};
 ghost use Rattle.st_report.specs.GroupReport.{group_report};
-ghost use Rattle.st_report.specs.Printed.{HoldsPart};
 ghost use Rattle.st_report.specs.Standing.{IsStandingOf};
 
 use crate::head::{head_lines, wire_line};

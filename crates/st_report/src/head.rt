@@ -1,23 +1,22 @@
 //! The lines that count: a group's name, version and entries, and what passed its wire.
 
 ghost use Rattle.std.specs.Prelude.{◌≡◌, ◌++◌, ◌∷◌, [], OnOk, OnErr, reverse};
+ghost use Rattle.st_text.specs.Printed.{HoldsPart, bytes_of};
+ghost use Rattle.st_text.specs.Words.{line};
 ghost use Rattle.st_net.specs.Groups.{Group};
 ghost use Rattle.st_report.specs.Counted.{head_lines as head_lines_lem};
 ghost use Rattle.st_report.specs.GroupReport.{wire_line as wire_line_lem};
-ghost use Rattle.st_report.specs.Printed.{HoldsPart, text_of};
-ghost use Rattle.st_report.specs.Words.{line};
 
 use crate::counts::{command_count, old_count, report_count, stale_count, version_of};
-use crate::words::{Word, print_line};
 use st_event::Entry;
 use st_net::GroupTopo;
-use st_text::Text;
+use st_text::{Text, Word, print_line};
 use std::alloc::AllocError;
 
 /// Adds a line of one word and another. After `Err` the text holds a part of it.
 fn word_line(head: &[u8], word: Word, out: &mut Text) -> Result<(), AllocError>
-    ensures ok { OnOk result (out.new ≡ out.old ++ line head.now (text_of word.entry ∷ [])) }
-    ensures err { OnErr result (HoldsPart out.old out.new (line head.now (text_of word.entry ∷ []))) }
+    ensures ok { OnOk result (out.new ≡ out.old ++ line head.now (bytes_of word.entry ∷ [])) }
+    ensures err { OnErr result (HoldsPart out.old out.new (line head.now (bytes_of word.entry ∷ []))) }
 {
     print_line(head, &[word], out)
 }

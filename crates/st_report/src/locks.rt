@@ -1,14 +1,15 @@
 //! The lines of a group's lock requests and returns, from its journal.
 
 ghost use Rattle.std.specs.Prelude.{◌≡◌, ◌++◌, OnOk, OnErr, map, reverse};
+ghost use Rattle.st_text.specs.Printed.{HoldsPart, bytes_of};
+ghost use Rattle.st_text.specs.Words.{spaced, line};
 ghost use Rattle.st_report.specs.GroupReport.{lock_line_of, lock_lines as lock_lines_lem};
-ghost use Rattle.st_report.specs.Printed.{HoldsPart, text_of};
-ghost use Rattle.st_report.specs.Words.{spaced, line, holder_word, lock_reply_words};
+ghost use Rattle.st_report.specs.Words.{holder_word, lock_reply_words};
 
-use crate::words::{Word, app_name, begin_line, entity_name, print_word, print_words, prio_word};
+use crate::words::{app_name, entity_name, prio_word};
 use st_event::{Entry, Event, Reply};
 use st_net::{AppId, GroupTopo, Name};
-use st_text::Text;
+use st_text::{Text, Word, begin_line, print_word, print_words};
 use std::alloc::AllocError;
 
 /// The name of a lock's holder, or `-` for nobody.
@@ -49,8 +50,8 @@ fn print_lock_line(
     reply: &Reply,
     out: &mut Text,
 ) -> Result<(), AllocError>
-    ensures ok { OnOk result (out.new ≡ out.old ++ line head.now (map text_of words.now ++ lock_reply_words apps.now reply.now)) }
-    ensures err { OnErr result (HoldsPart out.old out.new (line head.now (map text_of words.now ++ lock_reply_words apps.now reply.now))) }
+    ensures ok { OnOk result (out.new ≡ out.old ++ line head.now (map bytes_of words.now ++ lock_reply_words apps.now reply.now)) }
+    ensures err { OnErr result (HoldsPart out.old out.new (line head.now (map bytes_of words.now ++ lock_reply_words apps.now reply.now))) }
 {
     begin_line(head, words, out)?;
     print_lock_reply(apps, reply, out)?;

@@ -1,16 +1,16 @@
 //! The lines of logs: what the commands of an application that read saw. They stand behind the lines of all groups.
 
 ghost use Rattle.std.specs.Prelude.{◌≡◌, ◌++◌, ◌∷◌, [], OnOk, OnErr, codes, decimal, true};
+ghost use Rattle.st_text.specs.Printed.{HoldsPart};
+ghost use Rattle.st_text.specs.Words.{spaced};
 ghost use Rattle.st_net.specs.Entities.{is_var_of};
 ghost use Rattle.st_net.specs.Groups.{IsEntityOf};
 ghost use Rattle.st_report.specs.Logs.{saw_words, read_line as read_line_lem};
-ghost use Rattle.st_report.specs.Printed.{HoldsPart};
-ghost use Rattle.st_report.specs.Words.{spaced};
 
-use crate::words::{Word, begin_line, print_words};
+use crate::words::var_word;
 use st_event::{LogEntry, LogSaw};
 use st_net::{GroupTopo, Name};
-use st_text::Text;
+use st_text::{Text, Word, begin_line, print_words};
 use std::alloc::AllocError;
 
 /// Adds a version, behind the word that says which it is, and the value at it. After `Err` the text holds a part of them.
@@ -66,7 +66,7 @@ pub fn read_line(
 {
     let variable = Word::Variable {
         name: topo.name_of(entry.entity).bytes(),
-        var: entry.var,
+        var: var_word(entry.var),
     };
     begin_line(
         b"read",

@@ -1,17 +1,17 @@
 //! The promises of a group: how many held at the opening, how many hold now, and which were lost.
 
 ghost use Rattle.std.specs.Prelude.{◌≡◌, ◌++◌, ◌<◌, [], OnOk, OnErr, IfOk, length, map, count_by, not, ◌&&◌, if◌then◌else◌};
+ghost use Rattle.st_text.specs.Printed.{HoldsPart};
 ghost use Rattle.st_net.specs.Groups.{promise_of};
 ghost use Rattle.st_net.specs.Promises.{is_kept};
 ghost use Rattle.st_net.specs.Sets.{MarksOf, is_in};
 ghost use Rattle.st_promise.specs.Book.{IsBookOf};
 ghost use Rattle.st_report.specs.Counted.{lost_line, promise_lines as promise_lines_lem};
-ghost use Rattle.st_report.specs.Printed.{HoldsPart};
 
-use crate::words::{Word, entity_name, print_line};
+use crate::words::entity_name;
 use st_net::{Entity, EntitySet, GroupTopo};
 use st_promise::Book;
-use st_text::Text;
+use st_text::{Text, Word, print_line};
 use std::alloc::{AllocError, Global};
 
 /// Which promises hold while these entities are up, in order. The book is as it was, also after `Err`.

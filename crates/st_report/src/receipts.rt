@@ -1,17 +1,17 @@
 //! The lines of a group's receipts, from its journal: the verdict on each ticket, with the application that proposed it.
 
 ghost use Rattle.std.specs.Prelude.{◌≡◌, ◌++◌, ◌+◌, ◌<◌, ◌^◌, OnOk, OnErr, reverse, slice_get};
+ghost use Rattle.st_text.specs.Printed.{HoldsPart};
 ghost use Rattle.st_event.specs.Proposals.{proposals, verdicts};
 ghost use Rattle.st_report.specs.Counted.{receipt_line, line_where};
 ghost use Rattle.st_report.specs.GroupReport.{receipt_lines as receipt_lines_lem};
-ghost use Rattle.st_report.specs.Printed.{HoldsPart};
 
 use crate::causes::print_verdict;
 use crate::counts::{proposers, verdict_of};
-use crate::words::{Word, app_name, begin_line};
+use crate::words::app_name;
 use st_event::{Entry, Verdict};
 use st_net::{AppId, GroupTopo, Name};
-use st_text::Text;
+use st_text::{Text, Word, begin_line};
 use std::alloc::{AllocError, Global};
 
 /// Adds the line of one receipt. After `Err` the text holds a part of it.

@@ -1,18 +1,19 @@
 //! How a group stands: the variables that its target changes, and the entities that are not settled.
 
 ghost use Rattle.std.specs.Prelude.{◌≡◌, ◌++◌, ◌+◌, ◌<◌, [], ◌∷◌, OnOk, OnErr, length, ◌==◌, if◌then◌else◌, codes, slice_index_or};
+ghost use Rattle.st_text.specs.Printed.{HoldsPart};
+ghost use Rattle.st_text.specs.Words.{line};
 ghost use Rattle.st_net.specs.Entities.{value_of, vars_of as vars_of_lem};
 ghost use Rattle.st_net.specs.Groups.{IsEntityOf, name_of, opening_of};
 ghost use Rattle.st_net.specs.Sets.{IsMarkIn, MarksOf, is_in};
 ghost use Rattle.st_overlay.specs.Values.{IsIn, IsTableOf, value_in};
 ghost use Rattle.st_report.specs.GroupReport.{entities_of, target_lines_of, target_lines as target_lines_lem, unsettled_lines as unsettled_lines_lem};
-ghost use Rattle.st_report.specs.Printed.{HoldsPart};
-ghost use Rattle.st_report.specs.Words.{line, assignment};
+ghost use Rattle.st_report.specs.Words.{assignment};
 
-use crate::words::{Word, entity_name, print_line};
+use crate::words::{entity_name, var_word};
 use st_net::{Entity, EntitySet, GroupTopo, Var};
 use st_overlay::Table;
-use st_text::Text;
+use st_text::{Text, Word, print_line};
 use std::alloc::AllocError;
 
 static DEVICE_VARS: [Var; 4] = [Var::Power, Var::Firmware, Var::Config, Var::Routing];
@@ -67,7 +68,15 @@ fn print_change(
         return Ok(());
     }
     let name = entity_name(topo, entity);
-    print_line(b"target", &[Word::Assignment { name, var, value }], out)
+    print_line(
+        b"target",
+        &[Word::Assignment {
+            name,
+            var: var_word(var),
+            value,
+        }],
+        out,
+    )
 }
 
 /// Adds the lines of an entity's variables that a target changes. After `Err` the text holds a part of them.

@@ -1,16 +1,16 @@
 //! The lines of commands.
 
 ghost use Rattle.std.specs.Prelude.{◌≡◌, ◌++◌, ◌∷◌, [], OnOk, OnErr, map, codes, decimal};
-ghost use Rattle.st_text.specs.Words.{text_of};
+ghost use Rattle.st_text.specs.Words.{text_of, spaced};
+ghost use Rattle.st_text.specs.Printed.{HoldsPart};
 ghost use Rattle.st_net.specs.Groups.{name_of};
 ghost use Rattle.st_net.specs.Faults.{group_of};
-ghost use Rattle.st_doc.specs.Printed.{HoldsPart, prio_word as prio_word_lem, variable_word, group_at, entity_word, assignment_words, value_words, act_words};
-ghost use Rattle.st_doc.specs.PrintedWords.{spaced};
+ghost use Rattle.st_doc.specs.Printed.{prio_word as prio_word_lem, variable_word, group_at, entity_word, assignment_words, value_words, act_words};
 
-use crate::printing::words::{Word, begin_line, print_line, print_word, prio_word};
+use crate::printing::words::{print_line, prio_word, var_word};
 use st_event::Act;
 use st_net::{Entity, Parts, Prio, Row, Var};
-use st_text::Text;
+use st_text::{Text, Word, begin_line, print_word};
 use std::alloc::AllocError;
 
 /// The name of a group, by its number; no bytes where there are not so many.
@@ -62,7 +62,7 @@ fn print_assignments(
     for row in rows {
         let word = Word::Assignment {
             name: entity_name(groups, group, row.entity),
-            var: row.var,
+            var: var_word(row.var),
             value: row.value,
         };
         print_word(word, out)?;
@@ -78,7 +78,7 @@ fn print_values(rows: &[Row], out: &mut Text) -> Result<(), AllocError>
     for row in rows {
         print_word(
             Word::Value {
-                var: row.var,
+                var: var_word(row.var),
                 value: row.value,
             },
             out,
@@ -117,7 +117,7 @@ fn print_fail(
     let words = [
         Word::Plain(group_name(groups, group)),
         Word::Plain(entity_name(groups, group, entity)),
-        Word::Number(health),
+        Word::Number(u64::from(health)),
     ];
     begin_line(b"fail", &words, out)?;
     print_values(rows, out)?;
@@ -158,7 +158,10 @@ fn print_read(
     let name = entity_name(groups, group, entity);
     let words = [
         Word::Plain(group_name(groups, group)),
-        Word::Variable { name, var },
+        Word::Variable {
+            name,
+            var: var_word(var),
+        },
     ];
     print_line(b"read", &words, out)
 }
@@ -178,10 +181,25 @@ fn print_readat(
     let name = entity_name(groups, group, entity);
     let words = [
         Word::Plain(group_name(groups, group)),
-        Word::Number(version),
-        Word::Variable { name, var },
+        Word::Number(u64::from(version)),
+        Word::Variable {
+            name,
+            var: var_word(var),
+        },
     ];
     print_line(b"readat", &words, out)
+}
+
+/// Adds the line of rounds. After `Err` the text holds a part of it.
+fn print_settle(groups: &[Parts], group: u32, rounds: u32, out: &mut Text) -> Result<(), AllocError>
+    ensures ok { OnOk result (out.new ≡ out.old ++ text_of ((codes "settle" ∷ (group_at groups.now group).name ∷ decimal rounds ∷ []) ∷ [])) }
+    ensures err { OnErr result (HoldsPart out.old out.new (text_of ((codes "settle" ∷ (group_at groups.now group).name ∷ decimal rounds ∷ []) ∷ []))) }
+{
+    let words = [
+        Word::Plain(group_name(groups, group)),
+        Word::Number(u64::from(rounds)),
+    ];
+    print_line(b"settle", &words, out)
 }
 
 /// Adds the line of a poll. After `Err` the text holds a part of it.
@@ -211,14 +229,7 @@ fn print_act(groups: &[Parts], act: &Act, out: &mut Text) -> Result<(), AllocErr
         Act::Await { group } => {
             print_line(b"await", &[Word::Plain(group_name(groups, *group))], out)
         }
-        Act::Settle { group, rounds } => print_line(
-            b"settle",
-            &[
-                Word::Plain(group_name(groups, *group)),
-                Word::Number(*rounds),
-            ],
-            out,
-        ),
+        Act::Settle { group, rounds } => print_settle(groups, *group, *rounds, out),
         Act::Lock {
             group,
             entity,

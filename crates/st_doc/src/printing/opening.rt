@@ -2,12 +2,13 @@
 
 ghost use Rattle.std.specs.Prelude.{◌≡◌, ◌++◌, ◌∷◌, [], OnOk, OnErr, flat_map};
 ghost use Rattle.st_text.specs.Words.{text_of};
-ghost use Rattle.st_doc.specs.Printed.{HoldsPart, open_line, device_opens, link_opens, health_line, device_healths, link_healths};
+ghost use Rattle.st_text.specs.Printed.{HoldsPart};
+ghost use Rattle.st_doc.specs.Printed.{open_line, device_opens, link_opens, health_line, device_healths, link_healths};
 
 use crate::limits::{DEVICE_HEALTH, LINK_HEALTH};
-use crate::printing::words::{Word, print_line};
+use crate::printing::words::{print_line, var_word};
 use st_net::{DevicePart, LinkPart, Parts, Var};
-use st_text::Text;
+use st_text::{Text, Word};
 use std::alloc::AllocError;
 
 /// The value of a variable that no line sets.
@@ -21,7 +22,15 @@ fn print_open(name: &[u8], var: Var, value: u32, out: &mut Text) -> Result<(), A
     if value == DEFAULT_VALUE {
         return Ok(());
     }
-    print_line(b"open", &[Word::Assignment { name, var, value }], out)
+    print_line(
+        b"open",
+        &[Word::Assignment {
+            name,
+            var: var_word(var),
+            value,
+        }],
+        out,
+    )
 }
 
 /// Adds the opening values of a device. After `Err` the text holds a part of them.
@@ -56,7 +65,11 @@ fn print_health(name: &[u8], greatest: u32, health: u32, out: &mut Text) -> Resu
     if health == greatest {
         return Ok(());
     }
-    print_line(b"health", &[Word::Plain(name), Word::Number(health)], out)
+    print_line(
+        b"health",
+        &[Word::Plain(name), Word::Number(u64::from(health))],
+        out,
+    )
 }
 
 /// Adds the opening values of devices. After `Err` the text holds a part of them.

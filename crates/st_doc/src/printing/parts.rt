@@ -2,11 +2,12 @@
 
 ghost use Rattle.std.specs.Prelude.{◌≡◌, ◌++◌, ◌∷◌, [], OnOk, OnErr, map};
 ghost use Rattle.st_text.specs.Words.{text_of};
-ghost use Rattle.st_doc.specs.Printed.{HoldsPart, device_words, link_words, promise_words};
+ghost use Rattle.st_text.specs.Printed.{HoldsPart};
+ghost use Rattle.st_doc.specs.Printed.{device_words, link_words, promise_words};
 
-use crate::printing::words::{Word, print_line, tor_word};
+use crate::printing::words::{print_line, tor_word};
 use st_net::{DevicePart, LinkPart, PromisePart};
-use st_text::Text;
+use st_text::{Text, Word};
 use std::alloc::AllocError;
 
 /// Adds the line of a device. After `Err` the text holds a part of it.
@@ -33,7 +34,7 @@ fn print_link(link: &LinkPart, out: &mut Text) -> Result<(), AllocError>
             Word::Plain(link.name.bytes()),
             Word::Plain(link.a.name.bytes()),
             Word::Plain(link.b.name.bytes()),
-            Word::Number(link.capacity),
+            Word::Number(u64::from(link.capacity)),
         ],
         out,
     )
@@ -49,7 +50,7 @@ fn print_promise(promise: &PromisePart, out: &mut Text) -> Result<(), AllocError
         &[
             Word::Plain(promise.a.bytes()),
             Word::Plain(promise.b.bytes()),
-            Word::Number(promise.percent),
+            Word::Number(u64::from(promise.percent)),
         ],
         out,
     )

@@ -92,6 +92,106 @@ poll dc2 t1
 order down up
 order down";
 
+/// A document of two ToRs that two switches join, and one application.
+const JOINED: &[u8] = b"statesman 1
+group dc1
+device t1 tor
+device t2 tor
+device a1 switch
+device a2 switch
+link l1 t1 a1 10
+link l2 t1 a2 10
+link l3 t2 a1 10
+link l4 t2 a2 10
+promise t1 t2 50
+app up
+propose dc1 a1.firmware=2
+";
+
+/// The same with CR before each LF; with tabs between tokens and about them; with comments and lines without tokens; without
+/// LF behind the last line; and with the group's own name at ends.
+const SPELLINGS: [&[u8]; 5] = [
+    b"statesman 1\r
+group dc1\r
+device t1 tor\r
+device t2 tor\r
+device a1 switch\r
+device a2 switch\r
+link l1 t1 a1 10\r
+link l2 t1 a2 10\r
+link l3 t2 a1 10\r
+link l4 t2 a2 10\r
+promise t1 t2 50\r
+app up\r
+propose dc1 a1.firmware=2\r
+",
+    b"\tstatesman\t1
+group\tdc1
+device\tt1\ttor\t
+device\tt2 \t tor
+\t\tdevice\ta1\tswitch
+device\ta2\tswitch
+link\tl1\tt1\ta1\t10
+link\tl2\tt1\ta2\t10
+link\tl3\tt2\ta1\t10
+link\tl4\tt2\ta2\t10
+promise\tt1\tt2\t50
+app\tup
+propose\tdc1\ta1.firmware=2
+",
+    b"# two paths
+
+#
+statesman 1
+group dc1
+  # ToRs
+device t1 tor
+device t2 tor
+ \t 
+device a1 switch
+device a2 switch
+#link l1 t1 a1 5
+link l1 t1 a1 10
+link l2 t1 a2 10
+\r
+link l3 t2 a1 10
+link l4 t2 a2 10
+promise t1 t2 50
+app up
+# order up
+propose dc1 a1.firmware=2
+
+# end
+",
+    b"statesman 1
+group dc1
+device t1 tor
+device t2 tor
+device a1 switch
+device a2 switch
+link l1 t1 a1 10
+link l2 t1 a2 10
+link l3 t2 a1 10
+link l4 t2 a2 10
+promise t1 t2 50
+app up
+propose dc1 a1.firmware=2",
+    b"statesman 1
+group dc1
+device t1 tor
+device t2 tor
+device a1 switch
+device a2 switch
+link l1 dc1/t1 dc1/a1 10
+link l2 t1 dc1/a2 10
+link l3 dc1/t2 a1 10
+link l4 dc1/t2 dc1/a2 10
+promise t1 t2 50
+app up
+propose dc1 a1.firmware=2
+",
+];
+
 /// What is printed of the document that these bytes declare; nothing where they declare none.
 fn printed(alloc: Global, bytes: &[u8]) -> Result<Text, AllocError>
     requires { length bytes.now < 4294967295 }
@@ -115,5 +215,15 @@ fn every_kind_of_line_is_printed_in_order(rt: HostRuntime) -> Result<(), Fail> {
 fn what_is_printed_is_read_and_printed_again(rt: HostRuntime) -> Result<(), Fail> {
     let text = printed(rt.alloc(), PRINTED)?;
     assert_eq!(rt; text.bytes(), PRINTED);
+    Ok(())
+}
+
+#[test]
+fn other_spellings_are_read_as_the_same_document(rt: HostRuntime) -> Result<(), Fail> {
+    for bytes in SPELLINGS {
+        assert!(&rt; bytes.len() < 4294967295);
+        let text = printed(rt.alloc(), bytes)?;
+        assert_eq!(&rt; text.bytes(), JOINED);
+    }
     Ok(())
 }

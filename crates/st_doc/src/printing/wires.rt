@@ -2,12 +2,13 @@
 
 ghost use Rattle.std.specs.Prelude.{◌≡◌, ◌++◌, ◌∷◌, [], OnOk, OnErr, map};
 ghost use Rattle.st_text.specs.Words.{text_of};
-ghost use Rattle.st_doc.specs.Printed.{HoldsPart, wire_words, wires_lines};
+ghost use Rattle.st_text.specs.Printed.{HoldsPart};
+ghost use Rattle.st_doc.specs.Printed.{wire_words, wires_lines};
 
 use crate::lists::WireLines;
-use crate::printing::words::{Word, kind_word, print_line};
+use crate::printing::words::{kind_word, print_line};
 use st_net::Parts;
-use st_text::Text;
+use st_text::{Text, Word};
 use st_wire::WireLine;
 use std::alloc::AllocError;
 
@@ -20,7 +21,11 @@ fn print_wire(group: &[u8], line: WireLine, out: &mut Text) -> Result<(), AllocE
     match line {
         WireLine::Drop { kind, n } => print_line(
             b"drop",
-            &[group, Word::Plain(kind_word(kind)), Word::Number(n)],
+            &[
+                group,
+                Word::Plain(kind_word(kind)),
+                Word::Number(u64::from(n)),
+            ],
             out,
         ),
         WireLine::Repeat { kind, n, m } => print_line(
@@ -28,8 +33,8 @@ fn print_wire(group: &[u8], line: WireLine, out: &mut Text) -> Result<(), AllocE
             &[
                 group,
                 Word::Plain(kind_word(kind)),
-                Word::Number(n),
-                Word::Number(m),
+                Word::Number(u64::from(n)),
+                Word::Number(u64::from(m)),
             ],
             out,
         ),
@@ -38,8 +43,8 @@ fn print_wire(group: &[u8], line: WireLine, out: &mut Text) -> Result<(), AllocE
             &[
                 group,
                 Word::Plain(kind_word(kind)),
-                Word::Number(n),
-                Word::Number(m),
+                Word::Number(u64::from(n)),
+                Word::Number(u64::from(m)),
             ],
             out,
         ),

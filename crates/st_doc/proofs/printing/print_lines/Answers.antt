@@ -1,6 +1,7 @@
 use Rattle.std.specs.Prelude.{[], ◌∷◌, map, flat_map}
+use Rattle.st_text.proofs.PrintLemmas.{err_of, err_by, ok_by}
 use Rattle.st_doc.specs.Printed.{header_words, group_lines, wires_lines, app_lines, order_words}
-use Rattle.st_doc.proofs.TextLemmas.{first_lines, next_lines, both_lines, err_of, err_by, ok_by}
+use Rattle.st_doc.proofs.TextLemmas.{first_lines, next_lines, both_lines}
 use Rattle.st_doc.proofs.printing.print_lines.Goals as goal
 
 pub returns-in_err-print_line-clause-err : goal.returns-in_err-print_line-clause-err

@@ -1,6 +1,7 @@
 use Rattle.std.proofs.Common.{refl}
+use Rattle.st_text.proofs.PrintLemmas.{by_next, by_part, err_of}
 use Rattle.st_doc.specs.Printed.{order_words}
-use Rattle.st_doc.proofs.TextLemmas.{by_next, by_part, err_of, lines_by}
+use Rattle.st_doc.proofs.TextLemmas.{lines_by}
 use Rattle.st_doc.proofs.printing.print_order.Goals as goal
 
 pub returns-in_err-print_line-clause-err : goal.returns-in_err-print_line-clause-err

@@ -1,5 +1,6 @@
+use Rattle.st_text.proofs.PrintLemmas.{err_of}
 use Rattle.st_report.specs.Words.{device_words}
-use Rattle.st_report.proofs.PrintLemmas.{broken_head, part_words, tail_words, err_of}
+use Rattle.st_report.proofs.PrintLemmas.{broken_head, part_words, tail_words}
 use Rattle.st_report.proofs.causes.print_broken.Goals as goal
 
 pub returns-in_err-print_words-clause-err : goal.returns-in_err-print_words-clause-err

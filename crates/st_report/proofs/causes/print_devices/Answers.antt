@@ -1,5 +1,6 @@
 use Rattle.std.proofs.Common.{refl}
-use Rattle.st_report.proofs.PrintLemmas.{by_next, by_part, devices_by, err_of}
+use Rattle.st_text.proofs.PrintLemmas.{by_next, by_part, err_of}
+use Rattle.st_report.proofs.PrintLemmas.{devices_by}
 use Rattle.st_report.proofs.causes.print_devices.Goals as goal
 
 pub returns-in_err-print_word-clause-err : goal.returns-in_err-print_word-clause-err

@@ -1,5 +1,6 @@
 use Rattle.std.proofs.Common.{◌≡◌, ◌++◌, take}
-use Rattle.st_report.specs.Words.{spaced, device_words}
+use Rattle.st_text.specs.Words.{spaced}
+use Rattle.st_report.specs.Words.{device_words}
 use Rattle.st_report.proofs.causes.print_devices.Given as goal
 
 abbrev pub invariant-loop-device : goal.invariant-loop-device

@@ -1,6 +1,7 @@
 use Rattle.std.proofs.Common.{◌∷◌, [], codes}
+use Rattle.st_text.proofs.PrintLemmas.{err_of}
 use Rattle.st_report.specs.Words.{cause_words}
-use Rattle.st_report.proofs.PrintLemmas.{part_words, err_of}
+use Rattle.st_report.proofs.PrintLemmas.{part_words}
 use Rattle.st_report.proofs.causes.print_verdict.Goals as goal
 
 pub returns-in_err-print_word-in-Refused-clause-err : goal.returns-in_err-print_word-in-Refused-clause-err

@@ -1,9 +1,10 @@
 use Rattle.std.proofs.Common.{◌≡◌, ◌++◌, ◌∙◌, sym}
 use Rattle.std.specs.Prelude.{reverse}
 use Rattle.std.proofs.lemmas.List.{length-reverse}
+use Rattle.st_text.proofs.PrintLemmas.{both_added, part_first, part_next, err_of}
 use Rattle.st_event.specs.Proposals.{version}
 use Rattle.st_report.specs.Counted.{group_line, version_line, entries_line}
-use Rattle.st_report.proofs.PrintLemmas.{both, part_first, part_next, tail_next, tail_both, err_of}
+use Rattle.st_report.proofs.PrintLemmas.{tail_next, tail_both}
 use Rattle.st_report.proofs.JournalLemmas.{version_counted}
 use Rattle.st_report.proofs.head.head_lines.Goals as goal
 
@@ -25,7 +26,7 @@ returns-clause-ok c =
     let past = reverse c.args.entries.now in
     let counted : c.version_of-version.result ≡ version past = c.version_of-version.ensures ∙ sym (version_counted c.args.entries.now) in
     tail_both c.word_line-3.result _ _ _ (group_line c.args.topo.now ++ version_line past) (entries_line past)
-    (both _ _ _ (group_line c.args.topo.now) (version_line past) (rw (c.bytes.ensures.bytes, c.name.ensures) at c.in_ok-word_line.ensures.ok) (rw counted at c.in_ok-word_line-2.ensures.ok))
+    (both_added _ _ _ (group_line c.args.topo.now) (version_line past) (rw (c.bytes.ensures.bytes, c.name.ensures) at c.in_ok-word_line.ensures.ok) (rw counted at c.in_ok-word_line-2.ensures.ok))
     (rw (← length-reverse c.args.entries.now) at c.word_line-3.ensures.ok)
 
 pub returns-clause-err : goal.returns-clause-err
@@ -33,5 +34,5 @@ returns-clause-err c =
     let past = reverse c.args.entries.now in
     let counted : c.version_of-version.result ≡ version past = c.version_of-version.ensures ∙ sym (version_counted c.args.entries.now) in
     tail_next c.word_line-3.result _ _ _ (group_line c.args.topo.now ++ version_line past) (entries_line past)
-    (both _ _ _ (group_line c.args.topo.now) (version_line past) (rw (c.bytes.ensures.bytes, c.name.ensures) at c.in_ok-word_line.ensures.ok) (rw counted at c.in_ok-word_line-2.ensures.ok))
+    (both_added _ _ _ (group_line c.args.topo.now) (version_line past) (rw (c.bytes.ensures.bytes, c.name.ensures) at c.in_ok-word_line.ensures.ok) (rw counted at c.in_ok-word_line-2.ensures.ok))
     (rw (← length-reverse c.args.entries.now) at c.word_line-3.ensures.err)

@@ -1,4 +1,5 @@
-use Rattle.st_report.proofs.PrintLemmas.{past_part, locks_by, err_of}
+use Rattle.st_text.proofs.PrintLemmas.{err_of}
+use Rattle.st_report.proofs.PrintLemmas.{past_part, locks_by}
 use Rattle.st_report.proofs.locks.lock_lines.Goals as goal
 
 pub returns-in_err-print_lock-clause-err : goal.returns-in_err-print_lock-clause-err

@@ -1,4 +1,5 @@
-use Rattle.st_report.proofs.PrintLemmas.{line_begun, line_part, line_ended, line_unended, err_of}
+use Rattle.st_text.proofs.PrintLemmas.{err_of}
+use Rattle.st_report.proofs.PrintLemmas.{line_begun, line_part, line_ended, line_unended}
 use Rattle.st_report.proofs.locks.print_lock_line.Goals as goal
 
 pub returns-in_err-begin_line-clause-err : goal.returns-in_err-begin_line-clause-err

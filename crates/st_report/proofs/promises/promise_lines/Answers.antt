@@ -1,11 +1,12 @@
 use Rattle.std.proofs.Common.{◌≡◌, ◌<◌, ◌≤◌, ◌∙◌, refl, sym, ap, length, arith, Bool, List}
 use Rattle.std.specs.Prelude.{count_by}
+use Rattle.st_text.proofs.PrintLemmas.{both_added, part_first, part_next, by_next, by_part, err_of}
 use Rattle.st_net.specs.Groups.{no_promise, promise_of}
 use Rattle.st_net.specs.Promises.{is_kept}
 use Rattle.st_net.specs.Sets.{is_in}
 use Rattle.st_report.specs.Counted.{counts_line}
 use Rattle.st_report.specs.GroupReport.{kept_count, lost_lines}
-use Rattle.st_report.proofs.PrintLemmas.{both, part_first, part_next, by_next, by_part, by_end, err_of}
+use Rattle.st_report.proofs.PrintLemmas.{by_end}
 use Rattle.st_report.proofs.PromiseLemmas.{kept_counted, lost_by, mark_of}
 use Rattle.st_report.proofs.promises.promise_lines.Goals as goal
 
@@ -49,5 +50,5 @@ returns-clause-ok c =
     let held : c.mark_count.result ≡ kept_count g start g.promises = c.mark_count.ensures ∙ (ap (λ (marks : List Bool). count_by (λ held. held) marks) (c.as_slice.ensures.value ∙ c.in_ok-held.ensures.kept) ∙ sym (kept_counted g start g.promises)) in
     let holding : c.mark_count-2.result ≡ kept_count g now g.promises = c.mark_count-2.ensures ∙ (ap (λ (marks : List Bool). count_by (λ held. held) marks) (c.as_slice-2.ensures.value ∙ c.in_ok-holding.ensures.kept) ∙ sym (kept_counted g now g.promises)) in
     let ended : length g.promises ≤ c.loop-i.i = omega (arith, c.loop-i-test.false, c.promise_count-i-end.ensures) in
-    both _ _ _ (counts_line g start now) (lost_lines g start now g.promises) (rw (c.from.ensures, c.promise_count.ensures, held, holding) at c.in_ok-print_line.ensures.ok)
+    both_added _ _ _ (counts_line g start now) (lost_lines g start now g.promises) (rw (c.from.ensures, c.promise_count.ensures, held, holding) at c.in_ok-print_line.ensures.ok)
     (by_end (lost_lines g start now) g.promises c.loop-i.i _ _ ended c.loop-i.invariant)

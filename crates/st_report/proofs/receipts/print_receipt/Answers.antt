@@ -1,6 +1,7 @@
 use Rattle.std.proofs.Common.{◌∷◌, [], codes, decimal}
+use Rattle.st_text.proofs.PrintLemmas.{err_of}
 use Rattle.st_report.specs.Words.{app_word, verdict_words}
-use Rattle.st_report.proofs.PrintLemmas.{line_begun, line_part, err_of}
+use Rattle.st_report.proofs.PrintLemmas.{line_begun, line_part}
 use Rattle.st_report.proofs.receipts.print_receipt.Goals as goal
 
 pub returns-in_err-begin_line-clause-err : goal.returns-in_err-begin_line-clause-err

@@ -2,11 +2,12 @@ use Rattle.std.proofs.Common.{◌≡◌, ◌∙◌, ◌++◌, ap, sym, List, len
 use Rattle.std.specs.Prelude.{reverse}
 use Rattle.std.specs.Option.{option_to_list}
 use Rattle.std.proofs.lemmas.List.{append-nil, take_all}
+use Rattle.st_text.proofs.PrintLemmas.{part_along, err_of}
 use Rattle.st_event.specs.declared.journal.Entry.{Entry}
 use Rattle.st_event.specs.declared.reply.Verdict.{Verdict}
 use Rattle.st_event.specs.Proposals.{verdicts}
 use Rattle.st_report.specs.Counted.{verdict_of}
-use Rattle.st_report.proofs.PrintLemmas.{past_part, past_step, part_along, err_of}
+use Rattle.st_report.proofs.PrintLemmas.{past_part, past_step}
 use Rattle.st_report.proofs.JournalLemmas.{receipts_of, receipts_by, line_with, receipts_text, line_given, decided_more}
 use Rattle.st_report.proofs.receipts.receipt_lines.Goals as goal
 use Rattle.st_report.proofs.receipts.receipt_lines.Goals.{in-Some+in_ok-print_decided, in_default}

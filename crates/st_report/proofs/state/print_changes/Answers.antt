@@ -1,7 +1,7 @@
 use Rattle.std.proofs.Common.{◌<◌, refl, length, ap, arith}
+use Rattle.st_text.proofs.PrintLemmas.{by_next, by_part, err_of}
 use Rattle.st_net.specs.Entities.{vars_of}
 use Rattle.st_overlay.specs.Values.{value_in}
-use Rattle.st_report.proofs.PrintLemmas.{by_next, by_part, err_of}
 use Rattle.st_report.proofs.EntityLemmas.{changes_by}
 use Rattle.st_report.proofs.state.print_changes.Goals as goal
 

@@ -1,5 +1,6 @@
+use Rattle.st_text.proofs.PrintLemmas.{by_next, by_part, err_of}
 use Rattle.st_doc.specs.Printed.{act_words}
-use Rattle.st_doc.proofs.TextLemmas.{by_next, by_part, err_of, lines_by}
+use Rattle.st_doc.proofs.TextLemmas.{lines_by}
 use Rattle.st_doc.proofs.printing.acts.print_acts.Goals as goal
 
 pub returns-in_err-print_act-clause-err : goal.returns-in_err-print_act-clause-err

@@ -1,6 +1,6 @@
 use Rattle.std.proofs.Common.{◌≡◌, ◌++◌, take}
+use Rattle.st_text.specs.Words.{spaced}
 use Rattle.st_doc.specs.Printed.{assignment_words}
-use Rattle.st_doc.specs.PrintedWords.{spaced}
 use Rattle.st_doc.proofs.printing.acts.print_assignments.Given as goal
 
 abbrev pub invariant-loop-row : goal.invariant-loop-row

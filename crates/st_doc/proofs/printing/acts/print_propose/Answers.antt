@@ -1,6 +1,7 @@
 use Rattle.std.specs.Prelude.{[], ◌∷◌, codes}
+use Rattle.st_text.proofs.PrintLemmas.{err_of, err_by, ok_by}
 use Rattle.st_doc.specs.Printed.{group_at, assignment_words}
-use Rattle.st_doc.proofs.TextLemmas.{line_first, line_next, line_unended, line_ended, err_of, err_by, ok_by}
+use Rattle.st_doc.proofs.TextLemmas.{line_first, line_next, line_unended, line_ended}
 use Rattle.st_doc.proofs.printing.acts.print_propose.Goals as goal
 
 pub returns-in_err-begin_line-clause-err : goal.returns-in_err-begin_line-clause-err

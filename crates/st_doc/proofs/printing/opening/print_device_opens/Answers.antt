@@ -1,7 +1,8 @@
 use Rattle.std.specs.Prelude.{[]}
+use Rattle.st_text.proofs.PrintLemmas.{err_of, err_by, ok_by}
 use Rattle.st_net.specs.declared.entity.Var.TheVariants.{Power, Firmware, Config, Routing}
 use Rattle.st_doc.specs.Printed.{open_line}
-use Rattle.st_doc.proofs.TextLemmas.{first_lines, next_lines, both_lines, last_lines, err_of, err_by, ok_by}
+use Rattle.st_doc.proofs.TextLemmas.{first_lines, next_lines, both_lines, last_lines}
 use Rattle.st_doc.proofs.printing.opening.print_device_opens.Goals as goal
 
 pub returns-in_err-print_open-clause-err : goal.returns-in_err-print_open-clause-err

@@ -1,5 +1,6 @@
+use Rattle.st_text.proofs.PrintLemmas.{by_next, by_part, err_of}
 use Rattle.st_doc.specs.Printed.{device_opens}
-use Rattle.st_doc.proofs.TextLemmas.{by_next, by_part, err_of, sections_by}
+use Rattle.st_doc.proofs.TextLemmas.{sections_by}
 use Rattle.st_doc.proofs.printing.opening.print_devices_opens.Goals as goal
 
 pub returns-in_err-print_device_opens-clause-err : goal.returns-in_err-print_device_opens-clause-err

@@ -1,6 +1,7 @@
 use Rattle.std.specs.Prelude.{flat_map}
+use Rattle.st_text.proofs.PrintLemmas.{err_by}
 use Rattle.st_doc.specs.Printed.{device_opens, link_opens}
-use Rattle.st_doc.proofs.TextLemmas.{next_lines, err_by}
+use Rattle.st_doc.proofs.TextLemmas.{next_lines}
 use Rattle.st_doc.proofs.printing.opening.print_opens.Goals as goal
 
 pub returns-clause-err : goal.returns-clause-err

@@ -1,5 +1,6 @@
+use Rattle.st_text.proofs.PrintLemmas.{by_next, by_part, err_of}
 use Rattle.st_doc.specs.Printed.{promise_words}
-use Rattle.st_doc.proofs.TextLemmas.{by_next, by_part, err_of, lines_by}
+use Rattle.st_doc.proofs.TextLemmas.{lines_by}
 use Rattle.st_doc.proofs.printing.parts.print_promises.Goals as goal
 
 pub returns-in_err-print_promise-clause-err : goal.returns-in_err-print_promise-clause-err

@@ -3,7 +3,8 @@ use Rattle.std.proofs.lemmas.List.{length_push}
 use Rattle.std.specs.Iterator.Adapters.{zip_first, zip_second}
 use Rattle.std.specs.Slice.Iter.{iter_rest}
 use Rattle.std.proofs.lemmas.Slice.Zip.{zip_turn, zip_end}
-use Rattle.st_doc.proofs.TextLemmas.{wires_next, wires_part, wires_end, err_of}
+use Rattle.st_text.proofs.PrintLemmas.{err_of}
+use Rattle.st_doc.proofs.TextLemmas.{wires_next, wires_part, wires_end}
 use Rattle.st_doc.proofs.printing.wires.print_wires.Goals as goal
 
 pub returns-in_err-print_group_wires-clause-err : goal.returns-in_err-print_group_wires-clause-err
