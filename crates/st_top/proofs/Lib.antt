@@ -1,9 +1,10 @@
 pub mod Checks
-pub mod Endings
-pub mod Quiet
+pub mod Courses
+pub mod Ups
 pub mod Histories
 pub mod Limits
 pub mod Lines
 pub mod Lists
+pub mod Ranges
 pub mod Runs
 pub mod Schedules

@@ -1,5 +1,5 @@
 -- A group in which nothing is wrong keeps the limits, and so the counts of a document are small.
-use Rattle.std.proofs.Common.{◌≡◌, ℕ, zero, suc, ◌+◌, ◌^◌, ◌<◌, ◌≤◌, ◌&&◌, List, [], ◌∷◌, length, Bool, true, false, Option, Some, None, refl, arith}
+use Rattle.std.proofs.Common.{◌≡◌, ℕ, ◌+◌, ◌^◌, ◌<◌, ◌≤◌, ◌&&◌, List, [], ◌∷◌, length, Bool, true, false, Option, Some, None, refl, arith}
 use Rattle.std.specs.Prelude.{if◌then◌else◌, nat_le, slice_index_or, sum_by}
 use Rattle.std.proofs.lemmas.Bool.Decides.{nat_tests}
 use Rattle.std.proofs.lemmas.List.Sums.{sum_by-le}
@@ -15,7 +15,7 @@ use Rattle.st_net.specs.Groups.{are_device_vals, are_link_vals}
 use Rattle.st_net.specs.Faults.{device_limit, link_limit, promise_limit, limit_or, tors_with, first_device_limit, first_link_limit, first_promise_limit, fault_or, promises_at, twice_of, unknown_of, loop_of, cross_of, limit_of, pair_of, fault_of}
 use Rattle.st_doc.specs.declared.doc.Doc.{Doc}
 use Rattle.st_doc.specs.declared.doc.Script.{Script}
-use Rattle.st_doc.specs.declared.limits.TheConstants.{MAX_GROUPS, MAX_APPS, MAX_ACTS}
+use Rattle.st_doc.specs.declared.limits.TheConstants.{MAX_ACTS}
 use Rattle.st_doc.specs.Sound.{IsSoundDoc}
 
 fault_none : (a b : Option TopoFault) → fault_or a b ≡ None → (a ≡ None) × (b ≡ None)

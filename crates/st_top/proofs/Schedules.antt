@@ -1,6 +1,6 @@
 -- The order of commands, place by place.
-use Rattle.std.proofs.Common.{◌≡◌, ◌≢◌, ℕ, zero, suc, ◌+◌, ◌<◌, ◌≤◌, List, [], ◌∷◌, ◌++◌, length, Bool, true, false, refl, ap, sym, ◌∙◌, subst, arith, set, take, length-set}
-use Rattle.std.specs.Prelude.{All, reverse, slice_get, slice_index_or, nat_lt, ◌==◌, Option, Some, None, if◌then◌else◌}
+use Rattle.std.proofs.Common.{◌≡◌, ◌≢◌, ℕ, zero, suc, ◌+◌, ◌<◌, ◌≤◌, List, [], ◌∷◌, ◌++◌, length, Bool, true, false, refl, ap, sym, ◌∙◌, arith, set, take, length-set}
+use Rattle.std.specs.Prelude.{All, reverse, slice_index_or, nat_lt, ◌==◌, if◌then◌else◌}
 use Rattle.std.proofs.Math.Nat.{min-le_left}
 use Rattle.std.proofs.Math.Seq.{take-suc, take-append_seam}
 use Rattle.std.proofs.lemmas.Bool.Decides.{nat_tests}
@@ -11,7 +11,7 @@ use Rattle.std.proofs.lemmas.Grind.{get_or-set_at}
 use Rattle.st_doc.specs.declared.doc.Script.{Script}
 use Rattle.st_doc.specs.declared.limits.TheConstants.{MAX_ACTS}
 use Rattle.st_top.specs.declared.schedule.Place.{Place}
-use Rattle.st_top.specs.Schedule.{times, count_in, act_count, place_at, ordered, round, rounds, schedule, IsFront, IsPlaceIn, HasFewActs}
+use Rattle.st_top.specs.Schedule.{times, act_count, place_at, ordered, round, rounds, schedule, IsFront, IsPlaceIn}
 
 -- an application's count of commands
 pub count_at : (apps : List Script) (i : ℕ) (x : Script) → i < length apps → x ≡ slice_index_or apps i x → act_count apps i ≡ length x.acts

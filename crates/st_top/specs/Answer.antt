@@ -1,5 +1,5 @@
 -- How a call ends, and what that says of what was read, of the journals, and of what was written.
-use Rattle.std.specs.Prelude.{◌≡◌, ℕ, ◌+◌, ◌≤◌, List, [], ◌∷◌, ◌++◌, length, reverse, Option, Some, None, Result, Ok as read_ok, Err, codes, decimal, ◌⊎◌, Bool, true, false}
+use Rattle.std.specs.Prelude.{◌≡◌, ℕ, ◌+◌, ◌≤◌, List, [], ◌∷◌, ◌++◌, length, reverse, Option, Some, None, Result, Ok as read_ok, Err, codes, decimal, slice_get, ◌⊎◌}
 use Rattle.std.specs.Io.KnownBytes.{Consumes, Appends, Keeps, IsAtEnd}
 use Rattle.st_io.specs.declared.reading.TheConstants.{MAX_BYTES}
 use Rattle.st_io.specs.Outside.{Rose}
@@ -16,12 +16,11 @@ use Rattle.st_doc.specs.declared.fault.DocKind.{DocKind}
 use Rattle.st_doc.specs.declared.fault.DocKind.TheVariants as kinds
 use Rattle.st_doc.specs.Reading.{document_of}
 use Rattle.st_top.specs.declared.answer.Status.{Status}
-use Rattle.st_top.specs.declared.answer.Status.TheVariants.{Ok, Usage, ReadFault, TooLong, BadInput, NotYet, WriteFault, OutOfMemory}
+use Rattle.st_top.specs.declared.answer.Status.TheVariants.{Ok, Usage, ReadFault, TooLong, BadInput, JournalFull, WriteFault, OutOfMemory}
 use Rattle.st_top.specs.declared.words.Command.{Command}
 use Rattle.st_top.specs.declared.words.Command.TheVariants.{Serial, Check}
 use Rattle.st_top.specs.Words.{command_of}
-use Rattle.st_top.specs.NotYet.{is_run}
-use Rattle.st_top.specs.Serial.{serial_run, serial_logs}
+use Rattle.st_top.specs.Serial.{serial_run, serial_logs, serial_full}
 use Rattle.st_top.specs.Output.{report_of, check_text}
 
 abbrev pub kind_word : DocKind → List ℕ
@@ -39,14 +38,14 @@ kind_word kinds.Loop = codes "loop"
 kind_word kinds.Pair = codes "pair"
 kind_word kinds.Limit = codes "limit"
 
--- the line that tells of a fault
+-- the line that tells of a fault; that of a full journal names its group, and is not told from the status alone
 abbrev pub fault_text : Status → List ℕ
 fault_text Ok = []
 fault_text Usage = codes "fault usage" ++ 10 ∷ []
 fault_text ReadFault = codes "fault read" ++ 10 ∷ []
 fault_text TooLong = codes "fault long" ++ 10 ∷ []
 fault_text (BadInput line kind) = codes "fault input line " ++ decimal line ++ 32 ∷ kind_word kind ++ 10 ∷ []
-fault_text NotYet = codes "fault notyet" ++ 10 ∷ []
+fault_text (JournalFull group) = []
 fault_text WriteFault = []
 fault_text OutOfMemory = []
 
@@ -70,13 +69,32 @@ AreKept [] (journal ∷ journals) = ⊥
 AreKept (parts ∷ more) [] = ⊥
 AreKept (parts ∷ more) (journal ∷ journals) = IsKept parts journal × AreKept more journals
 
--- a command was carried out on a document: journals and logs are those of the script order, the journals are legal and kept, and this is the text
-pub record RunsSerial (doc : Doc) (results : Results) (text : List ℕ) : Type 0 where
-  pub runnable : is_run doc ≡ true
+-- journals and logs are those of the script order, and the journals are legal and kept
+pub record AreOfScripts (doc : Doc) (results : Results) : Type 0 where
   pub order : results.journals ≡ serial_run doc
   pub seen : results.logs ≡ serial_logs doc
   pub kept : AreKept doc.groups results.journals
+
+-- the scripts of a document were carried out, no event met a full journal, and this is the text
+pub record RunsSerial (doc : Doc) (results : Results) (text : List ℕ) : Type 0 where
+  pub scripts : AreOfScripts doc results
+  pub room : serial_full doc ≡ None
   pub report : text ≡ report_of doc results.journals results.logs
+
+-- the name of a group of a document
+abbrev pub name_or_none : Option Parts → List ℕ
+name_or_none None = []
+name_or_none (Some parts) = parts.name
+
+-- the line that tells of the full journal of a group
+abbrev pub full_line : Doc → ℕ → List ℕ
+full_line doc group = codes "fault full " ++ name_or_none (slice_get doc.groups group) ++ 10 ∷ []
+
+-- they were carried out up to an event of this group that met a full journal, and this is the text
+pub record MeetsFull (doc : Doc) (results : Results) (text : List ℕ) (group : ℕ) : Type 0 where
+  pub scripts : AreOfScripts doc results
+  pub full : serial_full doc ≡ Some group
+  pub told : text ≡ full_line doc group
 
 pub record Counts (doc : Doc) (results : Results) (text : List ℕ) : Type 0 where
   pub none : results ≡ no_results
@@ -89,7 +107,7 @@ Carries Check = Counts
 -- what a command ends with on what was read to its end
 abbrev pub EndsOn : Command → Result Doc DocFault → Results → List ℕ → Status → Type 0
 EndsOn command (read_ok doc) results text Ok = Carries command doc results text
-EndsOn command (read_ok doc) results text NotYet = (command ≡ Serial) × (is_run doc ≡ false) × (results ≡ no_results) × (text ≡ fault_text NotYet)
+EndsOn command (read_ok doc) results text (JournalFull group) = (command ≡ Serial) × MeetsFull doc results text group
 EndsOn command (read_ok doc) results text _ = ⊥
 EndsOn command (Err fault) results text (BadInput line kind) = (fault ≡ record { line = line; kind = kind }) × (results ≡ no_results) × (text ≡ fault_text (BadInput line kind))
 EndsOn command (Err fault) results text _ = ⊥

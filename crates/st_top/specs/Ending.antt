@@ -1,5 +1,5 @@
 -- How a call is to end, before anything is written.
-use Rattle.std.specs.Prelude.{◌≡◌, ℕ, List, [], ◌∷◌, Option, Result}
+use Rattle.std.specs.Prelude.{◌≡◌, ℕ, List, [], ◌∷◌, Option, Some, None, Result}
 use Rattle.st_io.specs.declared.writing.Written.{Written}
 use Rattle.st_io.specs.declared.writing.Written.TheVariants as ways
 use Rattle.st_io.specs.Output.{Writes}
@@ -14,8 +14,10 @@ use Rattle.st_top.specs.declared.answer.Status.TheVariants as statuses
 use Rattle.st_top.specs.declared.top.Ending.{Ending}
 use Rattle.st_top.specs.declared.top.Ran.{Ran}
 use Rattle.st_top.specs.declared.words.Command.{Command}
-use Rattle.st_top.specs.Serial.{Run}
-use Rattle.st_top.specs.Answer.{Results, SourceState, SinkState, EndsOn, ComesOf, no_results, fault_text}
+use Rattle.st_top.specs.Site.{SiteView}
+use Rattle.st_top.specs.Serial.{Run, serial_end, serial_full}
+use Rattle.st_top.specs.Output.{app_names, run_text}
+use Rattle.st_top.specs.Answer.{Results, SourceState, SinkState, EndsOn, ComesOf, no_results, fault_text, full_line}
 
 -- what an ending hands back
 abbrev pub results_in : Ending → Results
@@ -26,6 +28,12 @@ pub record TellsFault (status : Status) (ending : Ending) : Type 0 where
   pub status_is : ending.status ≡ status
   pub none : results_in ending ≡ no_results
   pub text_is : ending.text ≡ fault_text status
+
+-- the status and the text of a document that was run: its report, or the line of the group at whose full journal the run stopped
+abbrev pub IsToldOf : Doc → Status → List ℕ → Type 0
+IsToldOf doc statuses.Ok text = (serial_full doc ≡ None) × (text ≡ run_text (app_names doc) (serial_end doc))
+IsToldOf doc (statuses.JournalFull group) text = (serial_full doc ≡ Some group) × (text ≡ full_line doc group)
+IsToldOf doc _ text = ⊥
 
 -- what a command ends with on what was read to its end
 abbrev pub IsEndOn : Command → Result Doc DocFault → Ending → Type 0
@@ -40,13 +48,13 @@ pub record IsKeptHistory (h : History) : Type 0 where
   pub legal : IsLegal h.group h.past
   pub promises : AtEach (KeepsPromises h.group) h.past
 
-abbrev pub AreKeptHistories : List History → Type 0
-AreKeptHistories [] = Unit {0}
-AreKeptHistories (h ∷ hs) = IsKeptHistory h × AreKeptHistories hs
+abbrev pub AreKeptSites : List SiteView → Type 0
+AreKeptSites [] = Unit {0}
+AreKeptSites (s ∷ ss) = IsKeptHistory s.history × AreKeptSites ss
 
 -- the groups with their journals, and the logs, that a run has come to
 abbrev pub run_in : Ran → Run
-run_in ran = record { groups = ran.worlds.items; logs = ran.logs.items }
+run_in ran = record { groups = ran.sites.items; logs = ran.logs.items; full = ran.full }
 
 -- the status that is told once writing ended so
 abbrev pub told : Written → Status → Status

@@ -1,7 +1,6 @@
 pub mod Words
-pub mod NotYet
-pub mod World
 pub mod Schedule
+pub mod Site
 pub mod Serial
 pub mod Output
 pub mod Exit

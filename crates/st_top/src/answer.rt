@@ -23,8 +23,8 @@ pub enum Status {
     TooLong,
     /// The input is no document: its first bad line, from 1, and the first kind that applies to it.
     BadInput { line: u32, kind: DocKind },
-    /// The document has a part that this program can't run yet.
-    NotYet,
+    /// An event of the scripts met the journal of this group, from 0, when it had 200,000 entries: there the run stopped.
+    JournalFull { group: u32 },
     /// The sink failed while a text was written. It holds a prefix of the text.
     WriteFault,
     /// Memory was refused.
@@ -93,6 +93,13 @@ impl Logs {
     {
         self.logs.as_slice()
     }
+
+    /// The logs, given back without taking memory.
+    pub fn into_vec(self) -> Vec<Log>
+        ensures { result.items ≡ self }
+    {
+        self.logs
+    }
 }
 
 impl Journals {
@@ -118,6 +125,13 @@ impl Journals {
     {
         self.journals.as_slice()
     }
+
+    /// The journals, given back without taking memory.
+    pub fn into_vec(self) -> Vec<Journal>
+        ensures { result.items ≡ self }
+    {
+        self.journals
+    }
 }
 
 impl Status {
@@ -131,9 +145,9 @@ impl Status {
             Status::ReadFault => 3,
             Status::TooLong => 4,
             Status::BadInput { .. } => 5,
+            Status::JournalFull { .. } => 6,
             Status::WriteFault => 8,
             Status::OutOfMemory => 9,
-            Status::NotYet => 10,
         }
     }
 }
@@ -181,7 +195,8 @@ fn bad_line_text(alloc: Global, line: u32, kind: DocKind) -> Result<Text, AllocE
     Ok(out)
 }
 
-/// The line that tells of a fault; no bytes for a status that is none, and for one after which nothing can be written.
+/// The line that tells of a fault; no bytes for a status that is none, for one after which nothing can be written, and for a full
+/// journal, whose line names its group.
 pub fn fault_text(alloc: Global, status: Status) -> Result<Text, AllocError>
     ensures { IfOk result (λ text. text ≡ fault_text_lem status) }
 {
@@ -190,7 +205,8 @@ pub fn fault_text(alloc: Global, status: Status) -> Result<Text, AllocError>
         Status::ReadFault => text_of(alloc, b"fault read\n"),
         Status::TooLong => text_of(alloc, b"fault long\n"),
         Status::BadInput { line, kind } => bad_line_text(alloc, line, kind),
-        Status::NotYet => text_of(alloc, b"fault notyet\n"),
-        Status::Ok | Status::WriteFault | Status::OutOfMemory => Ok(Text::new(alloc)),
+        Status::Ok | Status::JournalFull { .. } | Status::WriteFault | Status::OutOfMemory => Ok(
+            Text::new(alloc),
+        ),
     }
 }

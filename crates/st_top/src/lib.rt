@@ -2,13 +2,13 @@
 #![tactic(auto)]
 
 mod answer;
-mod not_yet;
 mod output;
 mod schedule;
 mod serial;
+mod site;
 mod top;
+mod up;
 mod words;
-mod world;
 
 pub use answer::{Journals, Logs, Outcome, Status};
 pub use top::statesman;

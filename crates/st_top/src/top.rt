@@ -1,30 +1,29 @@
 //! The whole call: all that is to be written is decided first, and then it is written once.
 
-ghost use Rattle.std.specs.Prelude.{◌≡◌, ◌≢◌, ◌≤◌, ◌<◌, ◌-◌, ◌^◌, [], All, replicate, Ok as read_ok, Some, None, length, map, string_bytes, true, IfOk};
+ghost use Rattle.std.specs.Prelude.{◌≡◌, ◌≢◌, ◌≤◌, ◌<◌, ◌-◌, ◌^◌, [], ◌∷◌, ◌++◌, All, codes, replicate, Ok as read_ok, Some, None, length, map, string_bytes, true, IfOk};
 ghost use Rattle.st_net.specs.Faults.{group_of};
 ghost use Rattle.st_io.specs.declared.reading.TheConstants.{MAX_BYTES};
 ghost use Rattle.st_doc.specs.Reading.{document_of};
 ghost use Rattle.st_doc.specs.Sound.{IsSoundGroup, IsSoundDoc};
 ghost use Rattle.st_top.specs.declared.words.Command.TheVariants.{Serial as serial_command, Check as check_command};
 ghost use Rattle.st_top.specs.Words.{command_of as command_of_lem};
-ghost use Rattle.st_top.specs.NotYet.{is_run as is_run_lem};
 ghost use Rattle.st_top.specs.Output.{app_names as app_names_lem, run_text};
-ghost use Rattle.st_top.specs.Serial.{opened, scripts_done as scripts_done_lem, decided as decided_lem, groups_in, journals_from, logs_from, LogsFit};
+ghost use Rattle.st_top.specs.Serial.{all_opened, scripts_done as scripts_done_lem, decided as decided_lem, serial_end, groups_in, journals_from, logs_from, LogsFit};
 ghost use Rattle.st_top.specs.Answer.{EndsWith, IsUnread};
-ghost use Rattle.st_top.specs.Ending.{TellsFault, IsEndOn, IsCalledFor, AreKeptHistories, run_in, WritesEnding, told as told_lem};
+ghost use Rattle.st_top.specs.Ending.{TellsFault, IsToldOf, IsEndOn, IsCalledFor, AreKeptSites, run_in, WritesEnding, told as told_lem};
 
 use crate::answer::{Journals, Logs, Outcome, Status, fault_text};
-use crate::not_yet::is_run;
 use crate::output::{app_names, check_text, print_groups, print_logs};
 use crate::schedule::schedule;
 use crate::serial::{decide_all, places_done};
+use crate::site::Site;
 use crate::words::{Command, command_of};
-use crate::world::World;
-use st_doc::{Doc, DocRead, read_doc};
-use st_event::{Journal, Log, LogEntries};
+use st_doc::{Doc, DocRead, WireLines, read_doc};
+use st_event::{Log, LogEntries};
 use st_io::{ReadEnd, Sink, Source, Written, read_all, write_all};
-use st_net::{AppId, Built, GroupTopo, Parts};
+use st_net::{AppId, Built, GroupTopo, Name, Parts};
 use st_text::Text;
+use st_wire::{LossPlan, WireLine};
 use std::alloc::{AllocError, Global};
 
 /// How a call is to end, before anything is written.
@@ -59,16 +58,25 @@ fn topo_of(alloc: Global, parts: &Parts) -> Result<GroupTopo, AllocError>
     }
 }
 
-/// The worlds of a document's groups at their opening, in order.
-fn worlds_of(alloc: Global, groups: &[Parts]) -> Result<Vec<World>, AllocError>
-    requires { All IsSoundGroup groups.now }
-    ensures { IfOk result (λ worlds. worlds.items ≡ map opened groups.now) }
+/// The plan of these wire lines.
+fn plan_of(alloc: Global, lines: &[WireLine]) -> Result<LossPlan, AllocError>
+    ensures { IfOk result (λ plan. plan ≡ lines.now) }
 {
-    let mut worlds = Vec::new(alloc);
-    for parts in groups {
-        worlds.push(World::start(alloc, topo_of(alloc, parts)?)?)?;
+    Ok(LossPlan::from_lines(alloc, lines.to_vec(alloc)?))
+}
+
+/// The groups of a document at their opening, in order, each with the plan of its wire lines.
+fn sites_of(alloc: Global, groups: &[Parts], wires: &[WireLines]) -> Result<Vec<Site>, AllocError>
+    requires sound { All IsSoundGroup groups.now }
+    requires each { length wires.now ≡ length groups.now }
+    ensures { IfOk result (λ sites. sites.items ≡ all_opened groups.now wires.now) }
+{
+    let mut sites = Vec::new(alloc);
+    for (i, parts) in groups.iter().enumerate() {
+        let plan = plan_of(alloc, wires[i].as_slice())?;
+        sites.push(Site::start(alloc, topo_of(alloc, parts)?, plan)?)?;
     }
-    Ok(worlds)
+    Ok(sites)
 }
 
 /// An empty log for each application.
@@ -82,11 +90,13 @@ fn empty_logs(alloc: Global, count: usize) -> Result<Vec<LogEntries>, AllocError
     Ok(logs)
 }
 
-/// A document after the commands of its scripts: the groups, and what the applications saw.
+/// A document after the commands of its scripts: the groups, what the applications saw, and the group at whose full journal the run
+/// stopped, if it did.
 #[derive(Drop)]
 struct Ran {
-    worlds: Vec<World>,
+    sites: Vec<Site>,
     logs: Vec<LogEntries>,
+    full: Option<u32>,
 }
 
 /// Does the commands of a document's scripts.
@@ -96,29 +106,29 @@ fn scripts_done(alloc: Global, doc: &Doc) -> Result<Ran, AllocError>
 {
     let apps = doc.apps.as_slice();
     let places = schedule(alloc, apps, doc.order.as_slice())?;
-    let mut worlds = worlds_of(alloc, doc.groups.as_slice())?;
+    let mut sites = sites_of(alloc, doc.groups.as_slice(), doc.wires.as_slice())?;
     let mut logs = empty_logs(alloc, apps.len())?;
-    places_done(
-        worlds.as_mut_slice(),
+    let full = places_done(
+        alloc,
+        sites.as_mut_slice(),
         logs.as_mut_slice(),
         apps,
         places.as_slice(),
     )?;
-    Ok(Ran { worlds, logs })
+    Ok(Ran { sites, logs, full })
 }
 
 /// The journals of groups, in order.
-fn journals_of(alloc: Global, worlds: Vec<World>) -> Result<Journals, AllocError>
-    requires { length worlds.items < 2 ^ 32 }
-    ensures journals { IfOk result (λ journals. journals ≡ journals_from 0 worlds.items) }
-    ensures kept { IfOk result (λ journals. AreKeptHistories worlds.items) }
+fn journals_of(alloc: Global, sites: Vec<Site>) -> Result<Journals, AllocError>
+    requires { length sites.items < 2 ^ 32 }
+    ensures journals { IfOk result (λ journals. journals ≡ journals_from 0 sites.items) }
+    ensures kept { IfOk result (λ journals. AreKeptSites sites.items) }
 {
     let mut journals = Vec::new(alloc);
-    for world in worlds {
-        world.keeps_promises();
+    for site in sites {
+        site.keeps_promises();
         let group = journals.len() as u32;
-        let entries = world.into_entries();
-        journals.push(Journal { group, entries })?;
+        journals.push(site.into_journal(group))?;
     }
     Ok(Journals::new(journals))
 }
@@ -136,13 +146,21 @@ fn logs_of(alloc: Global, logs: Vec<LogEntries>) -> Result<Logs, AllocError>
     Ok(Logs::new(all))
 }
 
-/// Decides what is still pending in each group.
+/// Decides what is still pending in each group, where no journal was met full.
 fn decided(ran: Ran) -> Result<Ran, AllocError>
+    requires { length ran.sites.items < 2 ^ 32 }
     ensures { IfOk result (λ end. run_in end ≡ decided_lem (run_in ran)) }
 {
-    let Ran { mut worlds, logs } = ran;
-    decide_all(worlds.as_mut_slice())?;
-    Ok(Ran { worlds, logs })
+    let Ran {
+        mut sites,
+        logs,
+        full,
+    } = ran;
+    let full = match full {
+        Some(group) => Some(group),
+        None => decide_all(sites.as_mut_slice())?,
+    };
+    Ok(Ran { sites, logs, full })
 }
 
 /// The report of a document that was run.
@@ -151,32 +169,41 @@ fn report_text(alloc: Global, doc: &Doc, ran: &Ran) -> Result<Text, AllocError>
     requires fits { LogsFit (groups_in (run_in ran.now).groups) (run_in ran.now).logs }
     ensures { IfOk result (λ text. text ≡ run_text (app_names_lem doc.now) (run_in ran.now)) }
 {
-    let worlds = ran.worlds.as_slice();
+    let sites = ran.sites.as_slice();
     let names = app_names(alloc, doc)?;
     let apps = names.as_slice();
     let mut out = Text::new(alloc);
     out.word(b"statesman report 1\n")?;
-    print_groups(alloc, worlds, apps, &mut out)?;
-    print_logs(worlds, apps, ran.logs.as_slice(), &mut out)?;
+    print_groups(alloc, sites, apps, &mut out)?;
+    print_logs(sites, apps, ran.logs.as_slice(), &mut out)?;
     out.word(b"end\n")?;
     Ok(out)
 }
 
-/// The ending of `serial` on a document that can be run.
-fn run_ending(alloc: Global, doc: &Doc) -> Result<Ending, AllocError>
-    requires sound { IsSoundDoc doc.now }
-    requires runnable { is_run_lem doc.now ≡ true }
-    ensures { IfOk result (IsEndOn serial_command (read_ok doc.now)) }
+/// The line that tells of the full journal of a group.
+fn full_text(alloc: Global, name: &Name) -> Result<Text, AllocError>
+    ensures { IfOk result (λ text. text ≡ codes "fault full " ++ name.now ++ 10 ∷ []) }
 {
-    let ran = decided(scripts_done(alloc, doc)?)?;
-    let text = report_text(alloc, doc, &ran)?;
-    let Ran { worlds, logs } = ran;
-    Ok(Ending {
-        status: Status::Ok,
-        journals: journals_of(alloc, worlds)?,
-        logs: logs_of(alloc, logs)?,
-        text,
-    })
+    let mut out = Text::new(alloc);
+    out.word(b"fault full ")?;
+    out.word(name.bytes())?;
+    out.word(b"\n")?;
+    Ok(out)
+}
+
+/// The status of a document that was run, and its text: the report, or the line that tells of a full journal.
+fn ran_text(alloc: Global, doc: &Doc, ran: &Ran) -> Result<(Status, Text), AllocError>
+    requires sound { IsSoundDoc doc.now }
+    requires end { run_in ran.now ≡ serial_end doc.now }
+    ensures { IfOk result (λ told. IsToldOf doc.now told.0 told.1) }
+{
+    match ran.full {
+        None => Ok((Status::Ok, report_text(alloc, doc, ran)?)),
+        Some(group) => {
+            let name = &doc.groups.as_slice()[group as usize].name;
+            Ok((Status::JournalFull { group }, full_text(alloc, name)?))
+        }
+    }
 }
 
 /// The ending of `serial` on a document.
@@ -184,11 +211,15 @@ fn serial_ending(alloc: Global, doc: &Doc) -> Result<Ending, AllocError>
     requires { IsSoundDoc doc.now }
     ensures { IfOk result (IsEndOn serial_command (read_ok doc.now)) }
 {
-    if is_run(doc) {
-        run_ending(alloc, doc)
-    } else {
-        fault_ending(alloc, Status::NotYet)
-    }
+    let ran = decided(scripts_done(alloc, doc)?)?;
+    let (status, text) = ran_text(alloc, doc, &ran)?;
+    let Ran { sites, logs, .. } = ran;
+    Ok(Ending {
+        status,
+        journals: journals_of(alloc, sites)?,
+        logs: logs_of(alloc, logs)?,
+        text,
+    })
 }
 
 /// The ending of `check` on a document.

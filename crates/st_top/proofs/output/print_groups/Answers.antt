@@ -1,9 +1,9 @@
 use Rattle.std.proofs.Common.{◌++◌, ◌∙◌, ap}
-use Rattle.st_event.specs.History.{History}
 use Rattle.st_report.specs.GroupReport.{group_report}
-use Rattle.st_top.proofs.Runs.{histories_next}
+use Rattle.st_top.specs.Site.{SiteView}
+use Rattle.st_top.proofs.Runs.{sites_next}
 use Rattle.st_top.proofs.output.print_groups.Goals as goal
 
-pub loop-world-preserved : goal.loop-world-preserved
-loop-world-preserved c = histories_next c.args.apps.now c.args.worlds.now c.loop-world.world-index c.world-item.result c.args.out.now c.loop-world.out c.print_group.new.out c.loop-world-test.true c.loop-world.invariant
-    (c.in_ok-print_group.ensures ∙ ap (λ (w : History). c.loop-world.out ++ group_report w.group c.args.apps.now w.past) c.world-item.is)
+pub loop-site-preserved : goal.loop-site-preserved
+loop-site-preserved c = sites_next c.args.apps.now c.args.sites.now c.loop-site.site-index c.site-item.result c.args.out.now c.loop-site.out c.print_group.new.out c.loop-site-test.true c.loop-site.invariant
+    (c.in_ok-print_group.ensures ∙ ap (λ (s : SiteView). c.loop-site.out ++ group_report s.history.group c.args.apps.now s.history.past) c.site-item.is)

@@ -1,7 +1,7 @@
-use Rattle.std.proofs.Common.{◌≡◌, ◌<◌, ◌≤◌, ◌+◌, List, ℕ, ◌∷◌, length, reverse, take, sym, ◌∙◌, ap, subst, arith}
-use Rattle.std.specs.Prelude.{slice_index_or, slice_set}
+use Rattle.std.proofs.Common.{◌≡◌, ◌<◌, ◌≤◌, ◌+◌, ◌∷◌, length, reverse, take, arith}
+use Rattle.std.specs.Prelude.{slice_index_or}
 use Rattle.std.proofs.lemmas.List.{get_or_default}
-use Rattle.st_top.specs.Schedule.{times, IsFront, ordered as ordered_lem}
+use Rattle.st_top.specs.Schedule.{times}
 use Rattle.st_top.proofs.Schedules.{times_before, names_next, front_next, ordered_next}
 use Rattle.st_top.proofs.schedule.add_ordered.Goals as goal
 

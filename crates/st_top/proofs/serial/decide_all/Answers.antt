@@ -1,10 +1,11 @@
-use Rattle.std.proofs.Common.{length, ◌∙◌, arith}
-use Rattle.st_top.specs.Serial.{all_checked as all_checked_lem}
-use Rattle.st_top.proofs.Lists.{decide_next, upto_all}
+use Rattle.std.proofs.Common.{◌<◌, ◌∙◌, ap, sym, set, Some, length, arith}
+use Rattle.st_world.specs.Rounds.{is_full}
+use Rattle.st_top.proofs.Runs.{decide_full}
 use Rattle.st_top.proofs.serial.decide_all.Goals as goal
 
-pub loop-world-preserved : goal.loop-world-preserved
-loop-world-preserved c = decide_next c.loop-world.world-index all_checked_lem c.args.worlds.now c.loop-world.worlds c.all_checked.new.world _ c.loop-world-test.true c.loop-world.invariant c.in_ok-all_checked.ensures
-
-pub returns : goal.returns
-returns c = c.loop-world.invariant ∙ upto_all c.loop-world.world-index all_checked_lem c.args.worlds.now (omega (arith, c.loop-world-test.false))
+pub returns-in-Full : goal.returns-in-Full
+returns-in-Full c =
+    let low : c.loop-site.site-index < length c.loop-site.sites = omega (arith, c.loop-site-test.true, c.loop-site.auto.sites) in
+    ap (λ m. record { groups = set c.loop-site.sites c.loop-site.site-index c.all_checked.new.site; full = Some m }) c.loop-site.invariant.number
+    ∙ decide_full c.loop-site.site-index c.loop-site.sites c.site-item.result c.all_checked.new.site c.in_ok-all_checked.field-0 low c.in_ok-all_checked.ensures (ap is_full c.in-Full.is)
+    ∙ sym c.loop-site.invariant.past

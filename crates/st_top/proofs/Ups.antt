@@ -1,0 +1,83 @@
+-- Which entities carry traffic: one that the group does not have never does, so the marks of the group's own are the whole set. And what is read
+-- of a group for its report agrees with its journal.
+use Rattle.std.proofs.Common.{◌≡◌, ℕ, ◌≤◌, List, [], ◌∷◌, length, Bool, true, false, not, ◌&&◌, refl, ap, ◌∙◌, subst, arith}
+use Rattle.std.specs.Prelude.{nat_lt}
+use Rattle.std.proofs.lemmas.List.{get_or_past}
+use Rattle.std.proofs.lemmas.Bool.Decides.{nat_tests}
+use mathlib.Core.Path.{fun_ext}
+use Rattle.st_net.specs.declared.entity.Entity.{Entity}
+use Rattle.st_net.specs.declared.entity.Entity.TheVariants.{Device, Link}
+use Rattle.st_net.specs.declared.entity.Vals.{Vals}
+use Rattle.st_net.specs.Entities.{is_same_entity}
+use Rattle.st_net.specs.Groups.{Group, IsEntityOf, no_device, no_link, opening_of}
+use Rattle.st_net.specs.Levels.{carries, level_of}
+use Rattle.st_net.specs.Sets.{Marks, MarksOf, is_in}
+use Rattle.st_event.specs.declared.event.Event.{Event}
+use Rattle.st_event.specs.declared.event.Event.TheVariants.{Finish, Fail}
+use Rattle.st_event.specs.declared.journal.Entry.{Entry}
+use Rattle.st_event.specs.Legal.{Fits, IsLegal}
+use Rattle.st_event.specs.Moments.{busy, work, vals, health, vals_after}
+use Rattle.st_event.specs.Observed.{actual}
+use Rattle.st_event.specs.Standing.{standing_of, settled_in}
+use Rattle.st_overlay.specs.Values.{Values, IsTableOf, value_in}
+use Rattle.st_control.specs.Checker.{Checker, standing_in}
+use Rattle.st_control.specs.Sure.{is_before_link}
+use Rattle.st_control.proofs.Beyond.{all_seen}
+use Rattle.st_report.specs.Standing.{IsStandingOf}
+
+-- an entity of the group is not one that the group does not have
+other_than : (g : Group) (at e : Entity) → IsEntityOf g at → is_before_link g (length g.links) e ≡ false → is_same_entity at e ≡ false
+other_than g (Device i) (Device j) inside beyond = grind (arith, nat_tests)
+other_than g (Link i) (Link j) inside beyond = grind (arith, nat_tests)
+other_than g (Device i) (Link j) inside beyond = refl
+other_than g (Link i) (Device j) inside beyond = refl
+
+-- an event that fits leaves the values of such an entity
+vals_keep : (g : Group) (event : Event) (e : Entity) (at_work : Bool) (begun before : Vals) → Fits g event → is_before_link g (length g.links) e ≡ false → vals_after event e at_work begun before ≡ before
+vals_keep g (Finish at) e at_work begun before fits beyond = rw (other_than g at e fits beyond) refl
+vals_keep g (Fail at given level) e at_work begun before fits beyond = rw (other_than g at e fits.entity beyond) refl
+vals_keep g _ e at_work begun before fits beyond = refl
+
+-- an entity that the group does not have keeps the values that it opens with: no event names it
+vals_beyond : (g : Group) (past : List Entry) (e : Entity) → IsLegal g past → is_before_link g (length g.links) e ≡ false → vals g past e ≡ opening_of g e
+vals_beyond g [] e legal beyond = refl
+vals_beyond g (entry ∷ past) e legal beyond = vals_keep g entry.event e (busy g past e) (work g past e) (vals g past e) legal.0.fits beyond ∙ vals_beyond g past e legal.1 beyond
+
+-- a number that is not less than another is at least that
+not_less : (m n : ℕ) → nat_lt m n ≡ false → n ≤ m
+not_less m n is = grind (arith, nat_tests)
+
+-- at its opening values it carries no traffic, whatever its level
+opens_down : (g : Group) (e : Entity) (level : ℕ) → is_before_link g (length g.links) e ≡ false → carries e (opening_of g e) level ≡ false
+opens_down g (Device i) level beyond = let far = not_less i (length g.devices) beyond in rw (opening_of, get_or_past g.devices i no_device far) refl
+opens_down g (Link i) level beyond = let far = not_less i (length g.links) beyond in rw (opening_of, get_or_past g.links i no_link far) refl
+
+-- of two tests the second fails, so both do not pass
+none_of : (b c : Bool) → c ≡ false → (b && c) ≡ false
+none_of true c is = is
+none_of false c is = refl
+
+-- so it never carries traffic
+not_up : (g : Group) (past : List Entry) (e : Entity) → IsLegal g past → is_before_link g (length g.links) e ≡ false → actual g past e ≡ false
+not_up g past e legal beyond =
+    let level = level_of e (vals g past e) (health g past e) (busy g past e) in
+    none_of (not (busy g past e)) (carries e (vals g past e) level) (ap (λ (v : Vals). carries e v level) (vals_beyond g past e legal beyond) ∙ opens_down g e level beyond)
+
+-- once all links were seen, the entities that are marked are those that carry
+pub up_is : (g : Group) (past : List Entry) (set : Marks) (n : ℕ) → IsLegal g past → n ≡ length g.links → ((e : Entity) → is_in set e ≡ (is_before_link g n e && actual g past e)) → is_in set ≡ actual g past
+up_is g past set n legal count marked = fun_ext (λ e. marked e ∙ all_seen g (actual g past) n e count (λ beyond. not_up g past e legal beyond))
+
+-- what the checker tells of a group, with the entities that carry at the opening and now, is what its report needs
+pub stands : (k : Checker) (g : Group) (past : List Entry) (values : Values) (settled start now : Marks) → k.group ≡ g → standing_in k ≡ standing_of g past → values ≡ k.store.target → IsTableOf k.group values → MarksOf k.group settled → ((e : Entity) → IsEntityOf k.group e → is_in settled e ≡ settled_in k.group (standing_in k) e) → MarksOf g start → is_in start ≡ actual g [] → MarksOf g now → is_in now ≡ actual g past → IsStandingOf g past values settled start now
+stands k g past values settled start now same standing values_are table settled_of settled_are start_of start_is now_of now_is =
+    let settled_on : (e : Entity) → IsEntityOf g e → is_in settled e ≡ settled_in g (standing_in k) e = subst (λ (h : Group). (e : Entity) → IsEntityOf h e → is_in settled e ≡ settled_in h (standing_in k) e) same settled_are in
+    record {
+      table_of = subst (λ (h : Group). IsTableOf h values) same table;
+      table_is = ap value_in values_are ∙ ap (λ s. s.target) standing;
+      settled_of = subst (λ (h : Group). MarksOf h settled) same settled_of;
+      settled_is = λ e inside. settled_on e inside ∙ ap (λ s. settled_in g s e) standing;
+      start_of = start_of;
+      start_is = start_is;
+      now_of = now_of;
+      now_is = now_is;
+    }

@@ -1,0 +1,15 @@
+use Rattle.std.proofs.Common.{ap, ◌∙◌}
+use Rattle.st_overlay.specs.Values.{Values, value_in}
+use Rattle.st_top.specs.Site.{SiteView}
+use Rattle.st_top.specs.Serial.{seen_now as seen_now_lem}
+use Rattle.st_top.proofs.Histories.{IsStoreAt, seen_now_is}
+use Rattle.st_top.proofs.site.Site.seen_now.Goals as goal
+
+pub returns : goal.returns
+returns c =
+    let h = c.self.inside.world.history in
+    let k = c.control.result.now in
+    let store = c.store-store.result.now in
+    let at : IsStoreAt h k store = record { standing = c.control.ensures.standing; versions = c.control.ensures.versions; store_is = c.store-store.ensures.store } in
+    seen_now_is h k store c.version.result c.value.result c.args.entity c.args.var at c.version.ensures.version (c.value.ensures ∙ ap (λ (t : Values). value_in t c.args.entity c.args.var) c.target.ensures.target)
+    ∙ ap (λ (s : SiteView). seen_now_lem s.history c.args.entity c.args.var) c.self.view_is
