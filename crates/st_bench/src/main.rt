@@ -7,15 +7,18 @@ mod document;
 mod group;
 mod network;
 mod promises;
+mod worlds;
 
 use cuts::least_cuts;
 use document::print_document;
 use group::group_of;
 use network::{Network, fat_tree, full_group};
 use promises::{Judged, judge, start};
+use st_net::GroupTopo;
 use std::alloc::{AllocError, Global};
 use std::rt::Runtime;
 use std::{env, io};
+use worlds::{Course, Driven, drive};
 
 /// The network of a work: a fat tree of ten pods, or a random group with as many parts as a group may have.
 fn network_of(alloc: Global, work: &str) -> Result<Option<Network>, AllocError> {
@@ -35,15 +38,24 @@ enum Task {
     Start,
     /// A change of its group, judged by these promises.
     Judge,
+    /// Events of its group's world.
+    Drive(Course),
 }
 
 /// The task that a word names, and what is left of the word.
 fn task_of(word: &str) -> (Task, &str) {
-    if let Some(work) = word.strip_prefix("start-") {
-        return (Task::Start, work);
-    }
-    if let Some(work) = word.strip_prefix("judge-") {
-        return (Task::Judge, work);
+    let tasks = [
+        ("start-", Task::Start),
+        ("judge-", Task::Judge),
+        ("locks-", Task::Drive(Course::Locks)),
+        ("reports-", Task::Drive(Course::Reports)),
+        ("failures-", Task::Drive(Course::Failures)),
+        ("rounds-", Task::Drive(Course::Rounds)),
+    ];
+    for (prefix, task) in &tasks {
+        if let Some(work) = word.strip_prefix(*prefix) {
+            return (*task, work);
+        }
     }
     (Task::Cuts, word)
 }
@@ -78,7 +90,20 @@ fn print_judged(rt: &impl Runtime, word: &str, judged: Judged) -> io::Result<()>
     }
 }
 
-/// Does a work so often, and once at least, and prints what its last time found.
+/// Drives a world of a group so often, and prints how it stands then.
+fn repeat_driven(
+    rt: &impl Runtime,
+    alloc: Global,
+    word: &str,
+    topo: GroupTopo,
+    course: Course,
+    times: u32,
+) -> io::Result<()> {
+    let Driven { entries, unsettled } = drive(alloc, topo, course, times)?;
+    println!(rt; "{word} entries {entries} unsettled {unsettled}")
+}
+
+/// Does a work so often, and prints what its last time found.
 fn repeat(rt: &impl Runtime, alloc: Global, word: &str, times: u32) -> io::Result<()> {
     let (task, work) = task_of(word);
     let Some(network) = network_of(alloc, work)? else {
@@ -90,12 +115,11 @@ fn repeat(rt: &impl Runtime, alloc: Global, word: &str, times: u32) -> io::Resul
     let Some(topo) = group_of(alloc, &network)? else {
         return println!(rt; "{word} is no group");
     };
-    let judged = if let Task::Start = task {
-        start(alloc, &topo, times)?
-    } else {
-        judge(alloc, &topo, times)?
-    };
-    print_judged(rt, word, judged)
+    match task {
+        Task::Drive(course) => repeat_driven(rt, alloc, word, topo, course, times),
+        Task::Judge => print_judged(rt, word, judge(alloc, &topo, times)?),
+        _ => print_judged(rt, word, start(alloc, &topo, times)?),
+    }
 }
 
 fn run(rt: &impl Runtime, alloc: Global, first: &str, second: &str) -> io::Result<()> {

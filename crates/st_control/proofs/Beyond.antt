@@ -16,7 +16,8 @@ use Rattle.st_net.specs.InOrder.{report_in, entity_count}
 use Rattle.st_control.specs.Sure.{shown_by, is_before_link, MarksShown}
 use Rattle.st_control.specs.declared.settled.Shown.TheVariants.{Sure}
 
-not_less : (m n : ℕ) → nat_lt m n ≡ false → n ≤ m
+-- a number that is not less than another is at least that
+pub not_less : (m n : ℕ) → nat_lt m n ≡ false → n ≤ m
 not_less m n is = grind (arith, nat_tests)
 
 -- no set of the group has it
@@ -34,11 +35,13 @@ opening_report_of g observed (Link i) count beyond =
     let n = length-drop (length g.devices) observed in
     get_or_past (drop (length g.devices) observed) i (opening_report g (Link i)) (omega (arith, far, n, count))
 
-carries_not : (g : Group) (e : Entity) (level : ℕ) → is_before_link g (length g.links) e ≡ false → carries e (opening_of g e) level ≡ false
+-- at its opening values it carries no traffic, whatever its level
+pub carries_not : (g : Group) (e : Entity) (level : ℕ) → is_before_link g (length g.links) e ≡ false → carries e (opening_of g e) level ≡ false
 carries_not g (Device i) level beyond = let far = not_less i (length g.devices) beyond in rw (opening_of, get_or_past g.devices i no_device far) refl
 carries_not g (Link i) level beyond = let far = not_less i (length g.links) beyond in rw (opening_of, get_or_past g.links i no_link far) refl
 
-none_and : (b c : Bool) → c ≡ false → (b && c) ≡ false
+-- of two tests the second fails, so both do not pass
+pub none_and : (b c : Bool) → c ≡ false → (b && c) ≡ false
 none_and true c is = is
 none_and false c is = refl
 

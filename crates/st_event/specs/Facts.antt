@@ -23,7 +23,7 @@ pub record IsShown (g : Group) (past : List Entry) (r : Report) : Type 0 where
   pub values : vals g past r.entity ≡ r.vals
   pub level : level_of r.entity (vals g past r.entity) (health g past r.entity) false ≡ r.level
 
--- a report is not from the future; and while its fence is the agent's and the entity has not failed since, the agent is as it shows
+-- a report is not from the future; and where it is not busy, then while its fence is the agent's and the entity has not failed since, the agent is as it shows
 pub record IsTrueOf (g : Group) (past : List Entry) (r : Report) : Type 0 where
   pub behind : r.fence ≤ fence g past r.entity
   pub counted : r.number ≤ number past r.entity

@@ -125,10 +125,6 @@ FenceIsGreatest = (g : Group) (past : List Entry) (e : Entity) → IsGreatestTol
 abbrev pub HolderIsLastGrant : Type 0
 HolderIsLastGrant = (past : List Entry) (e : Entity) (q : Prio) (app : AppId) → (holder past e q ≡ Some app) ↔ IsLastGrant past e q app
 
--- a reply reads its group's topology and journal alone
-abbrev pub RepliesReadOneGroup : Type 0
-RepliesReadOneGroup = (g h : Group) (past other : List Entry) (event : Event) → g ≡ h → past ≡ other → reply g past event ≡ reply h other event
-
 -- each group's journal comes of its own events alone, whatever the other groups are and are asked
 abbrev pub JournalsAreApart : Type 0
 JournalsAreApart = (groups : ℕ → Group) (events : List GroupEvent) (journals : ℕ → List Entry) (k : ℕ) → journals_by groups events journals k ≡ journal_by (groups k) (events_of k events) (journals k)

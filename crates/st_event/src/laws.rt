@@ -1,7 +1,7 @@
 //! Laws of the definitions over journals. Each function does nothing: its contract is the law, for the proofs of the
 //! crates that keep a journal or claim something of one.
 
-ghost use Rattle.st_event.specs.Laws.{AgentsMove, ChecksTakeNoPromise, FenceIsGreatest, FencesNeverFall, FewWait, HolderIsLastGrant, JournalsAreApart, LeastSideIsCut, LeastSideIsOne, LegalAgentsAgree, LegalJournalsKeepPromises, MoreEntitiesKeepPromises, NoSuchCommand, NoSuchReport, NoWalkIsNoCut, ObservedIsGreatest, RepliesReadOneGroup, ReportsAscend, StampsAreEntries, StampsNeverFall, StandingMoves, StandingReplies, TargetMoves, TargetOpens, TestsTellPromises, WiresMove};
+ghost use Rattle.st_event.specs.Laws.{AgentsMove, ChecksTakeNoPromise, FenceIsGreatest, FencesNeverFall, FewWait, HolderIsLastGrant, JournalsAreApart, LeastSideIsCut, LeastSideIsOne, LegalAgentsAgree, LegalJournalsKeepPromises, MoreEntitiesKeepPromises, NoSuchCommand, NoSuchReport, NoWalkIsNoCut, ObservedIsGreatest, ReportsAscend, StampsAreEntries, StampsNeverFall, StandingMoves, StandingReplies, TargetMoves, TargetOpens, TestsTellPromises, WiresMove};
 
 /// Each legal journal of a sound group keeps the group's promises at every moment: a sure entity is up or failed
 /// untold; while nothing fails of itself, a promise that held at the start holds in the sure set, in the network, and
@@ -67,11 +67,9 @@ pub fn holder_is_last_grant()
     ensures { HolderIsLastGrant }
 {}
 
-/// A reply reads its group's topology and journal alone. So in a service of several groups each group's journal comes
-/// of its own events, whatever the other groups are and are asked.
-pub fn reply_reads_group_alone()
-    ensures alike { RepliesReadOneGroup }
-    ensures apart { JournalsAreApart }
+/// In a service of several groups each group's journal comes of its own events, whatever the other groups are and are asked.
+pub fn journals_are_apart()
+    ensures { JournalsAreApart }
 {}
 
 /// A promise that holds goes on to hold with more entities up; and the test that the judge makes says that it holds.

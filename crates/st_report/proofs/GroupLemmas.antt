@@ -8,7 +8,8 @@ use Rattle.st_event.specs.declared.journal.Entry.{Entry}
 use Rattle.st_event.specs.Proposals.{proposals, verdicts, target}
 use Rattle.st_event.specs.Observed.{actual, is_settled}
 use Rattle.st_report.specs.Counted.{head_lines, counts_line, promise_lines}
-use Rattle.st_report.specs.GroupReport.{entities_of, lock_lines, receipt_lines, target_lines, unsettled_lines, wire_line, lost_lines, group_report}
+use Rattle.st_net.specs.InOrder.{entities_of}
+use Rattle.st_report.specs.GroupReport.{lock_lines, receipt_lines, target_lines, unsettled_lines, wire_line, lost_lines, group_report}
 
 -- the lines as far as each printer comes
 abbrev pub to_locks : Group → List (List ℕ) → List Entry → List ℕ

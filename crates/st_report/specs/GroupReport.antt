@@ -1,12 +1,13 @@
 -- The lines of a group in a report, each number by the definitions over its journal.
-use Rattle.std.specs.Prelude.{ℕ, ◌+◌, zero, suc, Bool, true, false, not, ◌&&◌, ◌==◌, List, [], ◌∷◌, ◌++◌, length, codes, decimal, if◌then◌else◌}
+use Rattle.std.specs.Prelude.{ℕ, ◌+◌, Bool, true, false, not, ◌&&◌, ◌==◌, List, [], ◌∷◌, ◌++◌, length, codes, decimal, if◌then◌else◌}
 use Rattle.st_text.specs.Words.{line}
 use Rattle.st_net.specs.declared.entity.Entity.{Entity}
-use Rattle.st_net.specs.declared.entity.Entity.TheVariants.{Device, Link}
+use Rattle.st_net.specs.declared.entity.Entity.TheVariants.{Device}
 use Rattle.st_net.specs.declared.entity.Var.{Var}
 use Rattle.st_net.specs.declared.promise.Promise.{Promise}
 use Rattle.st_net.specs.Entities.{value_of, vars_of}
 use Rattle.st_net.specs.Groups.{Group, opening_of, name_of}
+use Rattle.st_net.specs.InOrder.{entities_of}
 use Rattle.st_net.specs.Promises.{is_kept}
 use Rattle.st_event.specs.declared.event.Event.{Event}
 use Rattle.st_event.specs.declared.event.Event.TheVariants.{Lock, Unlock}
@@ -53,19 +54,6 @@ target_lines g target (e ∷ es) = target_lines_of g target e (vars_of e) ++ tar
 abbrev pub unsettled_lines : Group → (Entity → Bool) → List Entity → List ℕ
 unsettled_lines g settled [] = []
 unsettled_lines g settled (e ∷ es) = (if settled e then [] else line (codes "unsettled") (name_of g e ∷ [])) ++ unsettled_lines g settled es
-
--- the first n devices and links, in order
-abbrev pub first_devices : ℕ → List Entity
-first_devices zero = []
-first_devices (suc n) = first_devices n ++ Device n ∷ []
-
-abbrev pub first_links : ℕ → List Entity
-first_links zero = []
-first_links (suc n) = first_links n ++ Link n ∷ []
-
--- the entities of a group, in order
-abbrev pub entities_of : Group → List Entity
-entities_of g = first_devices (length g.devices) ++ first_links (length g.links)
 
 abbrev pub is_stale : Reply → Bool
 is_stale (Stale fence) = true

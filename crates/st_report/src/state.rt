@@ -7,7 +7,8 @@ ghost use Rattle.st_net.specs.Entities.{value_of, vars_of as vars_of_lem};
 ghost use Rattle.st_net.specs.Groups.{IsEntityOf, name_of, opening_of};
 ghost use Rattle.st_net.specs.Sets.{IsMarkIn, MarksOf, is_in};
 ghost use Rattle.st_overlay.specs.Values.{IsIn, IsTableOf, value_in};
-ghost use Rattle.st_report.specs.GroupReport.{entities_of, target_lines_of, target_lines as target_lines_lem, unsettled_lines as unsettled_lines_lem};
+ghost use Rattle.st_net.specs.InOrder.{entities_of};
+ghost use Rattle.st_report.specs.GroupReport.{target_lines_of, target_lines as target_lines_lem, unsettled_lines as unsettled_lines_lem};
 ghost use Rattle.st_report.specs.Words.{assignment};
 
 use crate::words::{entity_name, var_word};

@@ -22,7 +22,7 @@ use Rattle.st_event.specs.Standing.{standing_of, settled_in}
 use Rattle.st_overlay.specs.Values.{Values, IsTableOf, value_in}
 use Rattle.st_control.specs.Checker.{Checker, standing_in}
 use Rattle.st_control.specs.Sure.{is_before_link}
-use Rattle.st_control.proofs.Beyond.{all_seen}
+use Rattle.st_control.proofs.Beyond.{all_seen, carries_not, none_and}
 use Rattle.st_report.specs.Standing.{IsStandingOf}
 
 -- an entity of the group is not one that the group does not have
@@ -43,25 +43,11 @@ vals_beyond : (g : Group) (past : List Entry) (e : Entity) → IsLegal g past �
 vals_beyond g [] e legal beyond = refl
 vals_beyond g (entry ∷ past) e legal beyond = vals_keep g entry.event e (busy g past e) (work g past e) (vals g past e) legal.0.fits beyond ∙ vals_beyond g past e legal.1 beyond
 
--- a number that is not less than another is at least that
-not_less : (m n : ℕ) → nat_lt m n ≡ false → n ≤ m
-not_less m n is = grind (arith, nat_tests)
-
--- at its opening values it carries no traffic, whatever its level
-opens_down : (g : Group) (e : Entity) (level : ℕ) → is_before_link g (length g.links) e ≡ false → carries e (opening_of g e) level ≡ false
-opens_down g (Device i) level beyond = let far = not_less i (length g.devices) beyond in rw (opening_of, get_or_past g.devices i no_device far) refl
-opens_down g (Link i) level beyond = let far = not_less i (length g.links) beyond in rw (opening_of, get_or_past g.links i no_link far) refl
-
--- of two tests the second fails, so both do not pass
-none_of : (b c : Bool) → c ≡ false → (b && c) ≡ false
-none_of true c is = is
-none_of false c is = refl
-
 -- so it never carries traffic
 not_up : (g : Group) (past : List Entry) (e : Entity) → IsLegal g past → is_before_link g (length g.links) e ≡ false → actual g past e ≡ false
 not_up g past e legal beyond =
     let level = level_of e (vals g past e) (health g past e) (busy g past e) in
-    none_of (not (busy g past e)) (carries e (vals g past e) level) (ap (λ (v : Vals). carries e v level) (vals_beyond g past e legal beyond) ∙ opens_down g e level beyond)
+    none_and (not (busy g past e)) (carries e (vals g past e) level) (ap (λ (v : Vals). carries e v level) (vals_beyond g past e legal beyond) ∙ carries_not g e level beyond)
 
 -- once all links were seen, the entities that are marked are those that carry
 pub up_is : (g : Group) (past : List Entry) (set : Marks) (n : ℕ) → IsLegal g past → n ≡ length g.links → ((e : Entity) → is_in set e ≡ (is_before_link g n e && actual g past e)) → is_in set ≡ actual g past

@@ -5,7 +5,6 @@ use Rattle.std.specs.List.{filter}
 use Rattle.std.proofs.lemmas.Bool.Decides.{nat_tests}
 use Rattle.std.proofs.lemmas.Result.{on_err_weaker}
 use Rattle.std.proofs.lemmas.List.Sums.{length-filter, count_by-le-length}
-use Rattle.std.proofs.lemmas.List.FromFn.{length-map-range_with_len}
 use Rattle.st_net.specs.declared.entity.Entity.{Entity}
 use Rattle.st_net.specs.declared.entity.Entity.TheVariants.{Device, Link}
 use Rattle.st_net.specs.declared.entity.Var.{Var}
@@ -14,6 +13,7 @@ use Rattle.st_net.specs.Groups.{Group, IsEntityOf, IsSound}
 use Rattle.st_net.specs.InOrder.{entities_of, report_in, stamp_in}
 use Rattle.st_net.specs.Merge.{vals_in}
 use Rattle.st_net.specs.Reports.{is_settled_by}
+use Rattle.st_net.proofs.EntityOrder.{entities_count}
 use Rattle.st_net.proofs.Tests.{less}
 use Rattle.st_event.specs.declared.event.Event.{Event}
 use Rattle.st_event.specs.declared.event.Event.TheVariants.{Finish, Report as make_report}
@@ -298,10 +298,6 @@ few_unsettled g past sound =
     let links = sound.few_links in
     let all = entities_count g in
     omega (arith, kept, few, devices, links, all)
-  where
-    -- as many as the devices and the links
-    entities_count : (g : Group) → length (entities_of g) ≡ length g.devices + length g.links
-    entities_count g = rw (length-append, length-map-range_with_len Device 0, length-map-range_with_len Link 0) refl
 
 -- so their count fits, also of a group that is as a sound one
 pub count_fits : (g h : Group) (past : List Entry) (entities : List Entity) (count : ℕ) → IsSound g → h ≡ g → entities ≡ unsettled h past → count ≡ length entities → count < 2 ^ 32

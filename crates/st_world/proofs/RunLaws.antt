@@ -7,6 +7,7 @@ use Rattle.st_net.specs.declared.entity.Entity.{Entity}
 use Rattle.st_net.specs.declared.entity.Entity.TheVariants.{Device, Link}
 use Rattle.st_net.specs.Groups.{Group, IsEntityOf}
 use Rattle.st_net.specs.InOrder.{entities_of}
+use Rattle.st_net.proofs.EntityOrder.{entities_fit}
 use Rattle.st_net.proofs.Tests.{less_is}
 use Rattle.st_event.specs.declared.event.Event.{Event}
 use Rattle.st_event.specs.declared.event.Event.TheVariants.{Send, Deliver, Finish, Report as make_report, Hear}
@@ -101,19 +102,6 @@ newest_arrivals_fit g lines [] = All-nil (Fits g)
 newest_arrivals_fit g lines (entry ∷ past) = arrivals_fit g lines entry.reply
 
 -- the entities that are not settled are ones of the group
-
-range_low : (a n : ℕ) → All (λ i. i < a + n) (range_with_len a n)
-range_low a zero = All-nil (λ i. i < a + zero)
-range_low a (suc n) = All-cons (λ i. i < a + suc n) a (range_with_len (a + 1) n) (omega arith)
-    (All-weaker (λ i. i < a + 1 + n) (λ i. i < a + suc n) (λ i low. omega arith) (range_with_len (a + 1) n) (range_low (a + 1) n))
-
-pub entities_fit : (g : Group) → All (IsEntityOf g) (entities_of g)
-entities_fit g =
-    let devices = length g.devices in
-    let links = length g.links in
-    All-append (IsEntityOf g) (map Device (range_with_len 0 devices)) (map Link (range_with_len 0 links))
-    (All-map (IsEntityOf g) Device (range_with_len 0 devices) (All-weaker (λ i. i < 0 + devices) (λ i. i < devices) (λ i low. omega arith) (range_with_len 0 devices) (range_low 0 devices)))
-    (All-map (IsEntityOf g) Link (range_with_len 0 links) (All-weaker (λ i. i < 0 + links) (λ i. i < links) (λ i low. omega arith) (range_with_len 0 links) (range_low 0 links)))
 
 pub unsettled_fit : (g : Group) (past : List Entry) → All (IsEntityOf g) (unsettled g past)
 unsettled_fit g past = All-filter _ (IsEntityOf g) (entities_of g) (entities_fit g)

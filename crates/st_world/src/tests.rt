@@ -1,17 +1,22 @@
 //! Worked courses of events on the two-path group: two ToRs, t1 and t2, joined by way of two switches, a1 and a2, with a promise of
 //! half the capacity between them. Each reply is worked out by hand.
 
+ghost use Rattle.std.specs.Prelude.{◌+◌, ◌^◌, ◌<◌};
+
 mod replies;
 mod two_path;
 
 use crate::World;
-use replies::{accept, firmware, has_entry, has_firmware, is_full, leaves, round_leads, told};
-use st_event::{Event, MAX_ENTRIES};
+use replies::{
+    accept, firmware, firmware_row, has_entry, has_firmware, is_full, leaves, round_leads, told,
+};
+use st_control::{Check, Control};
+use st_event::{Event, MAX_ENTRIES, Receipt, Verdict};
 use st_net::{AppId, Entity, Prio, Vals};
 use st_wire::{WireKind, WireLine};
 use std::alloc::Global;
 use std::test::Fail;
-use two_path::world_with;
+use two_path::{topo, world_with};
 
 const A1: Entity = Entity::Device(2);
 
@@ -241,4 +246,40 @@ fn a_row_of_an_entity_that_failed_is_blocked(rt: HostRuntime) -> Result<(), Fail
     let alloc = rt.alloc();
     let mut world = plain_world(alloc)?;
     blocked(alloc, &mut world)
+}
+
+fn proposed(alloc: Global, control: &mut Control) -> Result<(), Fail>
+    requires { control.old.store.tickets + 1 < 2 ^ 32 }
+{
+    let rows = firmware_row(alloc, A1, 2)?;
+    if !control.topo().rows_fit(rows.as_slice()) {
+        return Err(Fail::new("the row does not fit"));
+    }
+    control.submit(UP, rows)?;
+    Ok(())
+}
+
+fn decided_alone(control: &mut Control) -> Result<(), Fail> {
+    match control.check(2)? {
+        Check::Decided(
+            Receipt {
+                ticket: 1,
+                entry: 2,
+                verdict: Verdict::Accepted { version: 1 },
+            },
+        ) => {}
+        _ => return Err(Fail::new("not accepted as ticket 1 and version 1")),
+    }
+    match control.check(3)? {
+        Check::Idle => Ok(()),
+        Check::Decided(_) => Err(Fail::new("nothing was pending")),
+    }
+}
+
+#[test]
+fn a_checker_decides_without_a_world(rt: HostRuntime) -> Result<(), Fail> {
+    let alloc = rt.alloc();
+    let mut control = Control::start(alloc, topo(alloc)?)?;
+    proposed(alloc, &mut control)?;
+    decided_alone(&mut control)
 }

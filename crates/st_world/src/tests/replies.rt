@@ -101,16 +101,21 @@ pub fn leaves(world: &World, entities: &[Entity]) -> Result<(), Fail> {
     expect(unsettled.as_slice() == entities)
 }
 
-/// The firmware of an entity, as a proposal of the second application.
-pub fn firmware(alloc: Global, entity: Entity, value: u32) -> Result<Event, Fail> {
+/// The firmware of an entity.
+pub fn firmware_row(alloc: Global, entity: Entity, value: u32) -> Result<Rows, AllocError> {
     let row = Row {
         entity,
         var: Var::Firmware,
         value,
     };
+    Rows::from_slice(alloc, [row].as_slice())
+}
+
+/// The firmware of an entity, as a proposal of the second application.
+pub fn firmware(alloc: Global, entity: Entity, value: u32) -> Result<Event, Fail> {
     Ok(Event::Submit {
         app: AppId(1),
-        rows: Rows::from_slice(alloc, [row].as_slice())?,
+        rows: firmware_row(alloc, entity, value)?,
     })
 }
 

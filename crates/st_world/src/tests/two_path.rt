@@ -80,7 +80,7 @@ fn parts(alloc: Global) -> Result<Parts, Fail>
 }
 
 /// The group.
-fn topo(alloc: Global) -> Result<GroupTopo, Fail> {
+pub fn topo(alloc: Global) -> Result<GroupTopo, Fail> {
     let parts = parts(alloc)?;
     match GroupTopo::build(alloc, &parts)? {
         Built::Topo(topo) => Ok(topo),

@@ -1,12 +1,12 @@
 use Rattle.std.proofs.Common.{arith}
-use Rattle.st_report.proofs.EntityLemmas.{length-entities, device_of, link_of}
+use Rattle.st_net.proofs.EntityOrder.{entities_count, device_at, link_at}
 use Rattle.st_report.proofs.state.entity_at.Goals as goal
 
 pub returns-then-place-devices-clause-at : goal.returns-then-place-devices-clause-at
-returns-then-place-devices-clause-at c = device_of c.args.topo.now c.args.place _ (omega (arith, c.device_count-devices.ensures, c.if-place-devices.true))
+returns-then-place-devices-clause-at c = device_at c.args.topo.now c.args.place _ (omega (arith, c.device_count-devices.ensures, c.if-place-devices.true))
 
 pub returns-else-place-devices-clause-of : goal.returns-else-place-devices-clause-of
-returns-else-place-devices-clause-of c = let all = length-entities c.args.topo.now in omega (arith, all, c.requires, c.device_count-devices.ensures, c.if-place-devices.false)
+returns-else-place-devices-clause-of c = let all = entities_count c.args.topo.now in omega (arith, all, c.requires, c.device_count-devices.ensures, c.if-place-devices.false)
 
 pub returns-else-place-devices-clause-at : goal.returns-else-place-devices-clause-at
-returns-else-place-devices-clause-at c = link_of c.args.topo.now c.args.place c.device_count-devices.result _ c.device_count-devices.ensures c.if-place-devices.false c.requires
+returns-else-place-devices-clause-at c = link_at c.args.topo.now c.args.place c.device_count-devices.result _ c.device_count-devices.ensures c.if-place-devices.false c.requires

@@ -1,6 +1,7 @@
 use Rattle.std.proofs.Common.{◌≡◌, ◌++◌, take}
 use Rattle.st_overlay.specs.Values.{value_in}
-use Rattle.st_report.specs.GroupReport.{entities_of, target_lines}
+use Rattle.st_net.specs.InOrder.{entities_of}
+use Rattle.st_report.specs.GroupReport.{target_lines}
 use Rattle.st_report.proofs.state.target_lines.Given as goal
 
 abbrev pub invariant-loop-place : goal.invariant-loop-place

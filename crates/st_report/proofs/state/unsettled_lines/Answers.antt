@@ -1,6 +1,6 @@
 use Rattle.std.proofs.Common.{◌<◌, length, arith}
 use Rattle.st_text.proofs.PrintLemmas.{by_next, by_part, err_of}
-use Rattle.st_report.specs.GroupReport.{entities_of}
+use Rattle.st_net.specs.InOrder.{entities_of}
 use Rattle.st_report.proofs.EntityLemmas.{unsettled_by, marked}
 use Rattle.st_report.proofs.state.unsettled_lines.Goals as goal
 
