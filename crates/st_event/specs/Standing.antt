@@ -1,9 +1,8 @@
 -- How a group stands: all that a reply is given from. One part is what the checker keeps, the other is the network.
-use Rattle.std.specs.Prelude.{ℕ, ◌+◌, nat_lt, Bool, true, false, List, [], ◌∷◌, ◌++◌, length, Option, Some, None, if◌then◌else◌}
+use Rattle.std.specs.Prelude.{ℕ, ◌+◌, nat_lt, Bool, List, [], ◌∷◌, ◌++◌, length, Option, if◌then◌else◌}
 use Rattle.st_net.specs.declared.entity.AppId.{AppId}
 use Rattle.st_net.specs.declared.entity.Row.{Row}
 use Rattle.st_net.specs.declared.entity.Var.{Var}
-use Rattle.st_net.specs.declared.entity.Vals.{Vals}
 use Rattle.st_net.specs.declared.entity.Entity.{Entity}
 use Rattle.st_net.specs.declared.entity.Prio.{Prio}
 use Rattle.st_event.specs.declared.event.Proposal.{Proposal}
