@@ -1,10 +1,8 @@
 -- What each step of a round does to a journal: it only adds entries, adds none once an event met the journal full, and keeps it legal.
-use Rattle.std.proofs.Common.{◌≡◌, ℕ, ◌+◌, ◌<◌, zero, suc, List, [], ◌∷◌, ◌++◌, length, refl, ap, sym, ◌∙◌, append_assoc, arith}
-use Rattle.std.specs.Prelude.{Bool, true, false, nat_lt, map, All, if◌then◌else◌}
-use Rattle.std.specs.List.{range_with_len}
-use Rattle.std.proofs.lemmas.List.Elements.{All-nil, All-cons, All-head, All-tail, All-append, All-map, All-filter, All-weaker}
+use Rattle.std.proofs.Common.{◌≡◌, List, [], ◌∷◌, ◌++◌, length, refl, ap, sym, ◌∙◌, append_assoc}
+use Rattle.std.specs.Prelude.{Bool, true, false, nat_lt, All, if◌then◌else◌}
+use Rattle.std.proofs.lemmas.List.Elements.{All-nil, All-head, All-tail, All-map, All-filter}
 use Rattle.st_net.specs.declared.entity.Entity.{Entity}
-use Rattle.st_net.specs.declared.entity.Entity.TheVariants.{Device, Link}
 use Rattle.st_net.specs.Groups.{Group, IsEntityOf}
 use Rattle.st_net.specs.InOrder.{entities_of}
 use Rattle.st_net.proofs.EntityOrder.{entities_fit}
