@@ -1,15 +1,13 @@
 -- Which entities carry traffic: one that the group does not have never does, so the marks of the group's own are the whole set. And what is read
 -- of a group for its report agrees with its journal.
-use Rattle.std.proofs.Common.{◌≡◌, ℕ, ◌≤◌, List, [], ◌∷◌, length, Bool, true, false, not, ◌&&◌, refl, ap, ◌∙◌, subst, arith}
-use Rattle.std.specs.Prelude.{nat_lt}
-use Rattle.std.proofs.lemmas.List.{get_or_past}
+use Rattle.std.proofs.Common.{◌≡◌, ℕ, List, [], ◌∷◌, length, Bool, false, not, ◌&&◌, refl, ap, ◌∙◌, subst, arith}
 use Rattle.std.proofs.lemmas.Bool.Decides.{nat_tests}
 use mathlib.Core.Path.{fun_ext}
 use Rattle.st_net.specs.declared.entity.Entity.{Entity}
 use Rattle.st_net.specs.declared.entity.Entity.TheVariants.{Device, Link}
 use Rattle.st_net.specs.declared.entity.Vals.{Vals}
 use Rattle.st_net.specs.Entities.{is_same_entity}
-use Rattle.st_net.specs.Groups.{Group, IsEntityOf, no_device, no_link, opening_of}
+use Rattle.st_net.specs.Groups.{Group, IsEntityOf, opening_of}
 use Rattle.st_net.specs.Levels.{carries, level_of}
 use Rattle.st_net.specs.Sets.{Marks, MarksOf, is_in}
 use Rattle.st_event.specs.declared.event.Event.{Event}
