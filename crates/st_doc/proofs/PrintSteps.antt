@@ -9,14 +9,14 @@ use Rattle.st_text.proofs.WordLemmas.{word_lines_cut_again, words_cut_again, wor
 use Rattle.st_net.proofs.Tests.{both, turned}
 use Rattle.st_net.specs.Names.{is_among}
 use Rattle.st_net.specs.Groups.{are_new}
-use Rattle.st_doc.specs.declared.doc.Doc.{Doc}
-use Rattle.st_doc.specs.declared.fault.DocKind.{DocKind}
-use Rattle.st_doc.specs.Steps.{◌>>=◌}
-use Rattle.st_doc.specs.Draft.{Draft, nothing}
-use Rattle.st_doc.specs.Lines.{tokens_line, line_of}
-use Rattle.st_doc.specs.Reading.{read_on, doc_of, document_of}
+use Rattle.st_grammar.specs.declared.doc.Doc.{Doc}
+use Rattle.st_grammar.specs.declared.fault.DocKind.{DocKind}
+use Rattle.st_grammar.specs.Steps.{◌>>=◌}
+use Rattle.st_grammar.specs.Draft.{Draft, nothing}
+use Rattle.st_grammar.specs.Lines.{tokens_line, line_of}
+use Rattle.st_grammar.specs.Reading.{read_on, doc_of, document_of}
+use Rattle.st_grammar.proofs.SoundLines.{came_from}
 use Rattle.st_doc.specs.Printed.{Words}
-use Rattle.st_doc.proofs.SoundLines.{came_from}
 
 -- what lines of words, one after another, make of a draft
 abbrev pub takes : Draft → List Words → Result Draft DocKind

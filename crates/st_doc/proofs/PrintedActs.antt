@@ -23,20 +23,20 @@ use Rattle.st_net.specs.Ranges.{RowFits, RowsFit, is_health_of, is_in_range, is_
 use Rattle.st_net.specs.Faults.{group_of, device_names, link_names, device_opening, link_opening}
 use Rattle.st_event.specs.declared.act.Act.{Act}
 use Rattle.st_event.specs.declared.act.Act.TheVariants.{Propose, Await, Settle, Lock, Unlock, Read, ReadAt, Fail, Poll}
-use Rattle.st_doc.specs.declared.keyword.Keyword.TheVariants as keywords
-use Rattle.st_doc.specs.declared.keyword.CommandWord.{CommandWord}
-use Rattle.st_doc.specs.declared.keyword.CommandWord.TheVariants as command_words
-use Rattle.st_doc.specs.declared.limits.TheConstants.{MAX_ACTS, MAX_ROUNDS}
-use Rattle.st_doc.specs.declared.doc.Script.{Script}
-use Rattle.st_doc.specs.Draft.{GroupDraft, Draft, groups_of, group_names, parts_of}
-use Rattle.st_doc.specs.Spelling.{known_name_in, entity_named, most_health}
-use Rattle.st_doc.specs.Lines.{rows_in, values_in, group_in, group_entity_in, propose_of, await_of, settle_of, lock_of, unlock_of, read_of, readat_of, fail_of, poll_of, act_of, act_added, act_line, keyword_of, is_comment, tokens_line, keyword_line, phased_line}
-use Rattle.st_doc.specs.Sound.{IsSoundGroup, IsSoundAct, IsGroupWith, IsVariableOf, IsChangeOf, IsOn}
+use Rattle.st_grammar.specs.declared.keyword.Keyword.TheVariants as keywords
+use Rattle.st_grammar.specs.declared.keyword.CommandWord.{CommandWord}
+use Rattle.st_grammar.specs.declared.keyword.CommandWord.TheVariants as command_words
+use Rattle.st_grammar.specs.declared.limits.TheConstants.{MAX_ACTS, MAX_ROUNDS}
+use Rattle.st_grammar.specs.declared.doc.Script.{Script}
+use Rattle.st_grammar.specs.Draft.{GroupDraft, Draft, groups_of, group_names, parts_of}
+use Rattle.st_grammar.specs.Spelling.{known_name_in, entity_named, most_health}
+use Rattle.st_grammar.specs.Lines.{rows_in, values_in, group_in, group_entity_in, propose_of, await_of, settle_of, lock_of, unlock_of, read_of, readat_of, fail_of, poll_of, act_of, act_added, act_line, keyword_of, is_comment, tokens_line, keyword_line, phased_line}
+use Rattle.st_grammar.specs.Sound.{IsSoundGroup, IsSoundAct, IsGroupWith, IsVariableOf, IsChangeOf, IsOn}
+use Rattle.st_grammar.proofs.SoundGroups.{IsSoundDraftGroup}
+use Rattle.st_grammar.proofs.SoundActs.{flipped, same_flipped, free_last}
+use Rattle.st_grammar.proofs.SoundParts.{drafted, sound_parts}
+use Rattle.st_grammar.proofs.SoundDocs.{names_of}
 use Rattle.st_doc.specs.Printed.{Words, prio_word, assignment_word, value_word, variable_word, no_parts, group_at, entity_word, assignment_words, value_words, act_words}
-use Rattle.st_doc.proofs.SoundGroups.{IsSoundDraftGroup}
-use Rattle.st_doc.proofs.SoundActs.{flipped, same_flipped, free_last}
-use Rattle.st_doc.proofs.SoundParts.{drafted, sound_parts}
-use Rattle.st_doc.proofs.SoundDocs.{names_of}
 use Rattle.st_doc.proofs.PrintSteps.{Prints, prints_line, amid, new_before}
 use Rattle.st_doc.proofs.PrintedTokens.{row_of, name_word, number_is_word, prio_is_word, assignment_is_word, value_is_word, variable_is_word, literal, ranged, known_name_again, entity_again, number_again, within_again, prio_again, new_assignment_again, new_value_again, variable_again}
 use Rattle.st_doc.proofs.PrintedParts.{each_spelled, names_amid, device_new, link_new}

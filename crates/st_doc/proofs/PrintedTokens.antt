@@ -22,11 +22,11 @@ use Rattle.st_net.specs.Ranges.{is_in_range, is_free_of}
 use Rattle.st_net.specs.Faults.{device_names}
 use Rattle.st_wire.specs.declared.line.WireKind.{WireKind}
 use Rattle.st_wire.specs.declared.line.WireKind.TheVariants.{Command, Report}
-use Rattle.st_doc.specs.Places.{cut_at}
-use Rattle.st_doc.specs.Draft.{GroupDraft, has_health}
-use Rattle.st_doc.specs.Spelling.{new_name_in, known_name_in, device_in, entity_named, entity_in, number_in, number_within, number_from, number_above, is_tor_word, end_in, var_in, set_in, assigned_in, dotted_in, assignment_in, new_assignment_in, untold_in, dotted_variable_in, variable_in, new_value_in, prio_in, wire_kind_in}
+use Rattle.st_grammar.specs.Places.{cut_at}
+use Rattle.st_grammar.specs.Draft.{GroupDraft, has_health}
+use Rattle.st_grammar.specs.Spelling.{new_name_in, known_name_in, device_in, entity_named, entity_in, number_in, number_within, number_from, number_above, is_tor_word, end_in, var_in, set_in, assigned_in, dotted_in, assignment_in, new_assignment_in, untold_in, dotted_variable_in, variable_in, new_value_in, prio_in, wire_kind_in}
+use Rattle.st_grammar.proofs.SoundGroups.{each}
 use Rattle.st_doc.specs.Printed.{tor_word, var_word, prio_word, wire_kind_word, value_word, assignment_word, variable_word}
-use Rattle.st_doc.proofs.SoundGroups.{each}
 
 -- bytes of a name are visible, and none of them cuts a token
 abbrev AreNameBytes : List ℕ → Type 0

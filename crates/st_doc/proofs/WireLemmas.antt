@@ -4,8 +4,8 @@ use Rattle.std.specs.Prelude.{option_to_list, option_map}
 use Rattle.std.proofs.lemmas.Bool.{lt-ltb}
 use Rattle.std.proofs.lemmas.List.{map-append}
 use Rattle.st_wire.specs.declared.line.WireLine.{WireLine}
-use Rattle.st_doc.specs.Draft.{GroupDraft, Draft, group_names, with_wire, wired}
-use Rattle.st_doc.specs.Lines.{with_wire_line}
+use Rattle.st_grammar.specs.Draft.{GroupDraft, Draft, group_names, with_wire, wired}
+use Rattle.st_grammar.specs.Lines.{with_wire_line}
 use Rattle.st_doc.specs.ReaderInside.{KnowsNames}
 
 names_set : (gs : List GroupDraft) (i : ℕ) (g h : GroupDraft) → g ≡ get_or gs i g → h.name ≡ g.name → map (λ (g : GroupDraft). g.name) (set gs i h) ≡ map (λ (g : GroupDraft). g.name) gs

@@ -1,12 +1,3 @@
-pub mod Steps
-pub mod Places
-pub mod Draft
-pub mod Spelling
-pub mod Lines
-pub mod Reading
-pub mod RowsInside
-pub mod GroupInside
 pub mod ReaderInside
-pub mod Sound
 pub mod Printed
 pub mod ReadingBack

@@ -21,9 +21,9 @@ use Rattle.st_wire.specs.declared.line.WireKind.{WireKind}
 use Rattle.st_wire.specs.declared.line.WireKind.TheVariants.{Command, Report}
 use Rattle.st_wire.specs.declared.line.WireLine.{WireLine}
 use Rattle.st_wire.specs.declared.line.WireLine.TheVariants.{Drop, Repeat, Hold}
-use Rattle.st_doc.specs.declared.doc.Doc.{Doc}
-use Rattle.st_doc.specs.declared.doc.Script.{Script}
-use Rattle.st_doc.specs.declared.limits.TheConstants.{DEVICE_HEALTH, LINK_HEALTH}
+use Rattle.st_grammar.specs.declared.doc.Doc.{Doc}
+use Rattle.st_grammar.specs.declared.doc.Script.{Script}
+use Rattle.st_grammar.specs.declared.limits.TheConstants.{DEVICE_HEALTH, LINK_HEALTH}
 
 -- a line's words, and lines of words
 abbrev pub Words : Type 0

@@ -1,8 +1,8 @@
 -- The fields of a reader, and what its indexes keep.
 use Rattle.std.specs.Prelude.{◌≡◌, ◌≤◌, ℕ, List, length}
+use Rattle.st_grammar.specs.declared.limits.TheConstants.{MAX_GROUPS, MAX_APPS}
+use Rattle.st_grammar.specs.Draft.{Draft, group_names, app_names}
 use Rattle.st_doc.specs.declared.reader.Reader.TheInside.{Inside}
-use Rattle.st_doc.specs.declared.limits.TheConstants.{MAX_GROUPS, MAX_APPS}
-use Rattle.st_doc.specs.Draft.{Draft, group_names, app_names}
 
 abbrev pub draft_of : Inside → Draft
 draft_of r = record {

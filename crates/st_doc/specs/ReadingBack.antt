@@ -1,9 +1,9 @@
 -- What is printed of a document is read as the document.
 use Rattle.std.specs.Prelude.{◌≡◌, Ok}
-use Rattle.st_doc.specs.declared.doc.Doc.{Doc}
+use Rattle.st_grammar.specs.declared.doc.Doc.{Doc}
+use Rattle.st_grammar.specs.Reading.{document_of}
+use Rattle.st_grammar.specs.Sound.{IsSoundDoc}
 use Rattle.st_doc.specs.Printed.{printed_doc, without_journals}
-use Rattle.st_doc.specs.Reading.{document_of}
-use Rattle.st_doc.specs.Sound.{IsSoundDoc}
 
 -- a sound document that is printed is read back, without the place of its journals
 abbrev pub PrintsBack : Type 0

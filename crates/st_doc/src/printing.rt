@@ -3,9 +3,9 @@
 ghost use Rattle.std.specs.Prelude.{◌≡◌, ◌++◌, ◌∷◌, [], OnOk, OnErr, Ok, flat_map, map};
 ghost use Rattle.st_text.specs.Words.{text_of};
 ghost use Rattle.st_text.specs.Printed.{HoldsPart};
+ghost use Rattle.st_grammar.specs.Reading.{document_of};
+ghost use Rattle.st_grammar.specs.Sound.{IsSoundDoc};
 ghost use Rattle.st_doc.specs.Printed.{group_lines, app_name_at, app_lines, order_words, doc_lines, printed_doc, without_journals};
-ghost use Rattle.st_doc.specs.Reading.{document_of};
-ghost use Rattle.st_doc.specs.Sound.{IsSoundDoc};
 
 mod acts;
 mod opening;
@@ -13,10 +13,10 @@ mod parts;
 mod wires;
 mod words;
 
-use crate::doc::{Doc, Script};
 use acts::print_acts;
 use opening::{print_healths, print_opens};
 use parts::{print_devices, print_links, print_promises};
+use st_grammar::{Doc, Script};
 use st_net::Parts;
 use st_text::{Text, Word};
 use std::alloc::AllocError;

@@ -3,21 +3,19 @@
 ghost use Rattle.std.specs.Prelude.{◌≡◌, ◌<◌, ◌^◌, ◌++◌, [], ◌∷◌, length, map, OnOk, IfOk, All, Some, false, slice_get, option_copied, option_to_list};
 ghost use Rattle.st_text.specs.Tokens.{token_in, IsTokenOf};
 ghost use Rattle.st_net.specs.Names.{is_among};
-ghost use Rattle.st_doc.specs.Steps.{Gives};
-ghost use Rattle.st_doc.specs.Draft.{nothing, empty_group, empty_script, groups_of, apps_of, group_names, app_names, parts_of};
-ghost use Rattle.st_doc.specs.Spelling.{known_name_in};
-ghost use Rattle.st_doc.specs.Lines.{has_section, is_allowed, begun_name, into_group, part_line, wire_of, wire_count, with_wire_line, wire_line, group_line, app_line, group_in, act_of, act_added, act_line, known_names_in, order_line, declared_by, phased_line, keyword_line, header_line, tokens_line, line_of};
-ghost use Rattle.st_doc.specs.Reading.{doc_of};
+ghost use Rattle.st_grammar.specs.Steps.{Gives};
+ghost use Rattle.st_grammar.specs.Draft.{nothing, empty_group, empty_script, groups_of, apps_of, group_names, app_names, parts_of};
+ghost use Rattle.st_grammar.specs.Spelling.{known_name_in};
+ghost use Rattle.st_grammar.specs.Lines.{has_section, is_allowed, begun_name, into_group, part_line, wire_of, wire_count, with_wire_line, wire_line, group_line, app_line, group_in, act_of, act_added, act_line, known_names_in, order_line, declared_by, phased_line, keyword_line, header_line, tokens_line, line_of};
+ghost use Rattle.st_grammar.specs.Reading.{doc_of};
 
-use crate::doc::{Doc, Script};
-use crate::fault::{DocKind, LineError};
-use crate::group::Group;
-use crate::keyword::{CommandWord, Keyword, PartWord, WireWord, is_comment, keyword_of, phase_of};
-use crate::limits::{MAX_ACTS, MAX_APPS, MAX_GROUPS, MAX_WIRE_LINES};
-use crate::lists::{Acts, AppOrder, DocGroups, DocWires, Scripts};
-use crate::names::Names;
-use crate::spelling::{known_name_in, new_name_in, one_of};
+use st_draft::{Group, Names, known_name_in, new_name_in, one_of};
 use st_event::Act;
+use st_grammar::{
+    Acts, AppOrder, CommandWord, Doc, DocGroups, DocKind, DocWires, Keyword, LineError, MAX_ACTS,
+    MAX_APPS, MAX_GROUPS, MAX_WIRE_LINES, PartWord, Script, Scripts, WireWord, is_comment,
+    keyword_of, phase_of,
+};
 use st_net::Name;
 use st_text::{Token, has_allowed_bytes, tokens};
 use st_wire::WireLine;
@@ -41,7 +39,7 @@ pub struct Reader {
 }
 
 impl Model for Reader {
-    ghost use Rattle.st_doc.specs.Draft.{Draft};
+    ghost use Rattle.st_grammar.specs.Draft.{Draft};
     ghost use Rattle.st_doc.specs.ReaderInside.{draft_of, KnowsNames};
 
     ghost Value = { Draft };
@@ -52,7 +50,7 @@ impl Model for Reader {
 }
 
 /// The name of a new section, where there are at most so many.
-#[tactic(auto, unfolding(crate::specs::Lines::begun_name, crate::specs::Spelling::new_name_in))]
+#[tactic(auto, unfolding(st_grammar::specs::Lines::begun_name, st_grammar::specs::Spelling::new_name_in))]
 fn begun_name(
     alloc: Global,
     names: &Names,
@@ -75,7 +73,7 @@ fn begun_name(
 }
 
 /// The places of declared names.
-#[tactic(auto, unfolding(crate::specs::Lines::known_names_in))]
+#[tactic(auto, unfolding(st_grammar::specs::Lines::known_names_in))]
 fn known_names_in(
     alloc: Global,
     names: &Names,
@@ -189,7 +187,7 @@ impl Reader {
     }
 
     /// Takes a `group` line.
-    #[tactic(auto, unfolding(crate::specs::Lines::group_line))]
+    #[tactic(auto, unfolding(st_grammar::specs::Lines::group_line))]
     fn group(&mut self, line: &[u8], tokens: &[Token]) -> Result<(), LineError>
         requires { All (IsTokenOf line.now) tokens.now }
         ensures { Gives (λ _. self.new) result (group_line self.old (map (token_in line.now) tokens.now)) }
@@ -217,7 +215,7 @@ impl Reader {
     }
 
     /// Takes an `app` line.
-    #[tactic(auto, unfolding(crate::specs::Lines::app_line))]
+    #[tactic(auto, unfolding(st_grammar::specs::Lines::app_line))]
     fn app(&mut self, line: &[u8], tokens: &[Token]) -> Result<(), LineError>
         requires { All (IsTokenOf line.now) tokens.now }
         ensures { Gives (λ _. self.new) result (app_line self.old (map (token_in line.now) tokens.now)) }
@@ -239,7 +237,7 @@ impl Reader {
     }
 
     /// Takes an `order` line.
-    #[tactic(auto, unfolding(crate::specs::Lines::order_line))]
+    #[tactic(auto, unfolding(st_grammar::specs::Lines::order_line))]
     fn order(&mut self, line: &[u8], tokens: &[Token]) -> Result<(), LineError>
         requires { All (IsTokenOf line.now) tokens.now }
         ensures { Gives (λ _. self.new) result (order_line self.old (map (token_in line.now) tokens.now)) }
@@ -281,7 +279,7 @@ impl Reader {
     }
 
     /// Takes a wire line.
-    #[tactic(auto, unfolding(crate::specs::Lines::wire_line))]
+    #[tactic(auto, unfolding(st_grammar::specs::Lines::wire_line))]
     fn wire(&mut self, word: WireWord, line: &[u8], tokens: &[Token]) -> Result<(), LineError>
         requires { All (IsTokenOf line.now) tokens.now }
         ensures { Gives (λ _. self.new) result (wire_line self.old (wire_of self.old word (map (token_in line.now) tokens.now))) }
@@ -321,7 +319,7 @@ impl Reader {
     }
 
     /// The group of a name, with its number.
-    #[tactic(auto, unfolding(crate::specs::Lines::group_in))]
+    #[tactic(auto, unfolding(st_grammar::specs::Lines::group_in))]
     pub fn group_in(&self, token: &[u8]) -> Result<(u32, &Group), LineError>
         ensures { Gives (λ g. (g.0, g.1.now)) result (group_in self.now token.now) }
     {
@@ -333,7 +331,7 @@ impl Reader {
     }
 
     /// Adds a command to the application that is begun.
-    #[tactic(auto, unfolding(crate::specs::Lines::act_added))]
+    #[tactic(auto, unfolding(st_grammar::specs::Lines::act_added))]
     fn add_act(&mut self, act: Act) -> Result<(), LineError>
         ensures { Gives (λ _. self.new) result (act_added self.old act) }
     {
@@ -350,7 +348,7 @@ impl Reader {
     }
 
     /// Takes a command.
-    #[tactic(auto, unfolding(crate::specs::Lines::act_line))]
+    #[tactic(auto, unfolding(st_grammar::specs::Lines::act_line))]
     fn act(&mut self, word: CommandWord, line: &[u8], tokens: &[Token]) -> Result<(), LineError>
         requires { All (IsTokenOf line.now) tokens.now }
         ensures { Gives (λ _. self.new) result (act_line self.old (act_of self.old word (map (token_in line.now) tokens.now))) }
@@ -375,7 +373,7 @@ impl Reader {
     }
 
     /// Takes the line of a keyword, and notes its phase.
-    #[tactic(auto, unfolding(crate::specs::Lines::phased_line))]
+    #[tactic(auto, unfolding(st_grammar::specs::Lines::phased_line))]
     fn phased(&mut self, keyword: Keyword, line: &[u8], tokens: &[Token]) -> Result<(), LineError>
         requires { All (IsTokenOf line.now) tokens.now }
         ensures { Gives (λ _. self.new) result (phased_line self.old keyword (map (token_in line.now) tokens.now)) }
@@ -386,7 +384,7 @@ impl Reader {
     }
 
     /// Takes a line that begins with this word.
-    #[tactic(auto, unfolding(crate::specs::Lines::keyword_line))]
+    #[tactic(auto, unfolding(st_grammar::specs::Lines::keyword_line))]
     fn keyword_line(&mut self, word: &[u8], line: &[u8], tokens: &[Token]) -> Result<(), LineError>
         requires { All (IsTokenOf line.now) tokens.now }
         ensures { Gives (λ _. self.new) result (keyword_line self.old word.now (map (token_in line.now) tokens.now)) }
@@ -438,7 +436,7 @@ impl Reader {
     }
 
     /// Takes a line, given without its end.
-    #[tactic(auto, unfolding(crate::specs::Lines::line_of))]
+    #[tactic(auto, unfolding(st_grammar::specs::Lines::line_of))]
     pub fn line(&mut self, line: &[u8]) -> Result<(), LineError>
         ensures { Gives (λ _. self.new) result (line_of self.old line.now) }
     {

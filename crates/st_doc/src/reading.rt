@@ -3,12 +3,11 @@
 
 ghost use Rattle.std.specs.Prelude.{◌≡◌, ◌<◌, All, length, map, IfOk, MatchOption, Ok, Err, false};
 ghost use Rattle.st_text.specs.Lines.{lines_of, line_in, IsLineWithin};
-ghost use Rattle.st_doc.specs.Reading.{document_of, doc_from, doc_of, read_on, Reads, Ends, Tells};
-ghost use Rattle.st_doc.specs.Sound.{IsSoundRead};
+ghost use Rattle.st_grammar.specs.Reading.{document_of, doc_from, doc_of, read_on, Reads, Ends, Tells};
+ghost use Rattle.st_grammar.specs.Sound.{IsSoundRead};
 
-use crate::doc::DocRead;
-use crate::fault::{DocFault, DocKind, LineError};
 use crate::reader::Reader;
+use st_grammar::{DocFault, DocKind, DocRead, LineError};
 use st_text::{Line, lines};
 use std::alloc::{AllocError, Global};
 

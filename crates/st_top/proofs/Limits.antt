@@ -13,10 +13,10 @@ use Rattle.st_net.specs.declared.parts.TopoFault.{TopoFault}
 use Rattle.st_net.specs.declared.topo.TheConstants.{MAX_DEVICES, MAX_LINKS, MAX_TORS, MAX_PROMISES, MAX_CAPACITY, MAX_PERCENT}
 use Rattle.st_net.specs.Groups.{are_device_vals, are_link_vals}
 use Rattle.st_net.specs.Faults.{device_limit, link_limit, promise_limit, limit_or, tors_with, first_device_limit, first_link_limit, first_promise_limit, fault_or, promises_at, twice_of, unknown_of, loop_of, cross_of, limit_of, pair_of, fault_of}
-use Rattle.st_doc.specs.declared.doc.Doc.{Doc}
-use Rattle.st_doc.specs.declared.doc.Script.{Script}
-use Rattle.st_doc.specs.declared.limits.TheConstants.{MAX_ACTS}
-use Rattle.st_doc.specs.Sound.{IsSoundDoc}
+use Rattle.st_grammar.specs.declared.doc.Doc.{Doc}
+use Rattle.st_grammar.specs.declared.doc.Script.{Script}
+use Rattle.st_grammar.specs.declared.limits.TheConstants.{MAX_ACTS}
+use Rattle.st_grammar.specs.Sound.{IsSoundDoc}
 
 fault_none : (a b : Option TopoFault) → fault_or a b ≡ None → (a ≡ None) × (b ≡ None)
 fault_none None b is = (refl, is)

@@ -27,7 +27,7 @@ use Rattle.st_event.specs.Legal.{Fits, FailFits, IsLegal}
 use Rattle.st_event.specs.Moments.{told, work_after, vals_after, commands, fence, busy, work, vals}
 use Rattle.st_event.specs.Proposals.{is_accepted, is_queued, proposals, proposals_after, verdicts, accepted, accepted_among, target}
 use Rattle.st_event.proofs.Made.{IsSent, Sends, command_now, told_sent}
-use Rattle.st_doc.specs.Sound.{IsChangeOf}
+use Rattle.st_grammar.specs.Sound.{IsChangeOf}
 use Rattle.st_top.specs.Serial.{failed_vals}
 
 -- values variable by variable

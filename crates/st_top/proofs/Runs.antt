@@ -17,9 +17,9 @@ use Rattle.st_event.specs.declared.act.LogEntry.{LogEntry}
 use Rattle.st_event.specs.declared.journal.Journal.{Journal}
 use Rattle.st_event.specs.Legal.{IsLegal, AtEach}
 use Rattle.st_event.specs.Network.{KeepsPromises}
-use Rattle.st_doc.specs.declared.doc.Doc.{Doc}
-use Rattle.st_doc.specs.declared.doc.Script.{Script}
-use Rattle.st_doc.specs.Sound.{IsGroupWith, IsVariableOf, IsChangeOf, IsSoundAct, IsSoundDoc}
+use Rattle.st_grammar.specs.declared.doc.Doc.{Doc}
+use Rattle.st_grammar.specs.declared.doc.Script.{Script}
+use Rattle.st_grammar.specs.Sound.{IsGroupWith, IsVariableOf, IsChangeOf, IsSoundAct, IsSoundDoc}
 use Rattle.st_report.specs.GroupReport.{group_report}
 use Rattle.st_wire.specs.declared.line.WireLine.{WireLine}
 use Rattle.st_world.specs.declared.world.rounds.Going.{Going}

@@ -8,8 +8,8 @@ use Rattle.std.proofs.lemmas.List.{append_assoc, append-nil, reverse-append, len
 use Rattle.std.proofs.lemmas.Bool.{lt-ltb, le-ltb}
 use Rattle.std.proofs.lemmas.List.Elements.{All-append}
 use Rattle.std.proofs.lemmas.Grind.{get_or-set_at}
-use Rattle.st_doc.specs.declared.doc.Script.{Script}
-use Rattle.st_doc.specs.declared.limits.TheConstants.{MAX_ACTS}
+use Rattle.st_grammar.specs.declared.doc.Script.{Script}
+use Rattle.st_grammar.specs.declared.limits.TheConstants.{MAX_ACTS}
 use Rattle.st_top.specs.declared.schedule.Place.{Place}
 use Rattle.st_top.specs.Schedule.{times, act_count, place_at, ordered, round, rounds, schedule, IsFront, IsPlaceIn}
 

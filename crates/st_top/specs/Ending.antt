@@ -6,8 +6,8 @@ use Rattle.st_io.specs.Output.{Writes}
 use Rattle.st_event.specs.History.{History}
 use Rattle.st_event.specs.Legal.{IsLegal, AtEach}
 use Rattle.st_event.specs.Network.{KeepsPromises}
-use Rattle.st_doc.specs.declared.doc.Doc.{Doc}
-use Rattle.st_doc.specs.declared.fault.DocFault.{DocFault}
+use Rattle.st_grammar.specs.declared.doc.Doc.{Doc}
+use Rattle.st_grammar.specs.declared.fault.DocFault.{DocFault}
 use Rattle.st_top.specs.declared.answer.Outcome.{Outcome}
 use Rattle.st_top.specs.declared.answer.Status.{Status}
 use Rattle.st_top.specs.declared.answer.Status.TheVariants as statuses

@@ -6,7 +6,7 @@ use Rattle.st_net.specs.Groups.{Group}
 use Rattle.st_event.specs.declared.act.Log.{Log}
 use Rattle.st_event.specs.declared.act.LogEntry.{LogEntry}
 use Rattle.st_event.specs.declared.journal.Journal.{Journal}
-use Rattle.st_doc.specs.declared.doc.Doc.{Doc}
+use Rattle.st_grammar.specs.declared.doc.Doc.{Doc}
 use Rattle.st_report.specs.Words.{line}
 use Rattle.st_top.specs.Site.{SiteView}
 use Rattle.st_top.specs.Serial.{Run, groups_in}

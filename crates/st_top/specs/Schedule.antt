@@ -1,7 +1,7 @@
 -- The order in which the commands of a document's applications are done, on one thread.
 use Rattle.std.specs.Prelude.{◌≡◌, ◌<◌, ◌≤◌, ℕ, ◌+◌, zero, suc, ◌==◌, nat_lt, List, [], ◌∷◌, ◌++◌, length, reverse, slice_get, slice_index_or, Option, Some, None, if◌then◌else◌}
-use Rattle.st_doc.specs.declared.doc.Script.{Script}
-use Rattle.st_doc.specs.declared.limits.TheConstants.{MAX_ACTS}
+use Rattle.st_grammar.specs.declared.doc.Script.{Script}
+use Rattle.st_grammar.specs.declared.limits.TheConstants.{MAX_ACTS}
 use Rattle.st_top.specs.declared.schedule.Place.{Place}
 
 -- how often a number stands in a list

@@ -28,9 +28,9 @@ use Rattle.st_event.specs.History.{History}
 use Rattle.st_event.specs.Moments.{vals}
 use Rattle.st_event.specs.Proposals.{pending, version, target}
 use Rattle.st_event.specs.Versions.{value_at}
-use Rattle.st_doc.specs.declared.doc.Doc.{Doc}
-use Rattle.st_doc.specs.declared.doc.Script.{Script}
-use Rattle.st_doc.specs.Sound.{IsVariableOf, IsChangeOf}
+use Rattle.st_grammar.specs.declared.doc.Doc.{Doc}
+use Rattle.st_grammar.specs.declared.doc.Script.{Script}
+use Rattle.st_grammar.specs.Sound.{IsVariableOf, IsChangeOf}
 use Rattle.st_top.specs.declared.schedule.Place.{Place}
 use Rattle.st_top.specs.Schedule.{schedule}
 use Rattle.st_wire.specs.declared.line.WireLine.{WireLine}

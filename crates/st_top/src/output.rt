@@ -1,7 +1,7 @@
 //! What the commands write: the report of a group by its world, and the line of counts that `check` writes.
 
 ghost use Rattle.std.specs.Prelude.{◌≡◌, ◌∷◌, ◌++◌, ◌<◌, ◌^◌, All, length, sum_by, OnOk, IfOk, decimal};
-ghost use Rattle.st_doc.specs.Sound.{IsSoundDoc};
+ghost use Rattle.st_grammar.specs.Sound.{IsSoundDoc};
 ghost use Rattle.st_report.specs.GroupReport.{group_report};
 ghost use Rattle.st_top.specs.Output.{app_names as app_names_lem, sites_text, entry_text, log_text, logs_text, check_text as check_text_lem};
 ghost use Rattle.st_top.specs.Serial.{groups_in, EntryFits, LogsFit};

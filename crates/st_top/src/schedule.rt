@@ -2,7 +2,7 @@
 //! for them, and then round after round.
 
 ghost use Rattle.std.specs.Prelude.{◌≡◌, ◌+◌, ◌<◌, ◌≤◌, ◌^◌, ◌++◌, [], ℕ, List, All, IfOk, OnOk, length, reverse, slice_index_or};
-ghost use Rattle.st_doc.specs.declared.limits.TheConstants.{MAX_ACTS};
+ghost use Rattle.st_grammar.specs.declared.limits.TheConstants.{MAX_ACTS};
 ghost use Rattle.st_top.specs.Schedule.{place_at, ordered as ordered_lem, round as round_lem, rounds as rounds_lem, schedule as schedule_lem, times, IsFront, IsPlaceIn, HasFewActs};
 
 use st_doc::{MAX_ACTS, Script};

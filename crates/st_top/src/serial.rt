@@ -7,7 +7,7 @@ ghost use Rattle.st_net.specs.Ranges.{RowsFit};
 ghost use Rattle.st_event.specs.declared.event.Event.TheVariants.{Submit, Check as check_event, Fail as fail_event};
 ghost use Rattle.st_event.specs.declared.journal.TheConstants.{MAX_PENDING as max_pending};
 ghost use Rattle.st_event.specs.Moments.{vals};
-ghost use Rattle.st_doc.specs.Sound.{IsChangeOf};
+ghost use Rattle.st_grammar.specs.Sound.{IsChangeOf};
 ghost use Rattle.st_world.specs.Rounds.{run_from, enter, is_full};
 ghost use Rattle.st_top.specs.Schedule.{IsPlaceIn};
 ghost use Rattle.st_top.specs.Serial.{with_room, checked_while, has_one_of, failed_vals as failed_vals_lem, group_number as group_number_lem, act_course, seen_by as seen_by_lem, act_done as act_done_lem, place_done as place_done_lem, places_done as places_done_lem, all_checked as all_checked_lem, all_decided, ActFits, FitsIn, AllFitIn, groups_in};

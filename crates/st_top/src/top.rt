@@ -3,8 +3,8 @@
 ghost use Rattle.std.specs.Prelude.{◌≡◌, ◌≢◌, ◌≤◌, ◌<◌, ◌-◌, ◌^◌, [], ◌∷◌, ◌++◌, All, codes, replicate, Ok as read_ok, Some, None, length, map, string_bytes, true, IfOk};
 ghost use Rattle.st_net.specs.Faults.{group_of};
 ghost use Rattle.st_io.specs.declared.reading.TheConstants.{MAX_BYTES};
-ghost use Rattle.st_doc.specs.Reading.{document_of};
-ghost use Rattle.st_doc.specs.Sound.{IsSoundGroup, IsSoundDoc};
+ghost use Rattle.st_grammar.specs.Reading.{document_of};
+ghost use Rattle.st_grammar.specs.Sound.{IsSoundGroup, IsSoundDoc};
 ghost use Rattle.st_top.specs.declared.words.Command.TheVariants.{Serial as serial_command, Check as check_command};
 ghost use Rattle.st_top.specs.Words.{command_of as command_of_lem};
 ghost use Rattle.st_top.specs.Output.{app_names as app_names_lem, run_text};

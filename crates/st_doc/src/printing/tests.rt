@@ -2,9 +2,9 @@
 
 ghost use Rattle.std.specs.Prelude.{◌<◌, length};
 
-use crate::doc::DocRead;
 use crate::printing::print_doc;
 use crate::reading::read_doc;
+use st_grammar::DocRead;
 use st_text::Text;
 use std::alloc::{AllocError, Global};
 use std::test::Fail;

@@ -5,8 +5,8 @@ ghost use Rattle.st_text.specs.Words.{text_of};
 ghost use Rattle.st_text.specs.Printed.{HoldsPart};
 ghost use Rattle.st_doc.specs.Printed.{wire_words, wires_lines};
 
-use crate::lists::WireLines;
 use crate::printing::words::{kind_word, print_line};
+use st_grammar::WireLines;
 use st_net::Parts;
 use st_text::{Text, Word};
 use st_wire::WireLine;

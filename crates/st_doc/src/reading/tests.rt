@@ -2,11 +2,10 @@
 
 mod faults;
 
-use crate::doc::DocRead;
-use crate::fault::DocFault;
-use crate::fault::DocKind::{self, Cross, Limit, Loop, Number, Pair, Twice, Unknown};
 use crate::reading::read_doc;
 use faults::{FAULTS, OPENINGS, PLAIN};
+use st_grammar::DocKind::{self, Cross, Limit, Loop, Number, Pair, Twice, Unknown};
+use st_grammar::{DocFault, DocRead};
 use std::alloc::{AllocError, Global};
 use std::process::Abort;
 use std::test::Fail;

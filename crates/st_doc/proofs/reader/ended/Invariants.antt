@@ -1,5 +1,5 @@
 use Rattle.std.proofs.Common.{◌≡◌, map}
-use Rattle.st_doc.specs.Draft.{parts_of}
+use Rattle.st_grammar.specs.Draft.{parts_of}
 use Rattle.st_doc.proofs.reader.ended.Given as goal
 
 abbrev pub invariant-loop-group : goal.invariant-loop-group

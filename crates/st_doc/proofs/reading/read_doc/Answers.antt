@@ -1,6 +1,6 @@
 use Rattle.std.proofs.lemmas.Result.{IfOk-weaker}
-use Rattle.st_doc.proofs.FirstBad.{tells}
-use Rattle.st_doc.proofs.SoundDocs.{read_sound}
+use Rattle.st_grammar.proofs.FirstBad.{tells}
+use Rattle.st_grammar.proofs.SoundDocs.{read_sound}
 use Rattle.st_doc.proofs.reading.read_doc.Goals as goal
 
 pub returns-clause-tells : goal.returns-clause-tells

@@ -1,6 +1,6 @@
 use Rattle.std.proofs.Common.{◌≡◌, ◌+◌, drop, map}
 use Rattle.st_text.specs.Lines.{line_in}
-use Rattle.st_doc.specs.Reading.{read_on}
+use Rattle.st_grammar.specs.Reading.{read_on}
 use Rattle.st_doc.proofs.reading.read_lines.Given as goal
 
 -- what is left, over what was declared, gives what all gives

@@ -1,6 +1,6 @@
 use Rattle.std.proofs.Common.{◌≡◌, ◌≤◌, ◌++◌, length, sym, ◌∙◌, ap, arith}
 use Rattle.std.proofs.lemmas.List.{append-nil}
-use Rattle.st_doc.specs.declared.doc.Script.{Script}
+use Rattle.st_grammar.specs.declared.doc.Script.{Script}
 use Rattle.st_top.proofs.Schedules.{none_at}
 use Rattle.st_top.proofs.schedule.add_place.Goals as goal
 

@@ -1,7 +1,7 @@
 use Rattle.std.proofs.Common.{◌≡◌, ◌<◌, ◌++◌, length, reverse, drop, ap, sym, ◌∙◌, subst, arith}
 use Rattle.std.specs.Prelude.{All}
 use Rattle.std.proofs.lemmas.List.{length-reverse}
-use Rattle.st_doc.specs.declared.limits.TheConstants.{MAX_ACTS}
+use Rattle.st_grammar.specs.declared.limits.TheConstants.{MAX_ACTS}
 use Rattle.st_top.specs.Schedule.{IsFront, IsPlaceIn, ordered, rounds, schedule}
 use Rattle.st_top.proofs.Schedules.{front_short, schedule_within, whole_front}
 use Rattle.st_top.proofs.schedule.schedule.Goals as goal

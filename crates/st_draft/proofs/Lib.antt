@@ -1,0 +1,6 @@
+mod PairLemmas
+mod RowLemmas
+mod GroupLemmas
+mod PromiseLemmas
+mod OpenLemmas
+mod HealthLemmas
