@@ -30,7 +30,9 @@ use Rattle.st_grammar.specs.declared.limits.TheConstants.{MAX_ACTS, MAX_ROUNDS}
 use Rattle.st_grammar.specs.declared.doc.Script.{Script}
 use Rattle.st_grammar.specs.Draft.{GroupDraft, Draft, groups_of, group_names, parts_of}
 use Rattle.st_grammar.specs.Spelling.{known_name_in, entity_named, most_health}
-use Rattle.st_grammar.specs.Lines.{rows_in, values_in, group_in, group_entity_in, propose_of, await_of, settle_of, lock_of, unlock_of, read_of, readat_of, fail_of, poll_of, act_of, act_added, act_line, keyword_of, is_comment, tokens_line, keyword_line, phased_line}
+use Rattle.st_grammar.specs.Commands.{rows_in, values_in, group_in, group_entity_in, propose_of, await_of, settle_of, lock_of, unlock_of, read_of, readat_of, fail_of, poll_of, act_of}
+use Rattle.st_grammar.specs.Keywords.{keyword_of, is_comment}
+use Rattle.st_grammar.specs.Lines.{act_added, act_line, tokens_line, keyword_line, phased_line}
 use Rattle.st_grammar.specs.Sound.{IsSoundGroup, IsSoundAct, IsGroupWith, IsVariableOf, IsChangeOf, IsOn}
 use Rattle.st_grammar.proofs.SoundGroups.{IsSoundDraftGroup}
 use Rattle.st_grammar.proofs.SoundActs.{flipped, same_flipped, free_last}

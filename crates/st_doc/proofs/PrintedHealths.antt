@@ -18,7 +18,8 @@ use Rattle.st_net.specs.Faults.{device_names, link_names}
 use Rattle.st_grammar.specs.declared.limits.TheConstants.{DEVICE_HEALTH, LINK_HEALTH}
 use Rattle.st_grammar.specs.Draft.{GroupDraft, Draft, device_told, link_told, with_health, has_health, is_told}
 use Rattle.st_grammar.specs.Spelling.{entity_named, most_health}
-use Rattle.st_grammar.specs.Lines.{health_of, health_line as health_line_of, own_end, tokens_line, keyword_line, phased_line}
+use Rattle.st_grammar.specs.Sections.{health_of, health_line as health_line_of, own_end}
+use Rattle.st_grammar.specs.Lines.{tokens_line, keyword_line, phased_line}
 use Rattle.st_grammar.proofs.SoundGroups.{IsSoundDevice, IsSoundLink, IsSoundDraftGroup, each}
 use Rattle.st_grammar.proofs.SoundSteps.{pushed_all}
 use Rattle.st_grammar.proofs.SoundParts.{Noted, group_with, drafted}

@@ -23,7 +23,8 @@ use Rattle.st_net.specs.Faults.{device_names, link_names}
 use Rattle.st_grammar.specs.declared.limits.TheConstants.{DEVICE_HEALTH}
 use Rattle.st_grammar.specs.Draft.{GroupDraft, Draft, device_default, link_default, device_opened, link_opened, with_open}
 use Rattle.st_grammar.specs.Spelling.{entity_named}
-use Rattle.st_grammar.specs.Lines.{open_of, open_line as open_line_of, tokens_line, keyword_line, phased_line}
+use Rattle.st_grammar.specs.Sections.{open_of, open_line as open_line_of}
+use Rattle.st_grammar.specs.Lines.{tokens_line, keyword_line, phased_line}
 use Rattle.st_grammar.proofs.SoundGroups.{IsSoundDevice, IsSoundLink, IsSoundDraftGroup, each}
 use Rattle.st_grammar.proofs.SoundSteps.{pushed_all, not_first, four_true}
 use Rattle.st_grammar.proofs.SoundParts.{Noted, nothing_noted, group_with, drafted}

@@ -15,7 +15,8 @@ use Rattle.st_net.specs.Names.{is_name, place_of, is_among}
 use Rattle.st_net.specs.Groups.{are_new, are_names}
 use Rattle.st_net.specs.Faults.{device_names, link_names, is_tor, is_tor_name, is_bad_pair, was_promised}
 use Rattle.st_grammar.specs.Draft.{GroupDraft, Draft, is_entity_name, tors, with_device, with_link, with_promise}
-use Rattle.st_grammar.specs.Lines.{has_device_room, new_device, device_of, device_line, new_link, link_of, link_line, promise_of, promise_line, tokens_line, keyword_line, phased_line}
+use Rattle.st_grammar.specs.Sections.{has_device_room, new_device, device_of, device_line, new_link, link_of, link_line, promise_of, promise_line}
+use Rattle.st_grammar.specs.Lines.{tokens_line, keyword_line, phased_line}
 use Rattle.st_grammar.proofs.TorLemmas.{tors_push}
 use Rattle.st_grammar.proofs.NameLemmas.{found_spelled}
 use Rattle.st_grammar.proofs.SoundGroups.{IsSoundLink, IsSoundPromise, AreOtherPairs, IsSoundDraftGroup, tor_known}

@@ -14,7 +14,8 @@ use Rattle.st_wire.specs.declared.line.WireLine.TheVariants.{Drop, Repeat, Hold}
 use Rattle.st_grammar.specs.declared.limits.TheConstants.{MAX_WIRE_LINES}
 use Rattle.st_grammar.specs.Draft.{GroupDraft, Draft, group_names, parts_of, with_wire, wired}
 use Rattle.st_grammar.specs.Spelling.{known_name_in}
-use Rattle.st_grammar.specs.Lines.{drop_of, repeat_of, hold_of, wire_count_of, wire_count, wire_line, tokens_line, keyword_line, phased_line}
+use Rattle.st_grammar.specs.Commands.{drop_of, repeat_of, hold_of}
+use Rattle.st_grammar.specs.Lines.{wire_count_of, wire_count, wire_line, tokens_line, keyword_line, phased_line}
 use Rattle.st_grammar.specs.Sound.{IsSoundGroup, IsSoundWire, AreSoundWires}
 use Rattle.st_grammar.proofs.SoundDocs.{names_of}
 use Rattle.st_doc.specs.Printed.{Words, wire_kind_word, wire_words as words_of_wire, wires_lines}

@@ -3,7 +3,7 @@
 ghost use Rattle.std.specs.Prelude.{◌≡◌, ◌<◌, ◌^◌, [], length, map, All, IfOk};
 ghost use Rattle.st_text.specs.Tokens.{token_in, IsTokenOf};
 ghost use Rattle.st_grammar.specs.Steps.{Gives};
-ghost use Rattle.st_grammar.specs.Lines.{rows_in, values_in, group_entity_in, propose_of, await_of, settle_of, lock_of, unlock_of, read_of, readat_of, fail_of, poll_of, act_of, drop_of, repeat_of, hold_of, wire_of};
+ghost use Rattle.st_grammar.specs.Commands.{rows_in, values_in, group_entity_in, propose_of, await_of, settle_of, lock_of, unlock_of, read_of, readat_of, fail_of, poll_of, act_of, drop_of, repeat_of, hold_of, wire_of};
 
 use crate::reader::Reader;
 use st_draft::{
@@ -18,7 +18,7 @@ use st_wire::WireLine;
 use std::alloc::Global;
 
 /// The rows of assignments on different variables of a group.
-#[tactic(auto, unfolding(st_grammar::specs::Lines::rows_in))]
+#[tactic(auto, unfolding(st_grammar::specs::Commands::rows_in))]
 fn rows_in(alloc: Global, group: &Group, line: &[u8], tokens: &[Token]) -> Result<Rows, LineError>
     requires { All (IsTokenOf line.now) tokens.now }
     ensures { Gives (λ rows. rows) result (rows_in group.now [] (map (token_in line.now) tokens.now)) }
@@ -34,7 +34,7 @@ fn rows_in(alloc: Global, group: &Group, line: &[u8], tokens: &[Token]) -> Resul
 }
 
 /// The rows of values on different variables of an entity.
-#[tactic(auto, unfolding(st_grammar::specs::Lines::values_in))]
+#[tactic(auto, unfolding(st_grammar::specs::Commands::values_in))]
 fn values_in(
     alloc: Global,
     entity: Entity,
@@ -56,7 +56,7 @@ fn values_in(
 
 impl Reader {
     /// The group of a name, with the entity of a name in it.
-    #[tactic(auto, unfolding(st_grammar::specs::Lines::group_entity_in))]
+    #[tactic(auto, unfolding(st_grammar::specs::Commands::group_entity_in))]
     fn group_entity_in(&self, group: &[u8], name: &[u8]) -> Result<(u32, Entity), LineError>
         ensures { Gives (λ e. e) result (group_entity_in self.now group.now name.now) }
     {
@@ -66,7 +66,7 @@ impl Reader {
     }
 
     /// The proposal that a line asks for.
-    #[tactic(auto, unfolding(st_grammar::specs::Lines::propose_of))]
+    #[tactic(auto, unfolding(st_grammar::specs::Commands::propose_of))]
     fn propose_of(&self, line: &[u8], tokens: &[Token]) -> Result<Act, LineError>
         requires { All (IsTokenOf line.now) tokens.now }
         ensures { Gives (λ act. act) result (propose_of self.now (map (token_in line.now) tokens.now)) }
@@ -82,7 +82,7 @@ impl Reader {
         Ok(Act::Propose { group, rows })
     }
 
-    #[tactic(auto, unfolding(st_grammar::specs::Lines::await_of))]
+    #[tactic(auto, unfolding(st_grammar::specs::Commands::await_of))]
     fn await_of(&self, line: &[u8], tokens: &[Token]) -> Result<Act, LineError>
         requires { All (IsTokenOf line.now) tokens.now }
         ensures { Gives (λ act. act) result (await_of self.now (map (token_in line.now) tokens.now)) }
@@ -92,7 +92,7 @@ impl Reader {
         Ok(Act::Await { group })
     }
 
-    #[tactic(auto, unfolding(st_grammar::specs::Lines::settle_of))]
+    #[tactic(auto, unfolding(st_grammar::specs::Commands::settle_of))]
     fn settle_of(&self, line: &[u8], tokens: &[Token]) -> Result<Act, LineError>
         requires { All (IsTokenOf line.now) tokens.now }
         ensures { Gives (λ act. act) result (settle_of self.now (map (token_in line.now) tokens.now)) }
@@ -103,7 +103,7 @@ impl Reader {
         Ok(Act::Settle { group, rounds })
     }
 
-    #[tactic(auto, unfolding(st_grammar::specs::Lines::lock_of))]
+    #[tactic(auto, unfolding(st_grammar::specs::Commands::lock_of))]
     fn lock_of(&self, line: &[u8], tokens: &[Token]) -> Result<Act, LineError>
         requires { All (IsTokenOf line.now) tokens.now }
         ensures { Gives (λ act. act) result (lock_of self.now (map (token_in line.now) tokens.now)) }
@@ -118,7 +118,7 @@ impl Reader {
         })
     }
 
-    #[tactic(auto, unfolding(st_grammar::specs::Lines::unlock_of))]
+    #[tactic(auto, unfolding(st_grammar::specs::Commands::unlock_of))]
     fn unlock_of(&self, line: &[u8], tokens: &[Token]) -> Result<Act, LineError>
         requires { All (IsTokenOf line.now) tokens.now }
         ensures { Gives (λ act. act) result (unlock_of self.now (map (token_in line.now) tokens.now)) }
@@ -133,7 +133,7 @@ impl Reader {
         })
     }
 
-    #[tactic(auto, unfolding(st_grammar::specs::Lines::read_of))]
+    #[tactic(auto, unfolding(st_grammar::specs::Commands::read_of))]
     fn read_of(&self, line: &[u8], tokens: &[Token]) -> Result<Act, LineError>
         requires { All (IsTokenOf line.now) tokens.now }
         ensures { Gives (λ act. act) result (read_of self.now (map (token_in line.now) tokens.now)) }
@@ -144,7 +144,7 @@ impl Reader {
         Ok(Act::Read { group, entity, var })
     }
 
-    #[tactic(auto, unfolding(st_grammar::specs::Lines::readat_of))]
+    #[tactic(auto, unfolding(st_grammar::specs::Commands::readat_of))]
     fn readat_of(&self, line: &[u8], tokens: &[Token]) -> Result<Act, LineError>
         requires { All (IsTokenOf line.now) tokens.now }
         ensures { Gives (λ act. act) result (readat_of self.now (map (token_in line.now) tokens.now)) }
@@ -161,7 +161,7 @@ impl Reader {
         })
     }
 
-    #[tactic(auto, unfolding(st_grammar::specs::Lines::fail_of))]
+    #[tactic(auto, unfolding(st_grammar::specs::Commands::fail_of))]
     fn fail_of(&self, line: &[u8], tokens: &[Token]) -> Result<Act, LineError>
         requires { All (IsTokenOf line.now) tokens.now }
         ensures { Gives (λ act. act) result (fail_of self.now (map (token_in line.now) tokens.now)) }
@@ -181,7 +181,7 @@ impl Reader {
         })
     }
 
-    #[tactic(auto, unfolding(st_grammar::specs::Lines::poll_of))]
+    #[tactic(auto, unfolding(st_grammar::specs::Commands::poll_of))]
     fn poll_of(&self, line: &[u8], tokens: &[Token]) -> Result<Act, LineError>
         requires { All (IsTokenOf line.now) tokens.now }
         ensures { Gives (λ act. act) result (poll_of self.now (map (token_in line.now) tokens.now)) }
@@ -209,7 +209,7 @@ impl Reader {
         }
     }
 
-    #[tactic(auto, unfolding(st_grammar::specs::Lines::drop_of))]
+    #[tactic(auto, unfolding(st_grammar::specs::Commands::drop_of))]
     fn drop_of(&self, line: &[u8], tokens: &[Token]) -> Result<(u32, WireLine), LineError>
         requires { All (IsTokenOf line.now) tokens.now }
         ensures { Gives (λ wire. wire) result (drop_of self.now (map (token_in line.now) tokens.now)) }
@@ -221,7 +221,7 @@ impl Reader {
         Ok((group, WireLine::Drop { kind, n }))
     }
 
-    #[tactic(auto, unfolding(st_grammar::specs::Lines::repeat_of))]
+    #[tactic(auto, unfolding(st_grammar::specs::Commands::repeat_of))]
     fn repeat_of(&self, line: &[u8], tokens: &[Token]) -> Result<(u32, WireLine), LineError>
         requires { All (IsTokenOf line.now) tokens.now }
         ensures { Gives (λ wire. wire) result (repeat_of self.now (map (token_in line.now) tokens.now)) }
@@ -234,7 +234,7 @@ impl Reader {
         Ok((group, WireLine::Repeat { kind, n, m }))
     }
 
-    #[tactic(auto, unfolding(st_grammar::specs::Lines::hold_of))]
+    #[tactic(auto, unfolding(st_grammar::specs::Commands::hold_of))]
     fn hold_of(&self, line: &[u8], tokens: &[Token]) -> Result<(u32, WireLine), LineError>
         requires { All (IsTokenOf line.now) tokens.now }
         ensures { Gives (λ wire. wire) result (hold_of self.now (map (token_in line.now) tokens.now)) }

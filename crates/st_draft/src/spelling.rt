@@ -5,7 +5,7 @@ ghost use Rattle.st_text.specs.Tokens.{token_in, IsTokenOf};
 ghost use Rattle.st_grammar.specs.Places.{cut_at};
 ghost use Rattle.st_grammar.specs.Steps.{Gives};
 ghost use Rattle.st_grammar.specs.Spelling.{name_in, new_name_in, known_name_in, number_in, number_within, number_from, number_above, prio_in, wire_kind_in, is_tor_word};
-ghost use Rattle.st_grammar.specs.Lines.{one_of, two_of, three_of, four_of};
+ghost use Rattle.st_grammar.specs.Counts.{one_of, two_of, three_of, four_of};
 
 use crate::names::Names;
 use st_grammar::{DocKind, LineError};

@@ -33,7 +33,8 @@ use Rattle.st_grammar.specs.declared.keyword.WireWord.TheVariants as wire_words
 use Rattle.st_grammar.specs.Draft.{GroupDraft, Draft, IsEntityIn, MaySet, groups_of, group_names, parts_of}
 use Rattle.st_grammar.specs.Places.{cut_at}
 use Rattle.st_grammar.specs.Spelling.{name_in, known_name_in, new_assignment_in, entity_in, number_in, number_within, number_from, number_above, prio_in, wire_kind_in, var_named, var_in, assigned_in, variable_by, variable_in, dotted_variable_in, undotted_variable_in, new_value_in, most_health}
-use Rattle.st_grammar.specs.Lines.{one_of, two_of, three_of, four_of, three_and_more_of, one_and_some_of, rows_in, values_in, group_in, group_entity_in, propose_of, await_of, settle_of, lock_of, unlock_of, read_of, readat_of, fail_of, poll_of, act_of, drop_of, repeat_of, hold_of, wire_of}
+use Rattle.st_grammar.specs.Counts.{one_of, two_of, three_of, four_of, three_and_more_of, one_and_some_of}
+use Rattle.st_grammar.specs.Commands.{rows_in, values_in, group_in, group_entity_in, propose_of, await_of, settle_of, lock_of, unlock_of, read_of, readat_of, fail_of, poll_of, act_of, drop_of, repeat_of, hold_of, wire_of}
 use Rattle.st_grammar.specs.Sound.{IsSoundAct, IsGroupWith, IsVariableOf, IsOn, IsChangeOf, IsSoundWire}
 use Rattle.st_grammar.proofs.SoundGroups.{each}
 use Rattle.st_grammar.proofs.SoundSteps.{pushed_all}

@@ -20,7 +20,11 @@ use Rattle.st_grammar.specs.declared.limits.TheConstants.{MAX_GROUPS, MAX_APPS, 
 use Rattle.st_grammar.specs.declared.doc.Script.{Script}
 use Rattle.st_grammar.specs.Draft.{GroupDraft, Draft, nothing, empty_group, empty_script, groups_of, apps_of, group_names, app_names, parts_of, with_wire, wired}
 use Rattle.st_grammar.specs.Spelling.{name_in, new_name_in, known_name_in}
-use Rattle.st_grammar.specs.Lines.{one_of, some_of, begun_name, group_line, app_line, known_names_in, order_line, phase_of, has_section, is_allowed, into_group, part_line, wire_of, wire_count_of, wire_count, with_wire_line, wire_line, with_act, act_added, act_line, act_of, declared_by, keyword_of, phased_line, keyword_line, is_header, header_line, is_comment, tokens_line, line_of}
+use Rattle.st_grammar.specs.Counts.{one_of, some_of}
+use Rattle.st_grammar.specs.Sections.{part_line}
+use Rattle.st_grammar.specs.Commands.{wire_of, act_of}
+use Rattle.st_grammar.specs.Keywords.{phase_of, keyword_of, is_comment}
+use Rattle.st_grammar.specs.Lines.{begun_name, group_line, app_line, known_names_in, order_line, has_section, is_allowed, into_group, wire_count_of, wire_count, with_wire_line, wire_line, with_act, act_added, act_line, declared_by, phased_line, keyword_line, is_header, header_line, tokens_line, line_of}
 use Rattle.st_grammar.specs.Sound.{IsSoundAct, IsSoundWire}
 use Rattle.st_grammar.proofs.SoundGroups.{IsSoundDraftGroup, each}
 use Rattle.st_grammar.proofs.SoundSteps.{pushed_all, begun_sound, new_last, wire_sound}

@@ -25,7 +25,8 @@ use Rattle.st_grammar.specs.Steps.{◌>>=◌}
 use Rattle.st_grammar.specs.Places.{cut_at}
 use Rattle.st_grammar.specs.Draft.{GroupDraft, is_entity_name, with_device, with_link, with_promise, with_open, opened, with_health, IsEntityIn, MaySet}
 use Rattle.st_grammar.specs.Spelling.{name_in, new_name_in, device_in, number_within, number_in, is_tor_word, cross_end_in, end_by, end_in, entity_named, entity_in, var_in, set_in, unset_in, assigned_by, dotted_in, undotted_in, assignment_by, assignment_in, new_assignment_in, untold_in, most_health, number_from, number_above}
-use Rattle.st_grammar.specs.Lines.{one_of, two_of, three_of, four_of, has_device_room, new_device, device_of, device_line, new_link, link_of, link_line, new_promise, promise_of, promise_line, open_of, open_line, health_of, health_line, part_line}
+use Rattle.st_grammar.specs.Counts.{one_of, two_of, three_of, four_of}
+use Rattle.st_grammar.specs.Sections.{has_device_room, new_device, device_of, device_line, new_link, link_of, link_line, new_promise, promise_of, promise_line, open_of, open_line, health_of, health_line, part_line}
 use Rattle.st_grammar.proofs.SoundGroups.{IsSoundDraftGroup}
 use Rattle.st_grammar.proofs.SoundSteps.{device_sound, link_sound, promise_sound, opened_sound, health_sound}
 

@@ -23,7 +23,7 @@ use Rattle.st_grammar.specs.Draft.{GroupDraft, is_entity_name, empty_group, with
 use Rattle.st_wire.specs.declared.line.WireLine.{WireLine}
 use Rattle.st_grammar.specs.declared.limits.TheConstants.{MAX_WIRE_LINES}
 use Rattle.st_grammar.specs.Spelling.{most_health}
-use Rattle.st_grammar.specs.Lines.{has_device_room}
+use Rattle.st_grammar.specs.Sections.{has_device_room}
 use Rattle.st_grammar.specs.Sound.{IsSoundWire}
 use Rattle.st_grammar.proofs.HealthLemmas.{told_device_names, told_link_names, told_devices_count, told_links_count, told_tors}
 use Rattle.st_grammar.proofs.TorLemmas.{tors_push}

@@ -2,6 +2,10 @@ pub mod Steps
 pub mod Places
 pub mod Draft
 pub mod Spelling
+pub mod Counts
+pub mod Sections
+pub mod Commands
+pub mod Keywords
 pub mod Lines
 pub mod Reading
 pub mod Sound

@@ -1,7 +1,7 @@
 //! The words that lines begin with, the sections that they need, and the phases in which they stand.
 
 ghost use Rattle.std.specs.Prelude.{◌≡◌};
-ghost use Rattle.st_grammar.specs.Lines.{part_word_of, wire_word_of, command_word_of, keyword_of, phase_of, is_comment};
+ghost use Rattle.st_grammar.specs.Keywords.{part_word_of, wire_word_of, command_word_of, keyword_of, phase_of, is_comment};
 
 /// The first token of a line that declares something.
 #[derive(Clone, Copy, Debug, PartialEq, Eq)]

@@ -1,6 +1,6 @@
 use Rattle.std.proofs.Common.{◌≡◌, [], drop, map}
 use Rattle.st_text.specs.Tokens.{token_in}
-use Rattle.st_grammar.specs.Lines.{rows_in}
+use Rattle.st_grammar.specs.Commands.{rows_in}
 use Rattle.st_doc.proofs.commands.rows_in.Given as goal
 
 -- what is left, behind what was read, gives what all gives

@@ -1,7 +1,7 @@
 use Rattle.std.proofs.Common.{◌≡◌, [], drop, map}
 use Rattle.st_text.specs.Tokens.{token_in}
 use Rattle.st_grammar.specs.Lines.{known_names_in}
-use Rattle.st_doc.proofs.reader.known_names_in.Given as goal
+use Rattle.st_doc.proofs.reader.sections.known_names_in.Given as goal
 
 -- what is left, behind what was read, gives what all gives
 abbrev pub invariant-loop-token : goal.invariant-loop-token

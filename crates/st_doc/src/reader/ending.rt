@@ -1,0 +1,53 @@
+//! The end of a document: what the lines declared, as its groups and applications.
+
+ghost use Rattle.std.specs.Prelude.{◌≡◌, ◌++◌, map, IfOk, option_to_list};
+ghost use Rattle.st_grammar.specs.Draft.{parts_of};
+ghost use Rattle.st_grammar.specs.Reading.{doc_of};
+
+use crate::reader::Reader;
+use st_draft::Group;
+use st_grammar::{AppOrder, Doc, DocGroups, DocWires, Scripts};
+use std::alloc::{AllocError, Global};
+
+/// The items with one more behind them, if there is one.
+fn with_last<T: Drop>(mut items: Vec<T>, last: Option<T>) -> Result<Vec<T>, AllocError>
+    ensures { IfOk result (λ all. all.items ≡ items.items ++ option_to_list last) }
+{
+    if let Some(item) = last {
+        items.push(item)?;
+    }
+    Ok(items)
+}
+
+/// The parts and the wire lines of groups.
+fn ended(alloc: Global, groups: Vec<Group>) -> Result<(DocGroups, DocWires), AllocError>
+    ensures parts { IfOk result (λ ended. ended.0 ≡ map parts_of groups.items) }
+    ensures wires { IfOk result (λ ended. ended.1 ≡ map (λ g. g.wires) groups.items) }
+{
+    let mut all = Vec::new(alloc);
+    let mut wires = Vec::new(alloc);
+    for group in groups {
+        let (parts, lines) = group.into_parts();
+        all.push(parts)?;
+        wires.push(lines)?;
+    }
+    Ok((DocGroups::new(all), DocWires::new(wires)))
+}
+
+impl Reader {
+    /// The document that the lines declare.
+    pub fn finish(self) -> Result<Doc, AllocError>
+        ensures { IfOk result (λ doc. doc ≡ doc_of self) }
+    {
+        let groups = with_last(self.groups, self.group)?;
+        let apps = with_last(self.apps, self.app)?;
+        let (groups, wires) = ended(self.alloc, groups)?;
+        Ok(Doc {
+            groups,
+            wires,
+            apps: Scripts::new(apps),
+            order: AppOrder::new(self.order),
+            journal_at: None,
+        })
+    }
+}

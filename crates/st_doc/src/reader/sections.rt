@@ -1,0 +1,159 @@
+//! The lines that begin groups and applications, those of a group's section, and the order of applications.
+
+ghost use Rattle.std.specs.Prelude.{◌≡◌, ◌<◌, ◌^◌, [], length, map, OnOk, IfOk, All, Some, false};
+ghost use Rattle.st_text.specs.Tokens.{token_in, IsTokenOf};
+ghost use Rattle.st_net.specs.Names.{is_among};
+ghost use Rattle.st_grammar.specs.Steps.{Gives};
+ghost use Rattle.st_grammar.specs.Draft.{empty_group, empty_script, groups_of, apps_of, group_names, app_names};
+ghost use Rattle.st_grammar.specs.Sections.{part_line};
+ghost use Rattle.st_grammar.specs.Lines.{begun_name, into_group, group_line, app_line, known_names_in, order_line};
+
+use crate::reader::Reader;
+use st_draft::{Group, Names, known_name_in, new_name_in, one_of};
+use st_grammar::{Acts, DocKind, LineError, MAX_APPS, MAX_GROUPS, PartWord, Script};
+use st_net::Name;
+use st_text::Token;
+use std::alloc::{AllocError, Global};
+
+/// The name of a new section, where there are at most so many.
+#[tactic(auto, unfolding(st_grammar::specs::Lines::begun_name, st_grammar::specs::Spelling::new_name_in))]
+fn begun_name(
+    alloc: Global,
+    names: &Names,
+    most: usize,
+    line: &[u8],
+    tokens: &[Token],
+) -> Result<Name, LineError>
+    requires { All (IsTokenOf line.now) tokens.now }
+    ensures gives { Gives (λ name. name) result (begun_name names.now most (map (token_in line.now) tokens.now)) }
+    ensures fresh { IfOk result (λ name. is_among name names.now ≡ false) }
+    ensures room { IfOk result (λ name. length names.now < most) }
+{
+    let word = one_of(line, tokens)?;
+    let name = new_name_in(alloc, names.find(word).is_some(), word)?;
+    if names.len() < most {
+        Ok(name)
+    } else {
+        Err(LineError::Bad(DocKind::Limit))
+    }
+}
+
+/// The places of declared names.
+#[tactic(auto, unfolding(st_grammar::specs::Lines::known_names_in))]
+fn known_names_in(
+    alloc: Global,
+    names: &Names,
+    line: &[u8],
+    tokens: &[Token],
+) -> Result<Vec<u32>, LineError>
+    requires tokens { All (IsTokenOf line.now) tokens.now }
+    requires few { length names.now < 2 ^ 32 }
+    ensures { Gives (λ places. places.items) result (known_names_in names.now [] (map (token_in line.now) tokens.now)) }
+{
+    let mut places = Vec::new(alloc);
+    for token in tokens {
+        match known_name_in(alloc, names, &line[token.start..token.end]) {
+            Ok(place) => places.push(place)?,
+            Err(error) => return Err(error),
+        }
+    }
+    Ok(places)
+}
+
+/// An application without commands.
+fn empty_script(alloc: Global, name: Name) -> Script
+    ensures { result ≡ empty_script name }
+{
+    Script {
+        name,
+        acts: Acts::new(Vec::new(alloc)),
+    }
+}
+
+impl Reader {
+    /// Ends the group that is begun, and begins another.
+    fn begin_group(&mut self, name: Name) -> Result<(), AllocError>
+        requires fresh { is_among name (group_names self.old) ≡ false }
+        requires room { length (group_names self.old) < MAX_GROUPS }
+        ensures { OnOk result (self.new ≡ record self.old { groups = groups_of self.old; group = Some (empty_group name) }) }
+    {
+        self.groups.reserve(1)?;
+        self.group_index.add(&name)?;
+        match self.group.replace(Group::begin(self.alloc, name)) {
+            None => Ok(()),
+            Some(ended) => match self.groups.push(ended) {
+                Ok(()) => Ok(()),
+                Err(_) => unreachable!(),
+            },
+        }
+    }
+
+    /// Takes a `group` line.
+    #[tactic(auto, unfolding(st_grammar::specs::Lines::group_line))]
+    pub(crate) fn group(&mut self, line: &[u8], tokens: &[Token]) -> Result<(), LineError>
+        requires { All (IsTokenOf line.now) tokens.now }
+        ensures { Gives (λ _. self.new) result (group_line self.old (map (token_in line.now) tokens.now)) }
+    {
+        let name = begun_name(self.alloc, &self.group_index, MAX_GROUPS, line, tokens)?;
+        self.begin_group(name)?;
+        Ok(())
+    }
+
+    /// Ends the application that is begun, and begins another.
+    fn begin_app(&mut self, name: Name) -> Result<(), AllocError>
+        requires fresh { is_among name (app_names self.old) ≡ false }
+        requires room { length (app_names self.old) < MAX_APPS }
+        ensures { OnOk result (self.new ≡ record self.old { apps = apps_of self.old; app = Some (empty_script name) }) }
+    {
+        self.apps.reserve(1)?;
+        self.app_index.add(&name)?;
+        match self.app.replace(empty_script(self.alloc, name)) {
+            None => Ok(()),
+            Some(ended) => match self.apps.push(ended) {
+                Ok(()) => Ok(()),
+                Err(_) => unreachable!(),
+            },
+        }
+    }
+
+    /// Takes an `app` line.
+    #[tactic(auto, unfolding(st_grammar::specs::Lines::app_line))]
+    pub(crate) fn app(&mut self, line: &[u8], tokens: &[Token]) -> Result<(), LineError>
+        requires { All (IsTokenOf line.now) tokens.now }
+        ensures { Gives (λ _. self.new) result (app_line self.old (map (token_in line.now) tokens.now)) }
+    {
+        let name = begun_name(self.alloc, &self.app_index, MAX_APPS, line, tokens)?;
+        self.begin_app(name)?;
+        Ok(())
+    }
+
+    /// Takes a line of a group's section.
+    pub(crate) fn part(
+        &mut self,
+        word: PartWord,
+        line: &[u8],
+        tokens: &[Token],
+    ) -> Result<(), LineError>
+        requires { All (IsTokenOf line.now) tokens.now }
+        ensures { Gives (λ _. self.new) result (into_group self.old (λ g. part_line g word (map (token_in line.now) tokens.now))) }
+    {
+        match &mut self.group {
+            None => Err(LineError::Bad(DocKind::Word)),
+            Some(group) => group.part(word, line, tokens),
+        }
+    }
+
+    /// Takes an `order` line.
+    #[tactic(auto, unfolding(st_grammar::specs::Lines::order_line))]
+    pub(crate) fn order(&mut self, line: &[u8], tokens: &[Token]) -> Result<(), LineError>
+        requires { All (IsTokenOf line.now) tokens.now }
+        ensures { Gives (λ _. self.new) result (order_line self.old (map (token_in line.now) tokens.now)) }
+    {
+        if tokens.is_empty() {
+            return Err(LineError::Bad(DocKind::Count));
+        }
+        let apps = known_names_in(self.alloc, &self.app_index, line, tokens)?;
+        self.order.extend_from_slice(apps.as_slice())?;
+        Ok(())
+    }
+}
