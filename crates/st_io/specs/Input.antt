@@ -12,10 +12,10 @@ use Rattle.st_io.specs.declared.reading.TheConstants.{MAX_BYTES}
 abbrev pub Advances : Option (List ℕ) → Option (List ℕ) → Type 0
 Advances old new = (bytes : List ℕ) × Consumes old new bytes
 
--- what one turn of reading adds, and why it may have added nothing
+-- what one turn of reading adds, and why it may have added nothing. The count of faults stands still but where the read failed
 abbrev pub TurnEnds : Option (List ℕ) → ℕ → ℕ → List ℕ → ℕ → ReadStep → Type 0
-TurnEnds new before now added most (Got n) = (0 < length added) × (length added ≤ most)
-TurnEnds new before now added most End = IsAtEnd new × (length added ≡ 0)
+TurnEnds new before now added most (Got n) = (0 < length added) × (length added ≤ most) × (now ≡ before)
+TurnEnds new before now added most End = IsAtEnd new × (length added ≡ 0) × (now ≡ before)
 TurnEnds new before now added most Failed = Rose before now × (length added ≡ 0)
 
 -- one turn of reading adds these bytes, for this reason
@@ -25,10 +25,10 @@ pub record AddsInput (old new : Option (List ℕ)) (before now : ℕ) (bytes mor
   pub consumed : Consumes old new added
   pub ends : TurnEnds new before now added most step
 
--- why reading stopped at these bytes
+-- why reading stopped at these bytes. Where it did not stop at a fault no read failed: the count of faults is as it was
 abbrev pub StopsAt : Option (List ℕ) → ℕ → ℕ → List ℕ → ReadEnd → Type 0
-StopsAt new before now bytes at_end = IsAtEnd new × (length bytes ≤ MAX_BYTES)
-StopsAt new before now bytes TooLong = length bytes ≡ MAX_BYTES + 1
+StopsAt new before now bytes at_end = IsAtEnd new × (length bytes ≤ MAX_BYTES) × (now ≡ before)
+StopsAt new before now bytes TooLong = (length bytes ≡ MAX_BYTES + 1) × (now ≡ before)
 StopsAt new before now bytes at_fault = Rose before now × (length bytes ≤ MAX_BYTES)
 
 -- these bytes were read, and reading stopped for this reason

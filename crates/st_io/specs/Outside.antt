@@ -1,5 +1,5 @@
 -- What one read and one write do.
-use Rattle.std.specs.Prelude.{◌≡◌, ℕ, ◌+◌, ◌-◌, ◌^◌, ◌<◌, ◌≤◌, min, List, length, take, Option}
+use Rattle.std.specs.Prelude.{◌≡◌, ◌≢◌, ℕ, ◌+◌, ◌-◌, ◌^◌, ◌<◌, ◌≤◌, min, List, length, take, Option}
 use Rattle.std.specs.Io.KnownBytes.{Keeps, Consumes, Appends, IsAtEnd}
 use Rattle.st_io.specs.declared.outside.ReadStep.{ReadStep}
 use Rattle.st_io.specs.declared.outside.ReadStep.TheVariants.{Got, End, Failed}
@@ -26,13 +26,14 @@ Takes old new piece OutOfMemory = Keeps old new
 abbrev pub Rose : ℕ → ℕ → Type 0
 Rose before now = min (before + 1) (2 ^ 64 - 1) ≤ now
 
--- the count never falls, and has risen where a read failed
+-- the count never falls, has risen where a read failed, and stands still where it gave bytes or found the end
 pub record HasReadCause (before now : ℕ) (step : ReadStep) : Type 0 where
   pub later : before ≤ now
   pub failed : step ≡ Failed → Rose before now
+  pub still : step ≢ Failed → now ≡ before
 
--- likewise of a write; want of memory is no fault
+-- likewise of a write: it stands still where bytes were taken, and where memory was wanting, which is no fault
 pub record HasWriteCause (before now : ℕ) (step : WriteStep) : Type 0 where
   pub later : before ≤ now
   pub failed : step ≡ write_failed → Rose before now
-  pub memory : step ≡ OutOfMemory → now ≡ before
+  pub still : step ≢ write_failed → now ≡ before

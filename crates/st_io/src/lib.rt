@@ -15,6 +15,6 @@ pub mod writing;
 pub use adapted::{StdSink, StdSource};
 pub use memory::{MemorySink, MemorySource};
 pub use outside::{ReadStep, Sink, Source, WriteStep};
-pub use reading::{Input, MAX_BYTES, ReadEnd, read_all};
+pub use reading::{Input, MAX_BYTES, ReadEnd, most_bytes, read_all};
 pub use sure::{SureSink, SureSource};
 pub use writing::{Written, write_all};

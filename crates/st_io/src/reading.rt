@@ -1,5 +1,5 @@
 //! Reads a whole input from a source. Its bytes go to whoever reads a document from them.
-ghost use Rattle.std.specs.Prelude.{◌<◌, ◌≤◌, length, IfOk, OnErr};
+ghost use Rattle.std.specs.Prelude.{◌≡◌, ◌<◌, ◌≤◌, length, IfOk, OnErr};
 ghost use Rattle.st_io.specs.Input.{AddsInput, Advances, ReadsInput};
 
 use crate::outside::{ReadStep, Source};
@@ -34,12 +34,13 @@ pub struct Input {
     pub end: ReadEnd,
 }
 
-/// Reads to the end, to a fault, or to one byte more than an input may have. After `Err`, for want of memory, the
-/// bytes that were read are lost.
+/// Reads to the end, to a fault, or to one byte more than an input may have. A read that failed is not tried again.
+/// After `Err`, for want of memory, the bytes that were read are lost, and no read failed.
 pub fn read_all<S: Source>(alloc: Global, source: &mut S) -> Result<Input, AllocError>
     ensures input { IfOk result (λ input. ReadsInput (S.left source.old) (S.left source.new)
         (S.faults source.old) (S.faults source.new) input.bytes.items input.end) }
     ensures err { OnErr result (Advances (S.left source.old) (S.left source.new)) }
+    ensures err_still { OnErr result (S.faults source.new ≡ S.faults source.old) }
     ensures later { S.faults source.old ≤ S.faults source.new }
 {
     let mut buf = [0; BUFFER_BYTES];
@@ -68,6 +69,11 @@ pub fn read_all<S: Source>(alloc: Global, source: &mut S) -> Result<Input, Alloc
     })
 }
 
+/// The number of `MAX_BYTES`, as a law: it does nothing.
+pub fn most_bytes()
+    ensures { MAX_BYTES ≡ 1048576 }
+{}
+
 /// Reads once through the buffer, at most `most` bytes, and adds them to those that were read.
 fn read_some<S: Source>(
     source: &mut S,
@@ -80,6 +86,7 @@ fn read_some<S: Source>(
     ensures step { IfOk result (AddsInput (S.left source.old) (S.left source.new)
         (S.faults source.old) (S.faults source.new) bytes.old.items bytes.new.items most) }
     ensures err { OnErr result (Advances (S.left source.old) (S.left source.new)) }
+    ensures err_still { OnErr result (S.faults source.new ≡ S.faults source.old) }
     ensures later { S.faults source.old ≤ S.faults source.new }
 {
     let room = most.min(buf.len());

@@ -1,4 +1,4 @@
-use Rattle.std.proofs.Common.{arith}
+use Rattle.std.proofs.Common.{arith, ◌∙◌}
 use Rattle.st_io.proofs.Pieces.{piece_within, piece_more}
 use Rattle.st_io.proofs.writing.write_all.Goals as goal
 
@@ -8,6 +8,6 @@ loop-at-preserved g c =
     record {
       within = piece_within c.args.text.now c.loop-at.at c.in-Took.n c.loop-at-test.true took.1.0;
       appended = piece_more _ _ _ c.args.text.now c.loop-at.at c.in-Took.n c.loop-at.invariant.appended took.2;
-      later = omega (arith, c.in-Took.ensures.cause.later);
+      still = c.in-Took.ensures.cause.still (λ e. cc) ∙ c.loop-at.invariant.still;
       untouched = λ none. absurd (omega arith);
     }
