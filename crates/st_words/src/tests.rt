@@ -1,0 +1,114 @@
+use crate::{FatTree, Form, Job, Pods, read_words};
+use std::alloc::{AllocError, Global};
+use std::test::Fail;
+
+/// What these words ask for.
+fn asked(alloc: Global, words: &[&str]) -> Result<Option<Job>, AllocError> {
+    let mut list = Vec::new(alloc);
+    for word in words {
+        list.push(String::from_str(alloc, *word)?)?;
+    }
+    read_words(alloc, list.as_slice())
+}
+
+/// What the words between the spaces of this line ask for.
+fn asked_by(alloc: Global, line: &str) -> Result<Option<Job>, AllocError> {
+    let words: Vec<&str> = line.split_whitespace().collect(alloc)?;
+    asked(alloc, words.as_slice())
+}
+
+#[test]
+fn each_command_is_read_with_its_options(rt: HostRuntime) -> Result<(), Fail> {
+    let four = FatTree {
+        pods: Pods::Four,
+        seed: 0,
+    };
+    let rows = [
+        ("serial", Job::Serial(Form::Text)),
+        ("run", Job::Run(Form::Text)),
+        ("replay", Job::Replay(Form::Text)),
+        ("check", Job::Check),
+        ("gen", Job::Gen(four)),
+        ("demo", Job::Demo(four)),
+        ("--form json serial", Job::Serial(Form::Json)),
+        ("serial --form=replay", Job::Serial(Form::Replay)),
+        ("--form=text -- serial", Job::Serial(Form::Text)),
+        ("check --", Job::Check),
+    ];
+    for (line, job) in rows {
+        assert_eq!(rt; asked_by(rt.alloc(), line)?, Some(job), "{line}");
+    }
+    Ok(())
+}
+
+#[test]
+fn pods_and_seeds_are_read(rt: HostRuntime) -> Result<(), Fail> {
+    let rows = [
+        ("gen --pods 4 --seed 0", Pods::Four, 0),
+        ("gen --seed 7", Pods::Four, 7),
+        ("--pods=6 gen", Pods::Six, 0),
+        ("gen --seed=42 --pods 8", Pods::Eight, 42),
+        ("--pods 10 --seed 4294967295 gen", Pods::Ten, 4294967295),
+    ];
+    for (line, pods, seed) in rows {
+        let job = Job::Gen(FatTree { pods, seed });
+        assert_eq!(rt; asked_by(rt.alloc(), line)?, Some(job), "{line}");
+    }
+    Ok(())
+}
+
+#[test]
+fn other_words_are_refused(rt: HostRuntime) -> Result<(), Fail> {
+    let lines = [
+        "",
+        "serial --pods 4",
+        "serial serial",
+        "--form xml serial",
+        "--help",
+        "--version",
+        "-h",
+        "help",
+        "-",
+        "status",
+        "serial --form",
+        "serial --form -",
+        "serial --form=",
+        "serial --for=text",
+        "serial -f text",
+        "serial --form text --form text",
+        "serial -- --form=text",
+        "serial -- --",
+        "serial --form -- text",
+        "check --form text",
+        "gen --form text",
+        "gen --pods 5",
+        "gen --seed 4294967296",
+        "gen --seed 007",
+        "gen --seed -1",
+        "demo --seed +1",
+    ];
+    for line in lines {
+        assert_eq!(rt; asked_by(rt.alloc(), line)?, None, "{line}");
+    }
+    Ok(())
+}
+
+#[test]
+fn an_empty_word_is_a_word(rt: HostRuntime) -> Result<(), Fail> {
+    assert_eq!(rt; asked(rt.alloc(), ["serial", ""].as_slice())?, None);
+    assert_eq!(rt; asked(rt.alloc(), ["gen", "--seed", ""].as_slice())?, None);
+    Ok(())
+}
+
+#[test]
+fn pods_are_counted(rt: HostRuntime) {
+    assert_eq!(rt;
+        [
+            Pods::Four.count(),
+            Pods::Six.count(),
+            Pods::Eight.count(),
+            Pods::Ten.count()
+        ],
+        [4, 6, 8, 10]
+    );
+}
