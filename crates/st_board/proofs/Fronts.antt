@@ -1,0 +1,158 @@
+-- What one post more makes of a front, and what two fronts of one line have in common.
+use Rattle.std.proofs.Common.{◌≡◌, ℕ, ◌<◌, ◌+◌, Bool, true, false, List, [], ◌∷◌, ◌++◌, length, All, get_or, refl, ap, sym, ◌∙◌, arith, length-append}
+use Rattle.std.proofs.lemmas.List.{append-nil}
+use mathlib.Core.List.{IsPrefix}
+use Rattle.st_net.specs.declared.entity.Row.{Row}
+use Rattle.st_net.specs.declared.entity.Entity.{Entity}
+use Rattle.st_net.specs.declared.entity.Entity.TheVariants.{Device, Link}
+use Rattle.st_net.specs.declared.entity.Var.{Var}
+use Rattle.st_net.specs.declared.entity.Var.TheVariants.{Power, Firmware, Config, Routing, LinkPower, Iface}
+use Rattle.st_net.specs.Entities.{is_var_of}
+use Rattle.st_net.specs.Groups.{Group, IsEntityOf}
+use Rattle.st_net.specs.Ranges.{RowFits, is_in_range}
+use Rattle.st_net.specs.Merge.{target_with}
+use Rattle.st_net.proofs.MergeLaws.{merge_of-push_all}
+use Rattle.st_overlay.specs.Values.{Values, IsIn, IsRowIn, HasSameShape, IsTableOf, overlaid}
+use Rattle.st_overlay.proofs.Overlaying.{Overlays-overlaid}
+use Rattle.st_board.specs.declared.post.Post.{Post}
+use Rattle.st_board.specs.declared.post.Post.TheVariants.{Open, Merge, End}
+use Rattle.st_board.specs.Posts.{MarkIsLast, is_end, is_ended, flag, group_in, proposals_in}
+use Rattle.logbook.specs.Pages.{Book}
+use Rattle.st_board.specs.Published.{IsMergeOf, published_in}
+
+append_empty : {A : Type 0} (xs ys : List A) → xs ++ ys ≡ [] → xs ≡ []
+append_empty [] ys e = refl
+append_empty (x ∷ xs) ys e = absurd (cc e)
+
+group_any : (x : Post) (xs ys : List Post) → group_in (x ∷ xs) ≡ group_in (x ∷ ys)
+group_any (Open g) xs ys = refl
+group_any (Merge rows) xs ys = refl
+group_any End xs ys = refl
+
+group_first : (x y : Post) (xs ys : List Post) → x ≡ y → group_in (x ∷ xs) ≡ group_in (y ∷ ys)
+group_first x y xs ys e = group_any x xs [] ∙ (ap (λ (z : Post). group_in (z ∷ [])) e ∙ sym (group_any y ys []))
+
+-- a beginning of a line is of its group
+pub group_same : (xs ys : List Post) → IsPrefix xs ys → 0 < length xs → group_in xs ≡ group_in ys
+group_same [] ys p some = absurd (omega arith)
+group_same (x ∷ xs) [] p some = absurd (cc (p.1))
+group_same (x ∷ xs) (y ∷ ys) p some = let e : x ≡ y = cc (p.1) in group_first x y xs ys e
+
+-- where the mark is on a beginning of a line, it is the whole line
+pub ended_whole : (xs ys : List Post) → IsPrefix xs ys → is_ended xs ≡ true → MarkIsLast ys → xs ≡ ys
+ended_whole [] ys p ended last = absurd cc
+ended_whole (x ∷ xs) [] p ended last = absurd (cc (p.1))
+ended_whole (Open g ∷ xs) (y ∷ ys) p ended last = cc (p.1, ended_whole xs ys (p.0, cc (p.1)) ended last.1)
+ended_whole (Merge rows ∷ xs) (y ∷ ys) p ended last = cc (p.1, ended_whole xs ys (p.0, cc (p.1)) ended last.1)
+ended_whole (End ∷ xs) (y ∷ ys) p ended last =
+    let same : End ≡ y = cc (p.1) in
+    let none : ys ≡ [] = last.0 (ap is_end (sym same)) in
+    let rest : xs ++ p.0 ≡ ys = cc (p.1) in
+    let empty : xs ≡ [] = append_empty xs p.0 (rest ∙ none) in
+    cc (same, none, empty)
+
+pub proposals_in-append : (xs ys : List Post) → proposals_in (xs ++ ys) ≡ proposals_in xs ++ proposals_in ys
+proposals_in-append [] ys = refl
+proposals_in-append (Open g ∷ xs) ys = proposals_in-append xs ys
+proposals_in-append (Merge rows ∷ xs) ys = ap (λ ps. rows ∷ ps) (proposals_in-append xs ys)
+proposals_in-append (End ∷ xs) ys = proposals_in-append xs ys
+
+-- a beginning of a line has a beginning of its proposals
+pub prefix_proposals : (xs ys : List Post) → IsPrefix xs ys → IsPrefix (proposals_in xs) (proposals_in ys)
+prefix_proposals xs ys p = (proposals_in p.0, sym (proposals_in-append xs p.0) ∙ ap proposals_in p.1)
+
+pub proposals_more : (log : List Post) (rows : List Row) → proposals_in (log ++ Merge rows ∷ []) ≡ proposals_in log ++ rows ∷ []
+proposals_more log rows = proposals_in-append log (Merge rows ∷ [])
+
+pub proposals_end : (log : List Post) → proposals_in (log ++ End ∷ []) ≡ proposals_in log
+proposals_end log = proposals_in-append log (End ∷ []) ∙ append-nil (proposals_in log)
+
+pub group_more : (log : List Post) (p : Post) → 0 < length log → group_in (log ++ p ∷ []) ≡ group_in log
+group_more [] p some = absurd (omega arith)
+group_more (x ∷ log) p some = group_any x (log ++ p ∷ []) log
+
+pub ended_end : (log : List Post) → is_ended (log ++ End ∷ []) ≡ true
+ended_end [] = refl
+ended_end (Open g ∷ log) = ended_end log
+ended_end (Merge rows ∷ log) = ended_end log
+ended_end (End ∷ log) = refl
+
+-- a merge is no mark
+pub ended_more : (log : List Post) (rows : List Row) → is_ended (log ++ Merge rows ∷ []) ≡ is_ended log
+ended_more [] rows = refl
+ended_more (Open g ∷ log) rows = ended_more log rows
+ended_more (Merge r ∷ log) rows = ended_more log rows
+ended_more (End ∷ log) rows = refl
+
+-- a front with one merge more
+pub counts_more : (version : ℕ) (ended : Bool) (log new : List Post) (rows : List Row) → version ≡ length (proposals_in log) → ended ≡ is_ended log → 1 + version + flag ended ≡ length log → new ≡ log ++ Merge rows ∷ []
+    → (version + 1 ≡ length (proposals_in new)) × (ended ≡ is_ended new) × (1 + (version + 1) + flag ended ≡ length new)
+counts_more version ended log new rows merges marked counted is =
+    rw is (
+      rw (proposals_more log rows) (omega (arith, merges, length-append (proposals_in log) (rows ∷ []))),
+      marked ∙ sym (ended_more log rows),
+      omega (arith, counted, length-append log (Merge rows ∷ [])),
+    )
+
+-- a front with the mark
+pub counts_end : (version : ℕ) (ended : Bool) (log new : List Post) → version ≡ length (proposals_in log) → ended ≡ is_ended log → is_ended log ≡ false → 1 + version + flag ended ≡ length log → new ≡ log ++ End ∷ []
+    → (version ≡ length (proposals_in new)) × (true ≡ is_ended new) × (1 + version + flag true ≡ length new)
+counts_end version ended log new merges marked going counted is =
+    let none : flag ended ≡ 0 = ap flag (marked ∙ going) in
+    rw is (
+      rw (proposals_end log) merges,
+      sym (ended_end log),
+      omega (arith, none, counted, length-append log (End ∷ [])),
+    )
+
+-- two tables of one group have one shape
+pub shape_of : (g : Group) (t u : Values) → IsTableOf g t → IsTableOf g u → HasSameShape t u
+shape_of g t u a b = record { devices = b.devices ∙ sym a.devices; links = b.links ∙ sym a.links }
+
+var_of_device : (v : Var) (i n : ℕ) → is_in_range (Device i) v n ≡ true → is_var_of (Device i) v ≡ true
+var_of_device Power i n e = refl
+var_of_device Firmware i n e = refl
+var_of_device Config i n e = refl
+var_of_device Routing i n e = refl
+var_of_device LinkPower i n e = absurd cc
+var_of_device Iface i n e = absurd cc
+
+var_of_link : (v : Var) (i n : ℕ) → is_in_range (Link i) v n ≡ true → is_var_of (Link i) v ≡ true
+var_of_link Power i n e = absurd cc
+var_of_link Firmware i n e = absurd cc
+var_of_link Config i n e = absurd cc
+var_of_link Routing i n e = absurd cc
+var_of_link LinkPower i n e = refl
+var_of_link Iface i n e = refl
+
+row_in : (g : Group) (t : Values) (e : Entity) (v : Var) (n : ℕ) → IsTableOf g t → IsEntityOf g e → is_in_range e v n ≡ true → IsIn t e × (is_var_of e v ≡ true)
+row_in g t (Device i) v n of here range = (omega (arith, of.devices, here), var_of_device v i n range)
+row_in g t (Link i) v n of here range = (omega (arith, of.links, here), var_of_link v i n range)
+
+-- rows that fit a group are in each table of it
+pub rows_in : (g : Group) (t : Values) (rows : List Row) → IsTableOf g t → All (RowFits g) rows → All (IsRowIn t) rows
+rows_in g t rows of fit = λ k d lt. let row = get_or rows k d in let fits = fit k d lt in row_in g t row.entity row.var row.value of fits.entity fits.range
+
+-- a merge more is laid over the table
+pub merge_more : (g : Group) (proposals : List (List Row)) (rows : List Row) (t : Values) → IsMergeOf g proposals t → All (RowFits g) rows → IsMergeOf g (proposals ++ rows ∷ []) (overlaid t rows)
+merge_more g proposals rows t was fit =
+    let overlays = Overlays-overlaid t (overlaid t rows) rows refl (rows_in g t rows was.of fit) in
+    record {
+      of = overlays.kept g was.of;
+      values = overlays.values ∙ (ap (λ target. target_with target rows) was.values ∙ sym (merge_of-push_all g proposals rows));
+    }
+
+-- the table of a front with one merge more
+pub shown_more : (log new : List Post) (rows : List Row) (t : Values) → 0 < length log → new ≡ log ++ Merge rows ∷ [] → IsMergeOf (group_in log) (proposals_in log) t → All (RowFits (group_in log)) rows → IsMergeOf (group_in new) (proposals_in new) (overlaid t rows)
+shown_more log new rows t some is was fit = rw (is, group_more log (Merge rows) some, proposals_more log rows) (merge_more (group_in log) (proposals_in log) rows t was fit)
+
+-- the table of a front with the mark
+pub shown_end : (log new : List Post) (t : Values) → 0 < length log → new ≡ log ++ End ∷ [] → IsMergeOf (group_in log) (proposals_in log) t → IsMergeOf (group_in new) (proposals_in new) t
+shown_end log new t some is was = rw (is, group_more log End some, proposals_end log) was
+
+-- what contracts see of a front with one merge more, and of one with the mark
+pub published_more : (b : Book) (log new : List Post) (rows : List Row) → 0 < length log → new ≡ log ++ Merge rows ∷ [] → published_in b new ≡ record (published_in b log) { proposals = proposals_in log ++ rows ∷ [] }
+published_more b log new rows some is = rw is (cc (group_more log (Merge rows) some, proposals_more log rows, ended_more log rows))
+
+pub published_end : (b : Book) (log new : List Post) → 0 < length log → new ≡ log ++ End ∷ [] → published_in b new ≡ record (published_in b log) { ended = true }
+published_end b log new some is = rw is (cc (group_more log End some, proposals_end log, ended_end log))

@@ -1,0 +1,51 @@
+use Rattle.std.proofs.Common.{◌≡◌, ◌<◌, ◌++◌, ◌∷◌, [], true, length, sym, ap, subst, ◌∙◌, List, arith}
+use Rattle.logbook.specs.Pages.{Book}
+use Rattle.st_net.specs.declared.entity.Row.{Row}
+use Rattle.st_overlay.specs.Values.{overlaid}
+use Rattle.st_board.specs.declared.front.Front.{Front}
+use Rattle.st_board.specs.declared.post.Post.TheVariants.{End}
+use Rattle.st_board.specs.declared.target.Target.{Target}
+use Rattle.st_board.specs.Posts.{group_in, proposals_in}
+use Rattle.st_board.specs.LineInside.{head_of}
+use Rattle.st_board.specs.ShownInside.{IsShown}
+use Rattle.st_board.specs.Published.{Published, published_in, IsMergeOf}
+use Rattle.st_board.proofs.Fronts.{shown_end, published_end}
+use Rattle.st_board.proofs.board.Board.end.Goals as goal
+
+pub show-requires-clause-ready : goal.show-requires-clause-ready
+show-requires-clause-ready g c =
+    let old = c.self.inside.desk.desk.shown.value in
+    let none : c.new-rows.result ≡ [] = c.new-rows.ensures ∙ c.new.ensures.items in
+    let front : c.again-front.result ≡ old.front = c.again-front.ensures ∙ ap (λ (t : Target). t.front) c.published.ensures in
+    let more : c.end.new.self.seen.log ≡ old.front.seen.log ++ End ∷ [] = c.if-not-end.ensures.done ∙ ap (λ (f : Front). f.seen.log ++ End ∷ []) front in
+    let some : 0 < length old.front.seen.log = omega (arith, old.front.counted) in
+    let same = shown_end old.front.seen.log c.end.new.self.seen.log old.table some more c.self.invariant.shown in
+    (subst (λ (rows : List Row). IsMergeOf (group_in c.end.new.self.seen.log) (proposals_in c.end.new.self.seen.log) (overlaid old.table rows)) (sym none) same, c.if-not-end.ensures.book ∙ ap (λ (f : Front). f.seen.book) front)
+
+pub invariant_of-self-2 : goal.invariant_of-self-2
+invariant_of-self-2 g c =
+    let old = c.self.inside.desk.desk.shown.value in
+    let none : c.new-rows.result ≡ [] = c.new-rows.ensures ∙ c.new.ensures.items in
+    let front : c.again-front.result ≡ old.front = c.again-front.ensures ∙ ap (λ (t : Target). t.front) c.published.ensures in
+    let more : c.end.new.self.seen.log ≡ old.front.seen.log ++ End ∷ [] = c.if-not-end.ensures.done ∙ ap (λ (f : Front). f.seen.log ++ End ∷ []) front in
+    let some : 0 < length old.front.seen.log = omega (arith, old.front.counted) in
+    let same = shown_end old.front.seen.log c.end.new.self.seen.log old.table some more c.self.invariant.shown in
+    let book : c.end.new.self.seen.book ≡ old.front.seen.book = c.if-not-end.ensures.book ∙ ap (λ (f : Front). f.seen.book) front in
+    record {
+      idle = c.in_ok-show.ensures.idle;
+      shown = subst IsShown (sym c.in_ok-show.ensures.shown) (subst (λ (rows : List Row). IsMergeOf (group_in c.end.new.self.seen.log) (proposals_in c.end.new.self.seen.log) (overlaid old.table rows)) (sym none) same);
+      bound = c.in_ok-show.ensures.bound;
+      head = c.self.invariant.head ∙ ap head_of (sym (ap (λ (t : Target). t.front.seen.book) c.in_ok-show.ensures.shown ∙ book));
+    }
+
+pub returns-clause-ok : goal.returns-clause-ok
+returns-clause-ok g c =
+    let old = c.self.inside.desk.desk.shown.value in
+    let front : c.again-front.result ≡ old.front = c.again-front.ensures ∙ ap (λ (t : Target). t.front) c.published.ensures in
+    let more : c.end.new.self.seen.log ≡ old.front.seen.log ++ End ∷ [] = c.if-not-end.ensures.done ∙ ap (λ (f : Front). f.seen.log ++ End ∷ []) front in
+    let some : 0 < length old.front.seen.log = omega (arith, old.front.counted) in
+    let book : c.end.new.self.seen.book ≡ old.front.seen.book = c.if-not-end.ensures.book ∙ ap (λ (f : Front). f.seen.book) front in
+    ap (λ (t : Target). published_in t.front.seen.book t.front.seen.log) c.in_ok-show.ensures.shown
+    ∙ (ap (λ (b : Book). published_in b c.end.new.self.seen.log) book
+    ∙ (published_end old.front.seen.book old.front.seen.log c.end.new.self.seen.log some more
+    ∙ ap (λ (p : Published). record p { ended = true }) c.self.view_is))

@@ -1,0 +1,6 @@
+pub mod BoardInside
+pub mod LineInside
+pub mod Posts
+pub mod Published
+pub mod ReaderInside
+pub mod ShownInside

@@ -1,0 +1,43 @@
+-- What the posts of a line come to.
+use Rattle.std.specs.Prelude.{◌≡◌, ℕ, Bool, true, false, ◌||◌, List, [], ◌∷◌}
+use Rattle.st_net.specs.declared.entity.Row.{Row}
+use Rattle.st_net.specs.Groups.{Group}
+use Rattle.st_board.specs.declared.post.Post.{Post}
+use Rattle.st_board.specs.declared.post.Post.TheVariants.{Open, Merge, End}
+
+-- the proposals that were published, from the first
+abbrev pub proposals_in : List Post → List (List Row)
+proposals_in [] = []
+proposals_in (Open g ∷ posts) = proposals_in posts
+proposals_in (Merge rows ∷ posts) = rows ∷ proposals_in posts
+proposals_in (End ∷ posts) = proposals_in posts
+
+-- what a line has before its first post
+abbrev pub no_group : Group
+no_group = record { name = []; device_names = []; link_names = []; devices = []; links = []; promises = [] }
+
+-- the group that a line is of
+abbrev pub group_in : List Post → Group
+group_in [] = no_group
+group_in (Open g ∷ posts) = g
+group_in (Merge rows ∷ posts) = no_group
+group_in (End ∷ posts) = no_group
+
+abbrev pub is_end : Post → Bool
+is_end (Open g) = false
+is_end (Merge rows) = false
+is_end End = true
+
+-- the mark of the end is on it
+abbrev pub is_ended : List Post → Bool
+is_ended [] = false
+is_ended (p ∷ posts) = is_end p || is_ended posts
+
+-- the mark of the end stands at the end alone
+abbrev pub MarkIsLast : List Post → Type 0
+MarkIsLast [] = Unit {0}
+MarkIsLast (p ∷ posts) = (is_end p ≡ true → posts ≡ []) × MarkIsLast posts
+
+abbrev pub flag : Bool → ℕ
+flag true = 1
+flag false = 0

@@ -1,0 +1,35 @@
+-- The rule of what the writer shows.
+use Rattle.std.specs.Prelude.{◌≡◌, ◌⊎◌, ℕ, List, [], ◌∷◌, fold}
+use mathlib.Core.Option.{some}
+use lib.ListN.{get_elem?}
+use Rattle.logbook.specs.Pages.{Book}
+use Rattle.st_overlay.specs.Values.{overlaid}
+use Rattle.st_board.specs.declared.target.Target.{Target}
+use Rattle.st_board.specs.declared.target.Merge.{Merge}
+use Rattle.st_board.specs.Posts.{proposals_in, group_in}
+use Rattle.st_board.specs.Published.{IsMergeOf}
+
+-- a line's name, as numbers
+abbrev pub code : Book → List ℕ
+code b = b.number ∷ b.log_name ∷ b.cells_name ∷ []
+
+abbrev pub absorbed : Target → Merge → Target
+absorbed s m = record { table = overlaid s.table m.rows; front = m.front }
+
+-- the table is the merge of its front
+abbrev pub IsShown : Target → Type 0
+IsShown x = IsMergeOf (group_in x.front.seen.log) (proposals_in x.front.seen.log) x.table
+
+-- a view that knows no line, or this one
+abbrev pub Names : Book → List ℕ → Type 0
+Names b v = (v ≡ []) ⊎ (v ≡ code b)
+
+abbrev pub Bound : Target → List (List ℕ) → Type 0
+Bound x views = IsShown x × ((seat : ℕ) (v : List ℕ) → get_elem? views seat ≡ some v → Names x.front.seen.book v)
+
+abbrev pub Shown : List ℕ → Target → Target → List ℕ → Type 0
+Shown v x y w = IsShown y × Names y.front.seen.book v × (w ≡ code y.front.seen.book)
+
+-- with these merges, the table is that of the last front, which is of the same line
+abbrev pub IsReady : Target → List Merge → Type 0
+IsReady x ms = let y = fold absorbed x ms in IsShown y × (y.front.seen.book ≡ x.front.seen.book)

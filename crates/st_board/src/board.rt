@@ -1,0 +1,185 @@
+//! The board, by which the writer publishes merges. What it publishes comes from a group's world, and its notes go to the readers.
+
+ghost use Rattle.std.specs.Prelude.{◌≡◌, ◌+◌, ◌<◌, ◌≤◌, ◌^◌, ◌++◌, ◌∷◌, [], length, true, false, All, IfOk, OnOk, OnErr};
+ghost use Rattle.st_net.specs.Ranges.{RowFits};
+ghost use Rattle.st_board.specs.Published.{IsMergeOf, opening_on};
+
+use crate::line::{Head, Line};
+use crate::note::Note;
+use crate::reader::TargetReader;
+use crate::target::{Desk, Merge, Same, Target, show, show_next};
+use left_right::writer::Writer;
+use st_event::Rows;
+use st_net::{GroupTopo, Row};
+use st_overlay::Table;
+use std::alloc::{AllocError, Global};
+use std::marker::Model;
+use std::sync::Wait;
+
+/// The most readers of a board.
+pub const MAX_READERS: u32 = 512;
+
+/// The writer of a published target. Contracts see what it has published. It is not `Drop`, since its end may wait: end it by `give_up`,
+/// or keep it in a `Held`.
+pub struct Board {
+    desk: Desk,
+    // the word that counts the posts of the line
+    head: Head,
+}
+
+impl Model for Board {
+    ghost use Rattle.st_board.specs.Published.{Published, published_in};
+
+    ghost Value = { Published };
+
+    ghost use Rattle.st_board.specs.BoardInside.{IsBoard};
+
+    ghost view = { λ b. published_in b.desk.desk.shown.value.front.seen.book b.desk.desk.shown.value.front.seen.log };
+
+    ghost invariant = { IsBoard };
+}
+
+impl Board {
+    /// A board that shows the opening of a group, and its readers, all of one line. A reader's place is memory that is taken here, so one
+    /// that `left_right` does not hand out is want of memory. It may wait.
+    pub fn start<R: Wait>(
+        rt: &R,
+        alloc: Global,
+        line: Line,
+        topo: &GroupTopo,
+        readers: u32,
+    ) -> Result<(Board, Vec<TargetReader>), AllocError>
+        requires { readers ≤ MAX_READERS }
+        ensures board { IfOk result (λ made. made.0 ≡ opening_on line topo.now) }
+        ensures count { IfOk result (λ made. length made.1.items ≡ readers) }
+        ensures readers { IfOk result (λ made. All (λ r. r ≡ opening_on line topo.now) made.1.items) }
+    {
+        let mut places = Vec::new(alloc);
+        places.reserve(readers as usize)?;
+        let mut board = Board::open(rt, alloc, line, topo, readers)?;
+        for _ in 0..readers {
+            match board.reader(alloc) {
+                Ok(reader) => places.push_reserved(reader),
+                Err(error) => {
+                    board.give_up(rt);
+                    return Err(error);
+                }
+            }
+        }
+        Ok((board, places))
+    }
+
+    // A board without its readers.
+    fn open<R: Wait>(
+        rt: &R,
+        alloc: Global,
+        line: Line,
+        topo: &GroupTopo,
+        readers: u32,
+    ) -> Result<Board, AllocError>
+        requires { readers ≤ MAX_READERS }
+        ensures { IfOk result (λ board. board ≡ opening_on line topo.now) }
+    {
+        let table = Table::opening(alloc, topo)?;
+        let spare = table.copy(alloc)?;
+        let Some((head, front)) = line.open(topo) else {
+            return Err(AllocError);
+        };
+        let first = Target {
+            table,
+            front: front.again(),
+        };
+        let second = Target {
+            table: spare,
+            front,
+        };
+        let desk: Desk = Writer::new(alloc, first, second, readers as usize + 1)?;
+        let (desk, ()) = show_next(desk, rt);
+        Ok(Board { desk, head })
+    }
+
+    // A reader at what is shown.
+    fn reader(&mut self, alloc: Global) -> Result<TargetReader, AllocError>
+        ensures board { self.new ≡ self.old }
+        ensures front { IfOk result (λ reader. reader ≡ self.old) }
+    {
+        let shown = self.desk.published();
+        let table = shown.table.copy(alloc)?;
+        let front = shown.front.again();
+        let mut place = self.desk.factory().reader()?;
+        place.learn::<Same>(self.desk.tell::<Same>());
+        Ok(TargetReader {
+            place,
+            table,
+            front,
+        })
+    }
+
+    /// Publishes one merge, and gives a note of the front that ends with it. At `Err`, which is want of memory, nothing was published. It
+    /// may wait for readers.
+    pub fn publish<R: Wait>(
+        &mut self,
+        rt: &R,
+        alloc: Global,
+        rows: &[Row],
+    ) -> Result<Note, AllocError>
+        requires going { self.old.ended ≡ false }
+        requires room { length self.old.proposals + 1 < 2 ^ 32 }
+        requires fits { All (RowFits self.old.group) rows.now }
+        ensures ok { OnOk result (self.new ≡ record self.old { proposals = self.old.proposals ++ rows.now ∷ [] }) }
+        ensures note { IfOk result (λ note. note ≡ self.new) }
+        ensures err { OnErr result (self.new ≡ self.old) }
+    {
+        let rows = Rows::from_slice(alloc, rows)?;
+        let mut front = self.desk.published().front.again();
+        if !front.merge(&self.head, &rows) {
+            return Err(AllocError);
+        }
+        // The note first: what is shown takes the front.
+        let note = front.again();
+        let merge = Merge { rows, front };
+        show(&mut self.desk, rt, merge)?;
+        Ok(Note { front: note })
+    }
+
+    /// Publishes the mark that ends the front, and gives a note of the whole front. At `Err`, which is want of memory, nothing was
+    /// published. It may wait for readers.
+    pub fn end<R: Wait>(&mut self, rt: &R, alloc: Global) -> Result<Note, AllocError>
+        requires going { self.old.ended ≡ false }
+        ensures ok { OnOk result (self.new ≡ record self.old { ended = true }) }
+        ensures note { IfOk result (λ note. note ≡ self.new) }
+        ensures err { OnErr result (self.new ≡ self.old) }
+    {
+        let rows = Rows::new(Vec::new(alloc));
+        let mut front = self.desk.published().front.again();
+        if !front.end(&self.head) {
+            return Err(AllocError);
+        }
+        let whole = front.again();
+        let mark = Merge { rows, front };
+        show(&mut self.desk, rt, mark)?;
+        Ok(Note { front: whole })
+    }
+
+    /// What was published so far.
+    pub fn note(&self) -> Note
+        ensures { result ≡ self.now }
+    {
+        Note {
+            front: self.desk.published().front.again(),
+        }
+    }
+
+    /// The published target: the merge of what was published.
+    pub fn target(&self) -> &Table
+        ensures { IsMergeOf self.now.group self.now.proposals result.now }
+    {
+        &self.desk.published().table
+    }
+
+    /// Gives the board up, at any time and also after a refusal. Its readers go on with what they have. It may wait for readers.
+    pub fn give_up<R: Wait>(self, rt: &R) {
+        let Board { desk, head: _head } = self;
+        desk.take(rt);
+    }
+}

@@ -1,0 +1,79 @@
+//! A front: a beginning of a board's line that was seen, with its counts. The writer shows one beside each table, and each note
+//! and each reader has one.
+
+ghost use Rattle.std.specs.Prelude.{◌≡◌, ◌+◌, ◌<◌, ◌≤◌, ◌^◌, ◌++◌, ◌∷◌, [], length, false, MatchBool};
+ghost use Rattle.st_board.specs.Posts.{flag, is_ended, proposals_in};
+ghost use Rattle.st_board.specs.LineInside.{head_of};
+ghost use Rattle.st_board.specs.declared.post.Post.TheVariants.{Merge as merge_post, End as end_post};
+
+use crate::line::{Head, add_post};
+use crate::post::{Ends, LineRule, Merges, Post};
+use logbook::Seen;
+use st_event::Rows;
+
+/// A beginning of a line that was seen, with the group at least.
+#[derive(Drop)]
+pub struct Front {
+    /// How many merges it has.
+    pub version: u32,
+    /// Whether the mark is on it.
+    pub ended: bool,
+    pub seen: Seen<Post, u64, LineRule>,
+    pub ghost merges: { version ≡ length (proposals_in seen.log) },
+    pub ghost marked: { ended ≡ is_ended seen.log },
+    pub ghost counted: { 1 + version + flag ended ≡ length seen.log },
+}
+
+impl Front {
+    /// How many posts there are.
+    pub fn posts(&self) -> u64
+        ensures count { result ≡ length self.now.seen.log }
+        ensures few { result ≤ 2 ^ 32 + 1 }
+    {
+        1 + self.version as u64 + self.ended as u64
+    }
+
+    /// A copy. It takes no memory.
+    pub fn again(&self) -> Front
+        ensures { result ≡ self.now }
+    {
+        Front {
+            version: self.version,
+            ended: self.ended,
+            seen: self.seen.again(),
+        }
+    }
+
+    /// Posts a merge behind all that was seen. It did not where the line is longer.
+    pub fn merge(&mut self, head: &Head, rows: &Rows) -> bool
+        requires head { head.now.word ≡ head_of self.old.seen.book }
+        requires going { is_ended self.old.seen.log ≡ false }
+        requires room { length (proposals_in self.old.seen.log) + 1 < 2 ^ 32 }
+        ensures book { self.new.seen.book ≡ self.old.seen.book }
+        ensures done { MatchBool result (self.new.seen.log ≡ self.old.seen.log ++ merge_post rows.now ∷ []) (self.new ≡ self.old) }
+    {
+        let mut seen = self.seen.again();
+        if !add_post::<Rows, Merges>(head, &mut seen, self.posts(), rows) {
+            return false;
+        }
+        self.version += 1;
+        self.seen = seen;
+        true
+    }
+
+    /// Posts the mark of the end behind all that was seen. It did not where the line is longer.
+    pub fn end(&mut self, head: &Head) -> bool
+        requires head { head.now.word ≡ head_of self.old.seen.book }
+        requires going { is_ended self.old.seen.log ≡ false }
+        ensures book { self.new.seen.book ≡ self.old.seen.book }
+        ensures done { MatchBool result (self.new.seen.log ≡ self.old.seen.log ++ end_post ∷ []) (self.new ≡ self.old) }
+    {
+        let mut seen = self.seen.again();
+        if !add_post::<(), Ends>(head, &mut seen, self.posts(), &()) {
+            return false;
+        }
+        self.ended = true;
+        self.seen = seen;
+        true
+    }
+}
