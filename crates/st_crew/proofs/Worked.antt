@@ -1,5 +1,5 @@
 -- Ends of small jobs, worked out: jobs that are numbers, each of which promises its double.
-use Rattle.std.proofs.Common.{◌≡◌, ℕ, zero, suc, ◌*◌, ◌<◌, List, [], ◌∷◌, Some, slice_get, refl, arith}
+use Rattle.std.proofs.Common.{◌≡◌, ℕ, zero, suc, ◌*◌, [], ◌∷◌, Some, slice_get, refl, arith}
 use Rattle.st_crew.specs.Ends.{EndsOf}
 
 abbrev doubles : ℕ → ℕ → Type 0
