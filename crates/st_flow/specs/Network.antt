@@ -4,12 +4,11 @@ use Rattle.std.specs.List.{AllZip, list_any}
 use Rattle.std.specs.List.Sorted.{IsStrictlyIncreasing}
 use Rattle.st_flow.specs.declared.edge.Edge.{Edge}
 
--- an edge of a network of so many nodes
+-- an edge of a network of so many nodes; one of capacity 0 carries nothing, and no cut counts it
 pub record IsEdge (nodes : ℕ) (e : Edge) : Type 0 where
   pub u_in : e.u < nodes
   pub v_in : e.v < nodes
   pub apart : e.u ≢ e.v
-  pub carries : 1 ≤ e.capacity
   pub bounded : e.capacity ≤ 1000000
 
 -- what an edge that carries `f` from u to v takes out of a set of nodes: `f` where only u is in it, and minus `f` where only v is

@@ -65,8 +65,9 @@ impl Graph {
         self.edges.len() as u32
     }
 
-    /// Adds an undirected edge between two different nodes, with a capacity of 1 to `MAX_CAPACITY`, to a network of
-    /// fewer than `MAX_EDGES` edges. Its number is how many edges there were before.
+    /// Adds an undirected edge between two different nodes, with a capacity of at most `MAX_CAPACITY`, to a network of
+    /// fewer than `MAX_EDGES` edges. Its number is how many edges there were before. An edge of capacity 0 keeps its
+    /// number and carries nothing: so networks with some edges down can have the same numbers.
     pub fn add(&mut self, u: u32, v: u32, capacity: u32) -> Result<(), AllocError>
         requires edge { IsEdge self.old.nodes (record { u = u; v = v; capacity = capacity }) }
         requires few { length self.old.edges < 4096 }
