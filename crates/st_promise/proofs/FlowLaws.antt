@@ -52,8 +52,8 @@ side_is g up a b value side sound apart is =
     (λ other cut e. all_has other side e (is.inmost other (record { inside = cut.cut.inside; outside = cut.cut.outside }) (sym (cut_same 0 g.links up other) ∙ (cut.value ∙ sym least))))
     d low)
 
--- where there is a flow of the need, and of 1, the promise holds
-pub enough_kept : (g : Group) (up : Entity → Bool) (p q : Promise) (net : Network) (need asked : ℕ) → p.a ≢ p.b → q ≡ p → net ≡ up_network g up → need ≡ need_of g p → asked ≡ max need 1 → ((s : ℕ → Bool) → IsEdgeCut s q.a q.b → asked ≤ edge_cut_value net.edges s) → true ≡ is_kept g up p
+-- where there is a flow of the need or more, and of 1, the promise holds
+pub enough_kept : (g : Group) (up : Entity → Bool) (p q : Promise) (net : Network) (need asked : ℕ) → p.a ≢ p.b → q ≡ p → net ≡ up_network g up → need ≡ need_of g p → max need 1 ≤ asked → ((s : ℕ → Bool) → IsEdgeCut s q.a q.b → asked ≤ edge_cut_value net.edges s) → true ≡ is_kept g up p
 enough_kept g up p q net need asked apart same is needs asks every =
     let least = least_cut-attained (length g.devices) g.links up p.a p.b apart in
     let high = every least.0 (rw same (record { inside = least.1.inside; outside = least.1.outside })) in
@@ -75,6 +75,12 @@ pub short_fails : (g : Group) (up : Entity → Bool) (p : Promise) (need asked :
 short_fails g up p need asked cut needs asks low least =
     let few : least_cut (length g.devices) g.links up p.a p.b < max 1 (need_of g p) = omega (arith, low, least.value, needs, asks) in
     sym (grind (arith, nat_tests, few))
+
+-- where it is enough, the promise holds
+pub least_holds : (g : Group) (up : Entity → Bool) (p : Promise) (need asked : ℕ) (cut : Cut) → need ≡ need_of g p → asked ≡ max need 1 → asked ≤ cut.value → IsLeastCutOf g up p cut → true ≡ is_kept g up p
+least_holds g up p need asked cut needs asks high least =
+    let enough : max 1 (need_of g p) ≤ least_cut (length g.devices) g.links up p.a p.b = omega (arith, high, least.value, needs, asks) in
+    sym (grind (arith, nat_tests, enough))
 
 -- a share of what all links can carry fits
 pub share_fits : (g : Group) (p q : Promise) (percent value : ℕ) → IsSound g → IsPromiseAmong g.devices p → q ≡ p → percent ≡ q.percent → value ≡ least_cut (length g.devices) g.links (λ e. true) p.a p.b → percent * value ≤ 409600000000

@@ -1,4 +1,4 @@
--- The first promise that fails, and the first that a change breaks, found in order.
+-- The first promise that a change breaks, found in order.
 use Rattle.std.proofs.Common.{◌≡◌, ℕ, zero, suc, ◌+◌, ◌<◌, List, [], ◌∷◌, length, drop, refl, ap, ◌∙◌, sym, arith}
 use Rattle.std.specs.Prelude.{Bool, true, false, ◌&&◌, not, Option, Some, None, slice_index_or, if◌then◌else◌}
 use Rattle.st_net.specs.declared.entity.Entity.{Entity}
@@ -6,45 +6,6 @@ use Rattle.st_net.specs.declared.promise.Promise.{Promise}
 use Rattle.st_net.specs.declared.promise.Broken.{Broken}
 use Rattle.st_net.specs.Groups.{Group, no_promise, promise_of}
 use Rattle.st_net.specs.Promises.{is_kept, is_broken, broken_at, first_broken}
-use Rattle.st_promise.specs.Book.{first_failed}
-
-none_broken : (k : Bool) → (k && not true) ≡ false
-none_broken true = refl
-none_broken false = refl
-
--- the later promises from the first that fails, which is number k
-record Later (g : Group) (before after : Entity → Bool) (at : ℕ) (ps : List Promise) (k : ℕ) : Type 0 where
-  past : ℕ
-  place : k ≡ at + past
-  same : first_broken g before after k (drop past ps) ≡ first_broken g before after at ps
-
-later_at : (g : Group) (before after : Entity → Bool) (at : ℕ) (p : Promise) (ps : List Promise) (k : ℕ) (kept : Bool) → is_kept g after p ≡ kept → (if kept then first_failed g after (at + 1) ps else Some at) ≡ Some k → (first_failed g after (at + 1) ps ≡ Some k → Later g before after (at + 1) ps k) → Later g before after at (p ∷ ps) k
-later_at g before after at p ps k true is found go_on =
-    let more = go_on found in
-    record { past = suc more.past; place = omega (arith, more.place); same = rw (is, none_broken (is_kept g before p)) more.same }
-later_at g before after at p ps k false is found go_on =
-    let here : at ≡ k = cc in
-    record { past = zero; place = omega (arith, here); same = rw (← here) refl }
-
-later : (g : Group) (before after : Entity → Bool) (at : ℕ) (ps : List Promise) (k : ℕ) → first_failed g after at ps ≡ Some k → Later g before after at ps k
-later g before after at [] k is = cc
-later g before after at (p ∷ ps) k is = later_at g before after at p ps k (is_kept g after p) refl is (later g before after (at + 1) ps k)
-
--- no promise before the first that fails breaks
-pub broken_from : (g : Group) (before after : Entity → Bool) (k : ℕ) → first_failed g after 0 g.promises ≡ Some k → first_broken g before after k (drop k g.promises) ≡ first_broken g before after 0 g.promises
-broken_from g before after k is =
-    let found = later g before after 0 g.promises k is in
-    let place : k ≡ found.past = omega (arith, found.place) in
-    ap (λ m. first_broken g before after k (drop m g.promises)) place ∙ found.same
-
-none_at : (g : Group) (before after : Entity → Bool) (at : ℕ) (p : Promise) (ps : List Promise) (kept : Bool) → is_kept g after p ≡ kept → (if kept then first_failed g after (at + 1) ps else Some at) ≡ None → (first_failed g after (at + 1) ps ≡ None → first_broken g before after (at + 1) ps ≡ None) → first_broken g before after at (p ∷ ps) ≡ None
-none_at g before after at p ps true is none go_on = rw (is, none_broken (is_kept g before p)) (go_on none)
-none_at g before after at p ps false is none go_on = cc
-
--- where none fails, none breaks
-pub none_broken_from : (g : Group) (before after : Entity → Bool) (at : ℕ) (ps : List Promise) → first_failed g after at ps ≡ None → first_broken g before after at ps ≡ None
-none_broken_from g before after at [] none = refl
-none_broken_from g before after at (p ∷ ps) none = none_at g before after at p ps (is_kept g after p) refl none (none_broken_from g before after (at + 1) ps)
 
 promise_drop : (ps : List Promise) (i : ℕ) → i < length ps → drop i ps ≡ slice_index_or ps i no_promise ∷ drop (i + 1) ps
 promise_drop [] i low = absurd (omega arith)
@@ -69,3 +30,19 @@ broken_here g before after i found low is = broken_at_i g before after i low ∙
 -- one that does not is passed over
 pub broken_next : (g : Group) (before after : Entity → Bool) (i : ℕ) → i < length g.promises → None ≡ (if is_broken g before after (promise_of g i) then Some (broken_at g after i (promise_of g i)) else None) → first_broken g before after i (drop i g.promises) ≡ first_broken g before after (i + 1) (drop (i + 1) g.promises)
 broken_next g before after i low is = broken_at_i g before after i low ∙ next_at (is_broken g before after (promise_of g i)) (broken_at g after i (promise_of g i)) (first_broken g before after (i + 1) (drop (i + 1) g.promises)) is
+
+none_broken : (k : Bool) → (k && not true) ≡ false
+none_broken true = refl
+none_broken false = refl
+
+-- a promise that failed before is passed over, and so is one that holds after
+pub passed_failed : (g : Group) (before after : Entity → Bool) (i : ℕ) → i < length g.promises → is_kept g before (promise_of g i) ≡ false → first_broken g before after i (drop i g.promises) ≡ first_broken g before after (i + 1) (drop (i + 1) g.promises)
+passed_failed g before after i low is = broken_next g before after i low (rw is refl)
+
+pub passed_kept : (g : Group) (before after : Entity → Bool) (i : ℕ) → i < length g.promises → is_kept g after (promise_of g i) ≡ true → first_broken g before after i (drop i g.promises) ≡ first_broken g before after (i + 1) (drop (i + 1) g.promises)
+passed_kept g before after i low is = broken_next g before after i low (rw (is, none_broken (is_kept g before (promise_of g i))) refl)
+
+-- where all hold after, none is broken
+pub none_from : (g : Group) (before after : Entity → Bool) (i : ℕ) (ps : List Promise) → ((k : ℕ) → k < length ps → is_kept g after (slice_index_or ps k no_promise) ≡ true) → first_broken g before after i ps ≡ None
+none_from g before after i [] kept = refl
+none_from g before after i (p ∷ ps) kept = rw (kept zero (omega arith), none_broken (is_kept g before p)) (none_from g before after (i + 1) ps (λ k low. kept (suc k) (omega arith)))

@@ -7,3 +7,11 @@ pub mod ChainLaws
 pub mod NetworkLaws
 pub mod FlowLaws
 pub mod JudgeLaws
+pub mod ShareLaws
+pub mod KeptLaws
+pub mod BookLaws
+pub mod CutLaws
+pub mod WithinLaws
+pub mod FailingLaws
+pub mod WideLaws
+pub mod IndexLaws

@@ -13,19 +13,18 @@ use Rattle.st_flow.specs.Network.{Network, IsEdge, cut_part, cut_value as edge_c
 use Rattle.st_promise.specs.UpNetwork.{edge_of, up_edges, up_network}
 
 -- a link of a group is an edge of its network
-pub edge_is : (n nodes u v capacity : ℕ) (link : LinkOpening) → nodes ≡ n → u ≡ link.a → v ≡ link.b → capacity ≡ link.capacity → IsLink n link → IsEdge nodes (record { u = u; v = v; capacity = capacity })
-edge_is n nodes u v capacity link same at_a at_b carries link_is = rw (same, at_a, at_b, carries) (record {
+pub edge_is : (n nodes u v capacity : ℕ) (link : LinkOpening) → nodes ≡ n → u ≡ link.a → v ≡ link.b → capacity ≤ link.capacity → IsLink n link → IsEdge nodes (record { u = u; v = v; capacity = capacity })
+edge_is n nodes u v capacity link same at_a at_b low link_is = rw (same, at_a, at_b) (record {
   u_in = link_is.a_in;
   v_in = link_is.b_in;
   apart = link_is.apart;
-  carries = link_is.carries;
-  bounded = link_is.bounded;
+  bounded = omega (arith, low, link_is.bounded);
 })
 
--- a network of those of the first m links that are up
+-- the network of the first m links
 pub record IsMadeTo (g : Group) (up : Entity → Bool) (m : ℕ) (net : Network) : Type 0 where
   pub nodes : net.nodes ≡ length g.devices
-  pub few : length net.edges ≤ m
+  pub count : length net.edges ≡ m
   pub edges : net.edges ++ up_edges m (drop m g.links) up ≡ up_edges 0 g.links up
 
 drop_at : (links : List LinkOpening) (m : ℕ) → m < length links → drop m links ≡ slice_index_or links m no_link ∷ drop (m + 1) links
@@ -37,33 +36,18 @@ drop_all : (links : List LinkOpening) → drop (length links) links ≡ []
 drop_all [] = refl
 drop_all (link ∷ links) = drop_all links
 
-up_first : (m : ℕ) (link : LinkOpening) (links : List LinkOpening) (up : Entity → Bool) → is_up_link up m link ≡ true → up_edges m (link ∷ links) up ≡ edge_of link ∷ up_edges (m + 1) links up
-up_first m link links up is = rw is refl
-
-down_first : (m : ℕ) (link : LinkOpening) (links : List LinkOpening) (up : Entity → Bool) → is_up_link up m link ≡ false → up_edges m (link ∷ links) up ≡ up_edges (m + 1) links up
-down_first m link links up is = rw is refl
-
 pub made_none : (g : Group) (up : Entity → Bool) (n : ℕ) (net : Network) → n ≡ length g.devices → net ≡ record { nodes = n; edges = [] } → IsMadeTo g up 0 net
-made_none g up n net same is = rw is (record { nodes = same; few = omega arith; edges = refl })
+made_none g up n net same is = rw is (record { nodes = same; count = refl; edges = refl })
 
--- with the next link, where it is up
-pub made_with : (g : Group) (up : Entity → Bool) (m : ℕ) (net new : Network) → IsMadeTo g up m net → m < length g.links → is_up_link up m (slice_index_or g.links m no_link) ≡ true → new ≡ record net { edges = net.edges ++ edge_of (slice_index_or g.links m no_link) ∷ [] } → IsMadeTo g up (m + 1) new
-made_with g up m net new made low is same = rw same (record {
+-- with the next link
+pub made_with : (g : Group) (up : Entity → Bool) (m : ℕ) (net new : Network) → IsMadeTo g up m net → m < length g.links → new ≡ record net { edges = net.edges ++ edge_of (is_up_link up m (slice_index_or g.links m no_link)) (slice_index_or g.links m no_link) ∷ [] } → IsMadeTo g up (m + 1) new
+made_with g up m net new made low same = rw same (record {
   nodes = made.nodes;
-  few = (let count = length-append net.edges (edge_of (slice_index_or g.links m no_link) ∷ []) in omega (arith, count, made.few));
-  edges = append_assoc net.edges (edge_of (slice_index_or g.links m no_link) ∷ []) (up_edges (m + 1) (drop (m + 1) g.links) up)
-      ∙ ap (λ (es : List Edge). net.edges ++ es) (sym (up_first m (slice_index_or g.links m no_link) (drop (m + 1) g.links) up is) ∙ ap (λ (links : List LinkOpening). up_edges m links up) (sym (drop_at g.links m low)))
+  count = (let count = length-append net.edges (edge_of (is_up_link up m (slice_index_or g.links m no_link)) (slice_index_or g.links m no_link) ∷ []) in omega (arith, count, made.count));
+  edges = append_assoc net.edges (edge_of (is_up_link up m (slice_index_or g.links m no_link)) (slice_index_or g.links m no_link) ∷ []) (up_edges (m + 1) (drop (m + 1) g.links) up)
+      ∙ ap (λ (es : List Edge). net.edges ++ es) (ap (λ (links : List LinkOpening). up_edges m links up) (sym (drop_at g.links m low)))
       ∙ made.edges;
 })
-
--- and without it, where it is down
-pub made_without : (g : Group) (up : Entity → Bool) (m : ℕ) (net : Network) → IsMadeTo g up m net → m < length g.links → is_up_link up m (slice_index_or g.links m no_link) ≡ false → IsMadeTo g up (m + 1) net
-made_without g up m net made low is = record {
-  nodes = made.nodes;
-  few = omega (arith, made.few);
-  edges = ap (λ (es : List Edge). net.edges ++ es) (sym (down_first m (slice_index_or g.links m no_link) (drop (m + 1) g.links) up is) ∙ ap (λ (links : List LinkOpening). up_edges m links up) (sym (drop_at g.links m low)))
-      ∙ made.edges;
-}
 
 network_is : (net : Network) (n : ℕ) (es : List Edge) → net.nodes ≡ n → net.edges ≡ es → net ≡ record { nodes = n; edges = es }
 network_is net n es nodes edges = rw (← nodes, ← edges) refl
@@ -75,17 +59,20 @@ made_all g up m net made same =
     network_is net (length g.devices) (up_edges 0 g.links up) made.nodes (sym (ap (λ (es : List Edge). net.edges ++ es) rest ∙ append-nil net.edges) ∙ made.edges)
 
 -- a link counts in a cut as its edge does
-part_at : (p q : Bool) (m : ℕ) → (if (if p then not q else q) then m else 0) ≡ (if p then (if q then 0 else m) else (if q then m else 0))
-part_at true true m = refl
-part_at true false m = refl
-part_at false true m = refl
-part_at false false m = refl
+part_at : (u p q : Bool) (m : ℕ) → (if u && (if p then not q else q) then m else 0) ≡ (if p then (if q then 0 else (if u then m else 0)) else (if q then (if u then m else 0) else 0))
+part_at true true true m = refl
+part_at true true false m = refl
+part_at true false true m = refl
+part_at true false false m = refl
+part_at false true true m = refl
+part_at false true false m = refl
+part_at false false true m = refl
+part_at false false false m = refl
 
-cut_first : (u : Bool) (link : LinkOpening) (rest : ℕ) (es : List Edge) (s : ℕ → Bool) → rest ≡ edge_cut_value es s → (if u && is_crossing s link then link.capacity else 0) + rest ≡ edge_cut_value (if u then edge_of link ∷ es else es) s
-cut_first true link rest es s same =
-    let part : (if is_crossing s link then link.capacity else 0) ≡ cut_part s (edge_of link) = part_at (s link.a) (s link.b) link.capacity in
-    rw (part, same) (sym (sum_by-cons (cut_part s) (edge_of link) es))
-cut_first false link rest es s same = let none : 0 + rest ≡ rest = omega arith in none ∙ same
+cut_first : (u : Bool) (link : LinkOpening) (rest : ℕ) (es : List Edge) (s : ℕ → Bool) → rest ≡ edge_cut_value es s → (if u && is_crossing s link then link.capacity else 0) + rest ≡ edge_cut_value (edge_of u link ∷ es) s
+cut_first u link rest es s same =
+    let part : (if u && is_crossing s link then link.capacity else 0) ≡ cut_part s (edge_of u link) = part_at u (s link.a) (s link.b) link.capacity in
+    rw (part, same) (sym (sum_by-cons (cut_part s) (edge_of u link) es))
 
 -- a cut has in the group the value that it has in the network
 pub cut_same : (i : ℕ) (links : List LinkOpening) (up : Entity → Bool) (s : ℕ → Bool) → cut_value_from i links up s ≡ edge_cut_value (up_edges i links up) s

@@ -1,15 +1,45 @@
--- What a book keeps of a group's promises, and the first promise that does not hold.
-use Rattle.std.specs.Prelude.{◌≡◌, ℕ, ◌+◌, Bool, List, [], ◌∷◌, map, Option, Some, None, if◌then◌else◌}
+-- What a book keeps of a group's promises, as contracts see it, and what marks of promises say.
+use Rattle.std.specs.Prelude.{◌≡◌, ℕ, ◌-◌, ◌^◌, ◌<◌, ◌≤◌, ◌⊎◌, Bool, true, false, List, map, length, slice_index_or}
 use Rattle.st_net.specs.declared.entity.Entity.{Entity}
 use Rattle.st_net.specs.declared.promise.Promise.{Promise}
-use Rattle.st_net.specs.Groups.{Group}
+use Rattle.st_net.specs.Groups.{Group, promise_of}
 use Rattle.st_net.specs.Promises.{need_of, is_kept}
+use Rattle.st_flow.specs.Network.{Network}
+use Rattle.st_promise.specs.UpNetwork.{up_network}
 
--- the need of each promise, in order
-abbrev pub IsBookOf : Group → List ℕ → Type 0
-IsBookOf g needs = needs ≡ map (need_of g) g.promises
+-- what stays: the need of each promise, the promises, and the network of all entities
+pub record BookOf : Type 0 where
+  pub needs : List ℕ
+  pub promises : List Promise
+  pub whole : Network
 
--- the number of the first promise that does not hold, of promises that are numbered from i
-abbrev pub first_failed : Group → (Entity → Bool) → ℕ → List Promise → Option ℕ
-first_failed g up i [] = None
-first_failed g up i (p ∷ ps) = if is_kept g up p then first_failed g up (i + 1) ps else Some i
+-- and how many runs of a flow were counted
+pub record BookView : Type 0 where
+  pub of : BookOf
+  pub flows_run : ℕ
+
+-- the need of each promise of a group, in order
+abbrev pub AreNeedsOf : Group → List ℕ → Type 0
+AreNeedsOf g needs = needs ≡ map (need_of g) g.promises
+
+-- the book of a group
+pub record IsBookOf (g : Group) (book : BookOf) : Type 0 where
+  pub needs_are : AreNeedsOf g book.needs
+  pub promises_are : book.promises ≡ g.promises
+  pub whole_is : book.whole ≡ up_network g (λ e. true)
+
+-- the count did not fall
+abbrev pub HasNotFallen : BookView → BookView → Type 0
+HasNotFallen old new = old.flows_run ≤ new.flows_run
+
+-- the count rose, unless it stands at its last value
+abbrev pub HasRisen : BookView → BookView → Type 0
+HasRisen old new = (old.flows_run < new.flows_run) ⊎ (2 ^ 64 - 1 ≤ new.flows_run)
+
+-- each promise that is marked holds while these entities are up; what lies past the end of the list is not marked
+abbrev pub AreKept : Group → (Entity → Bool) → List Bool → Type 0
+AreKept g up marks = (i : ℕ) → i < length g.promises → slice_index_or marks i false ≡ true → is_kept g up (promise_of g i) ≡ true
+
+-- each promise that is marked fails while these entities are up
+abbrev pub AreFailing : Group → (Entity → Bool) → List Bool → Type 0
+AreFailing g up marks = (i : ℕ) → i < length g.promises → slice_index_or marks i false ≡ true → is_kept g up (promise_of g i) ≡ false

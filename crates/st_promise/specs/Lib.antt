@@ -2,4 +2,11 @@ pub mod Incidence
 pub mod Search
 pub mod Reach
 pub mod UpNetwork
+pub mod CutTree
+pub mod KeptFlow
+pub mod FlowIndex
+pub mod Finding
 pub mod Book
+pub mod Change
+pub mod Wide
+pub mod BookInside

@@ -1,96 +1,301 @@
-//! Promises judged over the networks of what is up: which is the first that fails, and how a promise breaks.
+//! Promises judged: by the flows that a book keeps, and where these show nothing, by the networks of what is up.
 
-ghost use Rattle.std.specs.Prelude.{◌≡◌, ℕ, ◌<◌, Bool, length, slice_index, IfOk, if◌then◌else◌, Some, None};
+ghost use Rattle.std.specs.Prelude.{◌≡◌, ℕ, ◌<◌, ◌≤◌, Bool, true, false, max, length, is_none, slice_index_or, IfOk, IfSome, IsTrue};
+ghost use Rattle.std.specs.List.Sorted.{IsStrictlyIncreasing};
+ghost use Rattle.st_net.specs.declared.entity.Entity.{Entity};
 ghost use Rattle.st_net.specs.Groups.{promise_of};
 ghost use Rattle.st_net.specs.Sets.{is_in, MarksOf};
-ghost use Rattle.st_net.specs.Promises.{need_of, is_kept, is_broken, broken_at, first_broken as first_broken_lem};
-ghost use Rattle.st_promise.specs.UpNetwork.{up_network};
-ghost use Rattle.st_promise.specs.Book.{IsBookOf, first_failed as first_failed_lem};
+ghost use Rattle.st_net.specs.Promises.{is_kept, broken_at, need_of, first_broken as first_broken_lem};
+ghost use Rattle.st_flow.specs.Network.{Sends};
+ghost use Rattle.st_promise.specs.UpNetwork.{up_network, IsLeastCutOf};
+ghost use Rattle.st_promise.specs.Finding.{IfSent};
+ghost use Rattle.st_promise.specs.Book.{IsBookOf, AreKept, AreFailing, HasNotFallen, HasRisen};
+ghost use Rattle.st_promise.specs.Change.{IsChange, IfBreaks};
 
+use crate::book::Book;
+use crate::change::Change;
+use crate::finding::Finding;
+use crate::flow_index::exchange;
+use crate::kept_flow::KeptFlow;
 use crate::up_network::UpNetwork;
+use st_flow::{Cut, Flow};
 use st_net::{Broken, BrokenKind, Entity, EntitySet, GroupTopo, Side};
 use std::alloc::{AllocError, Global};
 
-/// The number of the first promise that does not hold in a network.
-fn first_failed(
-    alloc: Global,
-    topo: &GroupTopo,
-    needs: &[u64],
-    network: &UpNetwork,
-) -> Result<Option<u32>, AllocError>
-    requires needs { IsBookOf topo.now needs.now }
-    requires nodes { network.now.nodes ≡ length topo.now.devices }
-    ensures { (up : Entity → Bool) → network.now ≡ up_network topo.now up → IfOk result (λ first. first ≡ first_failed_lem topo.now up 0 topo.now.promises) }
+/// Whether promise number `i` is marked. A list marks nothing past its end.
+pub(crate) fn is_marked(marks: &[bool], i: u32) -> bool
+    ensures { result ≡ slice_index_or marks.now i false }
 {
-    for i in 0..topo.promise_count() {
-        let need = needs[i as usize];
-        if network.failing_cut(alloc, topo, i, need)?.is_some() {
-            return Ok(Some(i));
-        }
-    }
-    Ok(None)
+    marks.get(i as usize).copied().unwrap_or(false)
 }
 
-/// How promise number `i`, which needs so much, breaks, if it holds in the one network and not in the other.
-fn judge_promise(
+/// Whether every promise is marked.
+pub(crate) fn are_all_marked(topo: &GroupTopo, marks: &[bool]) -> bool
+    ensures { IsTrue result → (i : ℕ) → i < length topo.now.promises → slice_index_or marks.now i false ≡ true }
+{
+    for i in 0..topo.promise_count() {
+        if !is_marked(marks, i) {
+            return false;
+        }
+    }
+    true
+}
+
+/// How promise number `i`, which needs so much, is broken, where this is the least cut that is left of its pair.
+pub(crate) fn broken_by(
     alloc: Global,
     topo: &GroupTopo,
-    before: &UpNetwork,
-    after: &UpNetwork,
     i: u32,
     need: u64,
-) -> Result<Option<Broken>, AllocError>
-    requires before { before.now.nodes ≡ length topo.now.devices }
-    requires after { after.now.nodes ≡ length topo.now.devices }
-    requires promise { i < length topo.now.promises }
+    cut: &Cut,
+) -> Result<Broken, AllocError>
     requires need { need ≡ need_of topo.now (promise_of topo.now i) }
-    ensures { (up down : Entity → Bool) → before.now ≡ up_network topo.now up → after.now ≡ up_network topo.now down → IfOk result (λ broken. broken ≡ (if is_broken topo.now up down (promise_of topo.now i) then Some (broken_at topo.now down i (promise_of topo.now i)) else None)) }
+    requires ascending { IsStrictlyIncreasing cut.now.side.items }
+    ensures { (up : Entity → Bool) → IsLeastCutOf topo.now up (promise_of topo.now i) cut.now → IfOk result (λ broken. broken ≡ broken_at topo.now up i (promise_of topo.now i)) }
 {
-    let Some(cut) = after.failing_cut(alloc, topo, i, need)? else {
-        return Ok(None);
-    };
-    if before.failing_cut(alloc, topo, i, need)?.is_some() {
-        return Ok(None);
-    }
     let kind = if cut.value == 0 {
         BrokenKind::CutOff
     } else {
         BrokenKind::Short
     };
-    Ok(Some(Broken {
+    Ok(Broken {
         promise: i,
         kind,
         need,
         has: cut.value,
         side: Side::from_slice(alloc, cut.side.as_slice())?,
-    }))
+    })
 }
 
-/// The first promise, in order, that holds before and not after.
-pub(crate) fn first_broken(
-    alloc: Global,
-    topo: &GroupTopo,
-    needs: &[u64],
-    before: &EntitySet,
-    after: &EntitySet,
-) -> Result<Option<Broken>, AllocError>
-    requires needs { IsBookOf topo.now needs.now }
-    requires before { MarksOf topo.now before.now }
-    requires after { MarksOf topo.now after.now }
-    ensures { IfOk result (λ broken. broken ≡ first_broken_lem topo.now (is_in before.now) (is_in after.now) 0 topo.now.promises) }
-{
-    let after_network = UpNetwork::of(alloc, topo, after)?;
-    // Where all promises hold after, which is common, the other network is not needed.
-    let Some(first) = first_failed(alloc, topo, needs, &after_network)? else {
-        return Ok(None);
-    };
-    let before_network = UpNetwork::of(alloc, topo, before)?;
-    for i in first..topo.promise_count() {
-        let need = needs[i as usize];
-        let judged = judge_promise(alloc, topo, &before_network, &after_network, i, need)?;
-        if let Some(broken) = judged {
-            return Ok(Some(broken));
+/// How much to ask of a promise that needs so much: half-way to all that can flow with everything up, so that the flow still
+/// shows that the promise holds after it has lost a part.
+fn ample(need: u64, percent: u32) -> u64 {
+    let most = need
+        .saturating_mul(100)
+        .checked_div(u64::from(percent))
+        .unwrap_or(0);
+    need / 2 + most / 2
+}
+
+impl Book {
+    /// Counts a run of a flow; the count stays at its last value.
+    fn count_run(&mut self)
+        ensures same { self.new.of ≡ self.old.of }
+        ensures rises { HasRisen self.old self.new }
+        ensures runs { HasNotFallen self.old self.new }
+    {
+        self.flows_run = self.flows_run.saturating_add(1);
+    }
+
+    /// Keeps a flow of promise number `i`, which was found where some entities were up. Where memory is refused for it, the flow
+    /// that was kept before stays; where it is refused for the index, none is kept.
+    fn keep(&mut self, topo: &GroupTopo, i: u32, flow: &Flow, amount: u64)
+        requires book { IsBookOf topo.now self.old.of }
+        requires promise { i < length topo.now.promises }
+        requires sends { (up : Entity → Bool) × Sends (up_network topo.now up) flow.now (promise_of topo.now i).a (promise_of topo.now i).b amount }
+        requires enough { max (need_of topo.now (promise_of topo.now i)) 1 ≤ amount }
+        ensures same { self.new ≡ self.old }
+    {
+        topo.is_sound();
+        if let Ok(kept) = KeptFlow::of(self.alloc, topo, flow, amount) {
+            exchange(&mut self.flows, &mut self.index, i, kept);
         }
     }
-    Ok(None)
+
+    /// Keeps the first flow of promise number `i`, of as much as is asked for, where its network has that.
+    pub(crate) fn keep_first(&mut self, topo: &GroupTopo, i: u32, amount: u64)
+        requires book { IsBookOf topo.now self.old.of }
+        requires promise { i < length topo.now.promises }
+        ensures same { self.new ≡ self.old }
+    {
+        let found = self
+            .whole
+            .find(self.alloc, topo, i, self.needs[i as usize], amount);
+        self.keep_found(topo, i, found);
+    }
+
+    /// Keeps the flow that was found of promise number `i`, if there is one.
+    fn keep_found(&mut self, topo: &GroupTopo, i: u32, found: Result<Finding, AllocError>)
+        requires book { IsBookOf topo.now self.old.of }
+        requires promise { i < length topo.now.promises }
+        requires sends { IfOk found (λ f. IfSent f (λ flow amount. (up : Entity → Bool) × Sends (up_network topo.now up) flow (promise_of topo.now i).a (promise_of topo.now i).b amount)) }
+        requires enough { IfOk found (λ f. IfSent f (λ flow amount. max (need_of topo.now (promise_of topo.now i)) 1 ≤ amount)) }
+        ensures same { self.new ≡ self.old }
+    {
+        match found {
+            Ok(Finding::Sent { flow, amount }) => self.keep(topo, i, &flow, amount),
+            Ok(Finding::Least { value: _value }) => {}
+            Ok(Finding::Fails(_cut)) => {}
+            Err(_error) => {}
+        }
+    }
+
+    /// Whether the kept flow shows that promise number `i` holds while these entities are up.
+    pub(crate) fn shows(&self, topo: &GroupTopo, up: &EntitySet, i: u32) -> bool
+        requires book { IsBookOf topo.now self.now.of }
+        requires promise { i < length topo.now.promises }
+        requires marks { MarksOf topo.now up.now }
+        ensures { result ≡ true → is_kept topo.now (is_in up.now) (promise_of topo.now i) ≡ true }
+    {
+        topo.is_sound();
+        let first = self.promises[i as usize].a;
+        match &self.flows[i as usize] {
+            Some(flow) => {
+                up.has(Entity::Device(first)) && flow.left(up) >= self.needs[i as usize].max(1)
+            }
+            None => false,
+        }
+    }
+
+    /// The least cut of promise number `i` in the network of what is up, where the promise does not hold. Where it holds, a
+    /// flow that shows it is kept, as far as there is memory.
+    fn look(
+        &mut self,
+        topo: &GroupTopo,
+        network: &UpNetwork,
+        i: u32,
+    ) -> Result<Option<Cut>, AllocError>
+        requires book { IsBookOf topo.now self.old.of }
+        requires promise { i < length topo.now.promises }
+        requires network { (up : Entity → Bool) × (network.now ≡ up_network topo.now up) }
+        ensures kept { (up : Entity → Bool) → network.now ≡ up_network topo.now up → IfOk result (λ cut. is_none cut ≡ is_kept topo.now up (promise_of topo.now i)) }
+        ensures least { (up : Entity → Bool) → network.now ≡ up_network topo.now up → IfOk result (λ cut. IfSome cut (IsLeastCutOf topo.now up (promise_of topo.now i))) }
+        ensures ascending { IfOk result (λ cut. IfSome cut (λ cut. IsStrictlyIncreasing cut.side.items)) }
+        ensures same { self.new.of ≡ self.old.of }
+        ensures runs { HasNotFallen self.old self.new }
+        ensures rises { HasRisen self.old self.new }
+    {
+        let need = self.needs[i as usize];
+        let ample = ample(need, topo.promise(i).percent);
+        self.count_run();
+        match network.find(self.alloc, topo, i, need, ample)? {
+            Finding::Fails(cut) => Ok(Some(cut)),
+            Finding::Sent { flow, amount } => {
+                self.keep(topo, i, &flow, amount);
+                Ok(None)
+            }
+            Finding::Least { value } => {
+                // So much can flow, and no more.
+                self.count_run();
+                let found = network.find(self.alloc, topo, i, need, value);
+                self.keep_found(topo, i, found);
+                Ok(None)
+            }
+        }
+    }
+
+    /// The least cut of promise number `i` while these entities are up, where the promise does not hold; None where it holds.
+    /// Their network is built where the kept flow does not show that, and stays for the next promise.
+    pub(crate) fn failing_cut(
+        &mut self,
+        topo: &GroupTopo,
+        up: &EntitySet,
+        network: &mut Option<UpNetwork>,
+        i: u32,
+    ) -> Result<Option<Cut>, AllocError>
+        requires book { IsBookOf topo.now self.old.of }
+        requires promise { i < length topo.now.promises }
+        requires marks { MarksOf topo.now up.now }
+        requires network { IfSome network.old (λ n. n ≡ up_network topo.now (is_in up.now)) }
+        ensures network { IfSome network.new (λ n. n ≡ up_network topo.now (is_in up.now)) }
+        ensures kept { IfOk result (λ cut. is_none cut ≡ is_kept topo.now (is_in up.now) (promise_of topo.now i)) }
+        ensures least { IfOk result (λ cut. IfSome cut (IsLeastCutOf topo.now (is_in up.now) (promise_of topo.now i))) }
+        ensures ascending { IfOk result (λ cut. IfSome cut (λ cut. IsStrictlyIncreasing cut.side.items)) }
+        ensures same { self.new.of ≡ self.old.of }
+        ensures runs { HasNotFallen self.old self.new }
+        ensures rises { IfOk result (λ cut. IfSome cut (λ _. HasRisen self.old self.new)) }
+    {
+        if self.shows(topo, up, i) {
+            return Ok(None);
+        }
+        if network.is_none() {
+            *network = Some(UpNetwork::of(self.alloc, topo, up)?);
+        }
+        match network {
+            Some(network) => self.look(topo, network, i),
+            None => unreachable!(),
+        }
+    }
+
+    /// What the change does to promise number `i`.
+    fn judge_promise(
+        &mut self,
+        topo: &GroupTopo,
+        before: &EntitySet,
+        before_network: &mut Option<UpNetwork>,
+        after: &EntitySet,
+        after_network: &mut Option<UpNetwork>,
+        i: u32,
+    ) -> Result<Change, AllocError>
+        requires book { IsBookOf topo.now self.old.of }
+        requires promise { i < length topo.now.promises }
+        requires before { MarksOf topo.now before.now }
+        requires after { MarksOf topo.now after.now }
+        requires before_network { IfSome before_network.old (λ n. n ≡ up_network topo.now (is_in before.now)) }
+        requires after_network { IfSome after_network.old (λ n. n ≡ up_network topo.now (is_in after.now)) }
+        ensures before_network { IfSome before_network.new (λ n. n ≡ up_network topo.now (is_in before.now)) }
+        ensures after_network { IfSome after_network.new (λ n. n ≡ up_network topo.now (is_in after.now)) }
+        ensures change { IfOk result (IsChange topo.now (is_in before.now) (is_in after.now) i) }
+        ensures same { self.new.of ≡ self.old.of }
+        ensures runs { HasNotFallen self.old self.new }
+        ensures rises { IfOk result (λ change. IfBreaks change (HasRisen self.old self.new)) }
+    {
+        let Some(cut) = self.failing_cut(topo, after, after_network, i)? else {
+            return Ok(Change::Holds);
+        };
+        let failed = self.failing_cut(topo, before, before_network, i)?.is_some();
+        if failed {
+            return Ok(Change::Failed);
+        }
+        let need = self.needs[i as usize];
+        let broken = broken_by(self.alloc, topo, i, need, &cut)?;
+        Ok(Change::Breaks(broken))
+    }
+
+    /// The first promise, in order, that holds before and not after. Those that are known or shown to hold after are passed over,
+    /// and so are those that are known to fail before; others that are found to fail before are marked among these.
+    pub(crate) fn first_broken(
+        &mut self,
+        topo: &GroupTopo,
+        known: &[bool],
+        shown: &[bool],
+        fails: &mut [bool],
+        before: &EntitySet,
+        after: &EntitySet,
+    ) -> Result<Option<Broken>, AllocError>
+        requires book { IsBookOf topo.now self.old.of }
+        requires known { AreKept topo.now (is_in after.now) known.now }
+        requires shown { AreKept topo.now (is_in after.now) shown.now }
+        requires fails { AreFailing topo.now (is_in before.now) fails.old }
+        requires marks { length fails.old ≡ length topo.now.promises }
+        requires before { MarksOf topo.now before.now }
+        requires after { MarksOf topo.now after.now }
+        ensures broken { IfOk result (λ broken. broken ≡ first_broken_lem topo.now (is_in before.now) (is_in after.now) 0 topo.now.promises) }
+        ensures fails { AreFailing topo.now (is_in before.now) fails.new }
+        ensures same { self.new.of ≡ self.old.of }
+        ensures runs { HasNotFallen self.old self.new }
+        ensures rises { IfOk result (λ broken. IfSome broken (λ _. HasRisen self.old self.new)) }
+    {
+        let mut before_network = None;
+        let mut after_network = None;
+        for i in 0..topo.promise_count() {
+            if is_marked(known, i) || is_marked(shown, i) || is_marked(fails, i) {
+                continue;
+            }
+            let change = self.judge_promise(
+                topo,
+                before,
+                &mut before_network,
+                after,
+                &mut after_network,
+                i,
+            )?;
+            match change {
+                Change::Holds => {}
+                Change::Failed => fails[i as usize] = true,
+                Change::Breaks(broken) => return Ok(Some(broken)),
+            }
+        }
+        Ok(None)
+    }
 }

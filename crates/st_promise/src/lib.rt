@@ -3,14 +3,27 @@
 #![tactic(auto)]
 
 mod book;
+mod change;
+mod cut_tree;
+mod failing;
+mod finding;
+mod flow_index;
+mod held;
 mod incidence;
 mod judge;
+mod kept_flow;
 mod reaching;
 mod search;
+#[cfg(test)]
+mod tests;
 mod up;
 mod up_network;
 mod walk;
+mod wide;
+mod within;
 
 pub use book::Book;
 pub use reaching::{Reached, reach};
 pub use walk::Walk;
+pub use wide::{Wide, judge_wide, judge_wide_rest};
+pub use within::is_within;

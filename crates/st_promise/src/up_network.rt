@@ -1,13 +1,16 @@
 //! The network of what is up, as flows see it: the devices are its nodes, and the up links its edges. It is built once for
 //! a set of entities, and answers for every promise.
 
-ghost use Rattle.std.specs.Prelude.{◌≡◌, ℕ, ◌<◌, ◌≤◌, [], ◌∷◌, ◌++◌, Bool, true, length, slice_index_or, is_none, IfOk, IfSome, OnOk};
+ghost use Rattle.std.specs.Prelude.{◌≡◌, ◌≢◌, ℕ, ◌<◌, ◌≤◌, [], ◌∷◌, ◌++◌, Bool, true, max, length, slice_index_or, is_none, IfOk, IfSome, OnOk};
 ghost use Rattle.std.specs.List.Sorted.{IsStrictlyIncreasing};
 ghost use Rattle.st_net.specs.Groups.{no_link, promise_of};
 ghost use Rattle.st_net.specs.Sets.{is_in, MarksOf};
 ghost use Rattle.st_net.specs.Promises.{need_of, is_kept};
-ghost use Rattle.st_promise.specs.UpNetwork.{edge_of, up_network, IsLeastCutOf};
+ghost use Rattle.st_flow.specs.Network.{Sends, IsLeastCut};
+ghost use Rattle.st_promise.specs.UpNetwork.{edge_of, up_network, baseline_of, IsLeastCutOf};
+ghost use Rattle.st_promise.specs.Finding.{holds_by, IfSent, IfFails};
 
+use crate::finding::Finding;
 use crate::up::is_up;
 use st_flow::{Cut, Flowing, Graph, least_cut, max_flow};
 use st_net::{Entity, EntitySet, GroupTopo};
@@ -28,16 +31,17 @@ impl Model for UpNetwork {
     ghost view = { λ n. n.graph };
 }
 
-/// Adds a link as an edge.
-fn add_link(graph: &mut Graph, topo: &GroupTopo, link: u32) -> Result<(), AllocError>
+/// Adds a link as an edge, which carries nothing where the link is down.
+fn add_link(graph: &mut Graph, topo: &GroupTopo, link: u32, up: bool) -> Result<(), AllocError>
     requires link { link < length topo.now.links }
     requires nodes { graph.old.nodes ≡ length topo.now.devices }
-    requires few { length graph.old.edges ≤ link }
-    ensures { OnOk result (graph.new ≡ record graph.old { edges = graph.old.edges ++ edge_of (slice_index_or topo.now.links link no_link) ∷ [] }) }
+    requires few { length graph.old.edges ≡ link }
+    ensures { OnOk result (graph.new ≡ record graph.old { edges = graph.old.edges ++ edge_of up (slice_index_or topo.now.links link no_link) ∷ [] }) }
 {
     topo.is_sound();
     let (a, b) = topo.ends(link);
-    graph.add(a, b, topo.capacity(link))
+    let capacity = if up { topo.capacity(link) } else { 0 };
+    graph.add(a, b, capacity)
 }
 
 impl UpNetwork {
@@ -53,9 +57,7 @@ impl UpNetwork {
         topo.is_sound();
         let mut graph = Graph::new(alloc, topo.device_count())?;
         for link in 0..topo.link_count() {
-            if is_up(topo, up, link) {
-                add_link(&mut graph, topo, link)?;
-            }
+            add_link(&mut graph, topo, link, is_up(topo, up, link))?;
         }
         Ok(UpNetwork { graph })
     }
@@ -67,28 +69,67 @@ impl UpNetwork {
         topo.is_sound();
         let mut graph = Graph::new(alloc, topo.device_count())?;
         for link in 0..topo.link_count() {
-            add_link(&mut graph, topo, link)?;
+            add_link(&mut graph, topo, link, true)?;
         }
         Ok(UpNetwork { graph })
     }
 
-    /// What promise number `i` needs, where this is the network of all entities.
-    pub(crate) fn need(&self, alloc: Global, topo: &GroupTopo, i: u32) -> Result<u64, AllocError>
+    /// The least cut of two devices, where this is the network of all entities.
+    pub(crate) fn least(
+        &self,
+        alloc: Global,
+        topo: &GroupTopo,
+        a: u32,
+        b: u32,
+    ) -> Result<Cut, AllocError>
         requires whole { self.now ≡ up_network topo.now (λ e. true) }
+        requires a { a < length topo.now.devices }
+        requires b { b < length topo.now.devices }
+        requires apart { a ≢ b }
+        ensures least { IfOk result (λ cut. IsLeastCut (up_network topo.now (λ e. true)) a b cut.value cut.side.items) }
+        ensures value { IfOk result (λ cut. cut.value ≡ baseline_of topo.now a b) }
+    {
+        topo.is_sound();
+        let cut = least_cut(alloc, &self.graph, a, b)?;
+        Ok(cut)
+    }
+
+    /// Whether promise number `i`, which needs so much, holds: a flow of `ample` or more shows it, or the least cut tells.
+    pub(crate) fn find(
+        &self,
+        alloc: Global,
+        topo: &GroupTopo,
+        i: u32,
+        need: u64,
+        ample: u64,
+    ) -> Result<Finding, AllocError>
+        requires nodes { self.now.nodes ≡ length topo.now.devices }
         requires promise { i < length topo.now.promises }
-        ensures { IfOk result (λ need. need ≡ need_of topo.now (promise_of topo.now i)) }
+        requires need { need ≡ need_of topo.now (promise_of topo.now i) }
+        ensures kept { (up : Entity → Bool) → self.now ≡ up_network topo.now up → IfOk result (λ found. holds_by found ≡ is_kept topo.now up (promise_of topo.now i)) }
+        ensures least { (up : Entity → Bool) → self.now ≡ up_network topo.now up → IfOk result (λ found. IfFails found (IsLeastCutOf topo.now up (promise_of topo.now i))) }
+        ensures ascending { IfOk result (λ found. IfFails found (λ cut. IsStrictlyIncreasing cut.side.items)) }
+        ensures sends { IfOk result (λ found. IfSent found (λ flow amount. Sends self.now flow (promise_of topo.now i).a (promise_of topo.now i).b amount)) }
+        ensures enough { IfOk result (λ found. IfSent found (λ flow amount. max need 1 ≤ amount)) }
     {
         topo.is_sound();
         let promise = topo.promise(i);
-        if promise.percent == 0 {
-            return Ok(0);
+        // A pair that no walk joins has the least cut 0.
+        let least = need.max(1);
+        let amount = ample.max(least);
+        match max_flow(alloc, &self.graph, promise.a, promise.b, amount)? {
+            Flowing::Enough(flow) => Ok(Finding::Sent { flow, amount }),
+            Flowing::Short(cut) => {
+                if cut.value < least {
+                    Ok(Finding::Fails(cut))
+                } else {
+                    Ok(Finding::Least { value: cut.value })
+                }
+            }
         }
-        let baseline = least_cut(alloc, &self.graph, promise.a, promise.b)?.value;
-        let share = u64::from(promise.percent) * baseline;
-        Ok(share.div_ceil(100))
     }
 
-    /// The least cut of promise number `i`, which needs so much, where the promise does not hold; None where it holds.
+    /// The least cut of promise number `i`, which needs so much, where it does not hold; None where it holds.
     pub(crate) fn failing_cut(
         &self,
         alloc: Global,
@@ -103,12 +144,13 @@ impl UpNetwork {
         ensures least { (up : Entity → Bool) → self.now ≡ up_network topo.now up → IfOk result (λ cut. IfSome cut (IsLeastCutOf topo.now up (promise_of topo.now i))) }
         ensures ascending { IfOk result (λ cut. IfSome cut (λ cut. IsStrictlyIncreasing cut.side.items)) }
     {
-        topo.is_sound();
-        let promise = topo.promise(i);
-        // A pair that no walk joins has the least cut 0.
-        match max_flow(alloc, &self.graph, promise.a, promise.b, need.max(1))? {
-            Flowing::Enough(_) => Ok(None),
-            Flowing::Short(cut) => Ok(Some(cut)),
+        match self.find(alloc, topo, i, need, need)? {
+            Finding::Fails(cut) => Ok(Some(cut)),
+            Finding::Sent {
+                flow: _flow,
+                amount: _amount,
+            } => Ok(None),
+            Finding::Least { value: _value } => Ok(None),
         }
     }
 }

@@ -1,6 +1,9 @@
-use Rattle.std.proofs.Common.{◌≡◌, map, take}
-use Rattle.st_net.specs.Promises.{need_of}
+use Rattle.std.proofs.Common.{◌≡◌}
+use Rattle.st_promise.specs.Book.{IsBookOf}
 use Rattle.st_promise.proofs.book.Book.start.Given as goal
 
 abbrev pub invariant-loop-i : goal.invariant-loop-i
-invariant-loop-i l = l.needs.items ≡ map (need_of l.topo) (take l.i l.topo.promises)
+invariant-loop-i l = record {
+  book : IsBookOf l.topo l.book.of;
+  no_runs : l.book.flows_run ≡ 0;
+}

@@ -1,10 +1,9 @@
-use Rattle.std.proofs.Common.{◌<◌, length, arith, sym, ◌∙◌}
-use Rattle.st_promise.proofs.NetworkLaws.{made_none, made_with, made_without, made_all}
+use Rattle.std.proofs.Common.{◌<◌, length, arith}
+use Rattle.st_promise.proofs.NetworkLaws.{made_none, made_with, made_all}
 use Rattle.st_promise.proofs.up_network.UpNetwork.of.Goals as goal
-use Rattle.st_promise.proofs.up_network.UpNetwork.of.Goals.{then-is_up+in_ok-add_link, else-is_up}
 
 pub add_link-requires : goal.add_link-requires
-add_link-requires c = record { link = omega (arith, c.link_count-link-end.ensures); nodes = c.loop-link.invariant.nodes; few = c.loop-link.invariant.few }
+add_link-requires c = record { link = omega (arith, c.link_count-link-end.ensures); nodes = c.loop-link.invariant.nodes; few = c.loop-link.invariant.count }
 
 pub loop-link-init : goal.loop-link-init
 loop-link-init c = made_none _ _ _ _ c.device_count.ensures c.in_ok-graph.ensures
@@ -12,10 +11,7 @@ loop-link-init c = made_none _ _ _ _ c.device_count.ensures c.in_ok-graph.ensure
 pub loop-link-preserved : goal.loop-link-preserved
 loop-link-preserved c =
     let low : c.loop-link.link < length c.args.topo.now.links = omega (arith, c.link_count-link-end.ensures) in
-    elim c.if-is_up.branch [
-      | then-is_up+in_ok-add_link w ↦ made_with c.args.topo.now _ c.loop-link.link c.loop-link.graph c.if-is_up.graph c.loop-link.invariant low (sym c.is_up.ensures ∙ w.if-is_up.true) (w.graph-is ∙ w.in_ok-add_link.ensures)
-      | else-is_up w ↦ rw w.graph-is (made_without c.args.topo.now _ c.loop-link.link c.loop-link.graph c.loop-link.invariant low (sym c.is_up.ensures ∙ w.if-is_up.false))
-    ]
+    made_with c.args.topo.now _ c.loop-link.link c.loop-link.graph _ c.loop-link.invariant low (rw c.is_up.ensures at c.in_ok-add_link.ensures)
 
 pub returns : goal.returns
 returns c = made_all c.args.topo.now _ c.loop-link.link c.loop-link.graph c.loop-link.invariant (omega (arith, c.link_count-link-end.ensures))

@@ -1,0 +1,14 @@
+//! What a change of what is up does to a promise. A book finds it, promise after promise.
+
+use st_net::Broken;
+
+/// What a change does to a promise.
+#[derive(Drop)]
+pub(crate) enum Change {
+    /// The promise holds after it.
+    Holds,
+    /// The promise failed before it.
+    Failed,
+    /// The promise held before it, and is broken so after it.
+    Breaks(Broken),
+}

@@ -1,0 +1,27 @@
+//! Whether one set of entities is within another. More entities keep a promise, and fewer a failure.
+
+ghost use Rattle.std.specs.Prelude.{◌↔◌, IsTrue};
+ghost use Rattle.st_net.specs.Sets.{is_in, MarksOf, IsWithin};
+
+use st_net::{Entity, EntitySet, GroupTopo};
+
+/// Whether each entity of one set is in the other.
+pub fn is_within(topo: &GroupTopo, set: &EntitySet, other: &EntitySet) -> bool
+    requires set { MarksOf topo.now set.now }
+    requires other { MarksOf topo.now other.now }
+    ensures { IsTrue result ↔ IsWithin (is_in set.now) (is_in other.now) }
+{
+    'devices: for i in 0..topo.device_count() {
+        let entity = Entity::Device(i);
+        if set.has(entity) && !other.has(entity) {
+            return false;
+        }
+    }
+    'links: for i in 0..topo.link_count() {
+        let entity = Entity::Link(i);
+        if set.has(entity) && !other.has(entity) {
+            return false;
+        }
+    }
+    true
+}
