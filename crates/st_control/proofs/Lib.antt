@@ -5,3 +5,5 @@ pub mod StoreLaws
 pub mod CheckLemmas
 pub mod SendLemmas
 pub mod HearLemmas
+pub mod BasisLaws
+pub mod RunLaws

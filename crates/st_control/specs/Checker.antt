@@ -22,6 +22,7 @@ use Rattle.st_store.specs.declared.pending.Put.{Put}
 use Rattle.st_store.specs.declared.pending.Put.TheVariants.{Ticket, Full}
 use Rattle.st_store.specs.Changes.{value_at as value_at_version}
 use Rattle.st_net.specs.InOrder.{report_in, stamp_in}
+use Rattle.st_promise.specs.Book.{BookOf}
 use Rattle.st_store.specs.Store.{StoreView}
 use Rattle.st_store.specs.declared.reports.Keep.{Keep}
 use Rattle.st_store.specs.declared.reports.Keep.TheVariants.{Taken, Old}
@@ -30,14 +31,23 @@ use Rattle.st_control.specs.declared.send.SendStep.TheVariants.{Command, Settled
 use Rattle.st_control.specs.declared.control.Check.{Check}
 use Rattle.st_control.specs.declared.control.Check.TheVariants.{Decided, Idle}
 
--- the group, and what its promises need; its proposals, target and kept reports; its locks; and a stamp for each entity, in the order of
--- entities
+-- the group, the book of its promises, and how many runs of a flow that counted; its proposals, target and kept reports; its locks; and a
+-- stamp for each entity, in the order of entities
 pub record Checker : Type 0 where
   pub group : Group
-  pub needs : List ℕ
+  pub book : BookOf
+  pub flows_run : ℕ
   pub store : StoreView
   pub locks : LockRows
   pub stamps : List ℕ
+
+-- the same with another count
+abbrev pub with_runs : Checker → ℕ → Checker
+with_runs k n = record k { flows_run = n }
+
+-- nothing has changed but the count
+abbrev pub IsSameButRuns : Checker → Checker → Type 0
+IsSameButRuns old new = new ≡ with_runs old new.flows_run
 
 -- how the group stands, by what the checker keeps
 abbrev pub standing_in : Checker → Standing
@@ -105,8 +115,9 @@ abbrev pub OldChangesNothing : Keep → Checker → Checker → Type 0
 OldChangesNothing Taken old new = Unit {0}
 OldChangesNothing (Old kept) old new = new ≡ old
 
--- the checker stands as an empty journal leaves its group
+-- the checker stands as an empty journal leaves its group, and no run was counted
 pub record IsStart (g : Group) (k : Checker) : Type 0 where
   pub group : k.group ≡ g
+  pub runs : k.flows_run ≡ 0
   pub standing : standing_in k ≡ standing_of g []
   pub versions : versions_in k ≡ value_at g []

@@ -13,7 +13,8 @@ use Rattle.st_net.specs.InOrder.{entity_count}
 abbrev pub checker_of : Inside → Checker
 checker_of c = record {
   group = c.topo;
-  needs = c.book;
+  book = c.book.of;
+  flows_run = c.book.flows_run;
   store = c.store;
   locks = c.locks;
   stamps = c.stamps.items;
@@ -23,10 +24,11 @@ checker_of c = record {
 abbrev pub FitsGroup : Group → Proposal → Type 0
 FitsGroup g p = RowsFit g p.rows
 
--- a value, a report, a lock and a stamp for each entity, and a need for each promise; and rows that fit
-pub record IsConsistent (k : Checker) : Type 0 where
+-- a value, a report, a lock and a stamp for each entity, and the book of the promises; rows that fit; and the group that is shared
+pub record IsConsistent (k : Checker) (shared : Group) : Type 0 where
   pub store_of : IsStoreOf k.group k.store
   pub fits : All (FitsGroup k.group) k.store.pending
   pub lock_rows : LocksOf k.group k.locks
   pub stamp_count : length k.stamps ≡ entity_count k.group
-  pub needs_are : IsBookOf k.group k.needs
+  pub book_is : IsBookOf k.group k.book
+  pub shared_is : shared ≡ k.group

@@ -2,3 +2,5 @@ pub mod Checker
 pub mod Verdict
 pub mod Inside
 pub mod Sure
+pub mod Basis
+pub mod Commits

@@ -18,7 +18,7 @@ use Rattle.st_event.specs.Standing.{Standing, sure_in}
 use Rattle.st_overlay.specs.Values.{value_in}
 use Rattle.st_store.specs.Changes.{value_at}
 use Rattle.st_store.specs.Store.{StoreView}
-use Rattle.st_control.specs.declared.control.Judged.{Judged}
+use Rattle.st_control.specs.declared.control.Weighed.{Weighed}
 use Rattle.st_control.specs.Checker.{Checker, standing_in}
 
 -- the verdict on an application's rows, where the group stands so
@@ -30,7 +30,7 @@ abbrev pub row_refusal : Checker → AppId → List Row → Option Cause
 row_refusal k app rows = cause_or (first_lack k.group (standing_in k).observed (target_with (value_in k.store.target) rows) rows) (first_locked (standing_in k).holder app rows)
 
 -- what stands against a proposal in its rows, and the entities that they alter
-pub record AreJudgedIn (k : Checker) (p : Proposal) (judged : Judged) : Type 0 where
+pub record AreJudgedIn (k : Checker) (p : Proposal) (judged : Weighed) : Type 0 where
   pub first : judged.refusal ≡ row_refusal k p.app p.rows
   pub marks : MarksOf k.group judged.changed
   pub altered : is_in judged.changed ≡ alters k.group (value_in k.store.target) p.rows
@@ -43,7 +43,7 @@ abbrev pub first_broken_without : Checker → Marks → Option Broken
 first_broken_without k changed = first_broken k.group (sure_in k.group (standing_in k)) (sure_without k changed) 0 k.group.promises
 
 -- what stands against a proposal, which gives the verdict, and the entities that its rows alter
-pub record IsJudgedIn (k : Checker) (p : Proposal) (judged : Judged) : Type 0 where
+pub record IsJudgedIn (k : Checker) (p : Proposal) (judged : Weighed) : Type 0 where
   pub decision : refusal_or_version judged.refusal k.store.version ≡ verdict_in k.group (standing_in k) p.app p.rows
   pub marks : MarksOf k.group judged.changed
   pub altered : is_in judged.changed ≡ alters k.group (value_in k.store.target) p.rows

@@ -1,21 +1,27 @@
 //! The checker of one group. What it keeps is enough to answer an event as the group's whole journal calls for.
 
-ghost use Rattle.std.specs.Prelude.{◌≡◌, option_map, ℕ, ◌<◌, ◌^◌, ◌+◌, length, IfOk, OnErr};
+ghost use Rattle.std.specs.Prelude.{◌≡◌, ◌↔◌, option_map, ℕ, ◌<◌, ◌≤◌, ◌^◌, ◌+◌, length, map, IfOk, IsTrue, OnErr};
+ghost use Rattle.std.specs.Arc.{arc_value};
 ghost use Rattle.st_net.specs.declared.entity.Entity.{Entity};
-ghost use Rattle.st_net.specs.Groups.{IsEntityOf};
+ghost use Rattle.st_net.specs.Groups.{IsEntityOf, promise_of};
+ghost use Rattle.st_net.specs.Promises.{is_kept};
 ghost use Rattle.st_net.specs.Ranges.{RowsFit};
 ghost use Rattle.st_net.specs.Sets.{is_in, MarksOf};
 ghost use Rattle.st_event.specs.declared.event.Event.TheVariants.{Submit, Check as check_event, Lock, Unlock};
 ghost use Rattle.st_event.specs.declared.event.Proposal.{Proposal};
 ghost use Rattle.st_event.specs.declared.reply.Cause.TheVariants.{Broken as broken_cause};
+ghost use Rattle.st_event.specs.declared.reply.Reply.TheVariants.{Decided as decided_reply};
 ghost use Rattle.st_event.specs.Standing.{sure_in, settled_in};
 ghost use Rattle.st_locks.specs.LockRows.{LocksOf};
 ghost use Rattle.st_store.specs.Store.{IsStoreOf, proposal_of};
-ghost use Rattle.st_control.specs.Checker.{Moves, Sends, Hears, OldChangesNothing, IsStart, standing_in, reply_of_put, reply_of_check, reply_of_grant, reply_of_release};
-ghost use Rattle.st_control.specs.Verdict.{IsFirst, IsLatest, first_broken_without, AreJudgedIn, IsJudgedIn, decided_as};
+ghost use Rattle.st_control.specs.Checker.{IsSameButRuns, Moves, Sends, Hears, OldChangesNothing, IsStart, standing_in, reply_of_put, reply_of_check, reply_of_grant, reply_of_release};
+ghost use Rattle.st_control.specs.Verdict.{IsFirst, IsLatest, first_broken_without, sure_without, AreJudgedIn, IsJudgedIn, decided_as};
+ghost use Rattle.st_promise.specs.Book.{AreKept};
+ghost use Rattle.st_control.specs.Commits.{Begins, MayCommit, Commits};
 ghost use Rattle.st_net.specs.InOrder.{entity_count};
 ghost use Rattle.st_control.specs.Sure.{MarksShown};
 
+use crate::basis::{Basis, Judged};
 use crate::send::{SendStep, governing_row, shows_other};
 use crate::settled::Shown;
 use crate::stamps::{opening_stamps, stamp_all};
@@ -30,6 +36,7 @@ use st_rows::{judge_rows, lack};
 use st_store::{Keep, Pending, Put, Store};
 use std::alloc::{AllocError, Global};
 use std::marker::Model;
+use std::sync::Arc;
 
 /// The answer to a check.
 #[derive(Drop)]
@@ -54,18 +61,73 @@ struct Verdicts {
     kept: Verdict,
 }
 
+/// The answer to a begin.
+#[derive(Drop)]
+pub enum Begin {
+    /// What the oldest proposal is judged on.
+    Basis(Basis),
+    /// Nothing waits.
+    Idle,
+}
+
+/// The answer to a commit.
+#[derive(Drop)]
+pub enum Commit {
+    /// The judged proposal was decided.
+    Decided(Receipt),
+    /// The entry of this number had decided it before.
+    Gone { entry: u32 },
+}
+
+/// A receipt, twice: one to hand out and one to enter in a journal.
+#[derive(Drop)]
+pub struct Receipts {
+    pub told: Receipt,
+    pub kept: Receipt,
+}
+
 /// What stands against a proposal, as far as it was judged, and the entities that its rows alter.
 #[derive(Drop)]
-struct Judged {
+struct Weighed {
     refusal: Option<Cause>,
     changed: EntitySet,
 }
 
-/// The checker of one group.
+/// The sure entities, and those that are left of them while some change.
+#[derive(Drop)]
+struct SureSets {
+    sure: EntitySet,
+    after: EntitySet,
+}
+
+/// The promises that what was judged away from the checker tells of a set; none where nothing was.
+fn known_in<'a>(judged: Option<&'a Judged>, topo: &GroupTopo, up: &EntitySet) -> &'a [bool]
+    requires { MarksOf topo.now up.now }
+    ensures { AreKept topo.now (is_in up.now) result.now }
+{
+    match judged {
+        Some(judged) => judged.known_in(topo, up),
+        None => &[],
+    }
+}
+
+/// A copy of a group that can be shared.
+fn shared_copy(alloc: Global, topo: &GroupTopo) -> Result<Arc<GroupTopo, Global>, AllocError>
+    ensures { IfOk result (λ shared. arc_value shared ≡ topo.now) }
+{
+    let copy = topo.copy(alloc)?;
+    match Arc::new(alloc, copy) {
+        Ok(shared) => Ok(shared),
+        Err(_copy) => Err(AllocError),
+    }
+}
+
+/// The checker of one group. It has a copy of its group, made once, that it shares with what is judged away from it.
 #[derive(Drop)]
 pub struct Control {
     alloc: Global,
     topo: GroupTopo,
+    shared: Arc<GroupTopo, Global>,
     book: Book,
     store: Store,
     stamps: Vec<u32>,
@@ -77,11 +139,12 @@ impl Model for Control {
 
     ghost Value = { Checker };
 
+    ghost use Rattle.std.specs.Arc.{arc_value};
     ghost use Rattle.st_control.specs.Inside.{checker_of, IsConsistent};
 
     ghost view = { checker_of };
 
-    ghost invariant = { λ c. IsConsistent (checker_of c) };
+    ghost invariant = { λ c. IsConsistent (checker_of c) (arc_value c.shared) };
 }
 
 impl Control {
@@ -93,9 +156,11 @@ impl Control {
         let store = Store::start(alloc, &topo)?;
         let stamps = opening_stamps(alloc, &topo)?;
         let locks = LockTable::start(alloc, &topo)?;
+        let shared = shared_copy(alloc, &topo)?;
         Ok(Control {
             alloc,
             topo,
+            shared,
             book,
             store,
             stamps,
@@ -135,6 +200,33 @@ impl Control {
         self.stamps.as_slice()
     }
 
+    /// How many times the book of the promises looked for a flow since the checker was started, in the calls that may change it. It
+    /// never falls.
+    pub fn flows_run(&self) -> u64
+        ensures { result ≡ self.now.flows_run }
+    {
+        self.book.flows_run()
+    }
+
+    /// Whether promise number `i` holds while these entities are up: as the flow that is kept of it shows, or else by one that is not
+    /// kept, for which the network of the set is built.
+    pub fn is_held(&self, up: &EntitySet, i: u32) -> Result<bool, AllocError>
+        requires promise { i < length self.now.group.promises }
+        requires marks { MarksOf self.now.group up.now }
+        ensures { IfOk result (λ held. held ≡ is_kept self.now.group (is_in up.now) (promise_of self.now.group i)) }
+    {
+        self.book.is_held(&self.topo, up, i)
+    }
+
+    /// Whether each promise, in order, holds while these entities are up. Where the kept flows show all, no network is built, and else
+    /// one.
+    pub fn held_in(&self, up: &EntitySet) -> Result<Vec<bool>, AllocError>
+        requires { MarksOf self.now.group up.now }
+        ensures { IfOk result (λ held. held.items ≡ map (is_kept self.now.group (is_in up.now)) self.now.group.promises) }
+    {
+        self.book.held_in(&self.topo, up)
+    }
+
     /// The entities that are settled, or sure.
     fn shown(&self, shown: Shown) -> Result<EntitySet, AllocError>
         ensures shown { IfOk result (MarksShown shown self.now.group self.now.store.observed self.now.stamps self.now.store.target) }
@@ -172,12 +264,13 @@ impl Control {
         requires tickets { self.old.store.tickets + 1 < 2 ^ 32 }
         ensures ok { IfOk result (λ put. (n : ℕ) → Moves self.old self.new n (Submit app rows) (reply_of_put put)) }
         ensures err { OnErr result (self.new ≡ self.old) }
+        ensures runs { self.new.flows_run ≡ self.old.flows_run }
     {
         self.store.put(app, rows)
     }
 
     /// What stands against a proposal in its rows by themselves.
-    fn rows_judged(&self, proposal: &Pending) -> Result<Judged, AllocError>
+    fn weigh_rows(&self, proposal: &Pending) -> Result<Weighed, AllocError>
         requires { RowsFit self.now.group proposal.now.rows }
         ensures judged { IfOk result (AreJudgedIn self.now (proposal_of proposal.now)) }
         ensures latest { IsLatest self.now.store }
@@ -193,51 +286,72 @@ impl Control {
             proposal.app,
             rows,
         );
-        Ok(Judged { refusal, changed })
+        Ok(Weighed { refusal, changed })
     }
 
-    /// The first promise that would break while these entities change, as a cause.
-    fn broken(&mut self, changed: &EntitySet) -> Result<Option<Cause>, AllocError>
-        requires { MarksOf self.old.group changed.now }
-        ensures broken { IfOk result (λ cause. cause ≡ option_map broken_cause (first_broken_without self.old changed.now)) }
-        ensures same { self.new ≡ self.old }
+    /// The sure entities, and those that are left of them while these change.
+    fn sure_sets(&self, changed: &EntitySet) -> Result<SureSets, AllocError>
+        requires { MarksOf self.now.group changed.now }
+        ensures sure_of { IfOk result (λ sets. MarksOf self.now.group sets.sure) }
+        ensures after_of { IfOk result (λ sets. MarksOf self.now.group sets.after) }
+        ensures sure { IfOk result (λ sets. is_in sets.sure ≡ sure_in self.now.group (standing_in self.now)) }
+        ensures after { IfOk result (λ sets. is_in sets.after ≡ sure_without self.now changed.now) }
     {
         let sure = self.sure()?;
         let mut after = sure.copy(self.alloc)?;
         take_out(&self.topo, &mut after, changed);
-        let broken = self.book.judge_pairs(&self.topo, &sure, &after)?;
+        Ok(SureSets { sure, after })
+    }
+
+    /// The first promise that would break while these entities change, as a cause. A promise of which `judged` still tells that it holds
+    /// is not judged again.
+    fn broken(
+        &mut self,
+        changed: &EntitySet,
+        judged: Option<&Judged>,
+    ) -> Result<Option<Cause>, AllocError>
+        requires { MarksOf self.old.group changed.now }
+        ensures broken { IfOk result (λ cause. cause ≡ option_map broken_cause (first_broken_without self.old changed.now)) }
+        ensures same { IsSameButRuns self.old self.new }
+        ensures runs { self.old.flows_run ≤ self.new.flows_run }
+    {
+        let SureSets { sure, after } = self.sure_sets(changed)?;
+        let known = known_in(judged, &self.topo, &after);
+        let broken = self.book.judge_rest(&self.topo, known, &sure, &after)?;
         Ok(broken.map(Cause::Broken))
     }
 
     /// What stands against a proposal of whose rows this is known: where nothing does, the promises are judged.
-    fn judged(&mut self, rows: Judged) -> Result<Judged, AllocError>
+    fn weigh(&mut self, rows: Weighed, judged: Option<&Judged>) -> Result<Weighed, AllocError>
         requires marks { MarksOf self.old.group rows.changed }
         ensures judged { (p : Proposal) → AreJudgedIn self.old p rows → IfOk result (IsJudgedIn self.old p) }
-        ensures same { self.new ≡ self.old }
+        ensures same { IsSameButRuns self.old self.new }
+        ensures runs { self.old.flows_run ≤ self.new.flows_run }
     {
-        let Judged { refusal, changed } = rows;
+        let Weighed { refusal, changed } = rows;
         match refusal {
-            Some(cause) => Ok(Judged {
+            Some(cause) => Ok(Weighed {
                 refusal: Some(cause),
                 changed,
             }),
-            None => Ok(Judged {
-                refusal: self.broken(&changed)?,
+            None => Ok(Weighed {
+                refusal: self.broken(&changed, judged)?,
                 changed,
             }),
         }
     }
 
     /// Decides the oldest proposal, of which this was judged, as entry number `entry`. At `Err` nothing has changed.
-    fn decide(&mut self, entry: u32, judged: Judged) -> Result<Verdicts, AllocError>
+    fn decide(&mut self, entry: u32, judged: Weighed) -> Result<Verdicts, AllocError>
         requires pending { 0 < length self.old.store.pending }
         requires marks { MarksOf self.old.group judged.changed }
         requires latest { IsLatest self.old.store }
         ensures ok { (p : Proposal) → IsFirst self.old.store p → IsJudgedIn self.old p judged → IfOk result (λ verdicts. Moves self.old self.new entry check_event (decided_as self.old entry verdicts.told)) }
         ensures kept { IfOk result (λ verdicts. verdicts.kept ≡ verdicts.told) }
         ensures err { OnErr result (self.new ≡ self.old) }
+        ensures runs { self.new.flows_run ≡ self.old.flows_run }
     {
-        let Judged { refusal, changed } = judged;
+        let Weighed { refusal, changed } = judged;
         match refusal {
             Some(cause) => {
                 let kept = cause.copy(self.alloc)?;
@@ -259,43 +373,129 @@ impl Control {
         }
     }
 
+    /// Decides the oldest proposal that waits, as entry number `entry`, by how the checker stands now. What was judged away from it spares
+    /// flows, and changes no verdict. At `Err` nothing has changed but the count of runs.
+    fn decide_oldest(&mut self, entry: u32, judged: Option<&Judged>) -> Result<Receipts, AllocError>
+        requires { 0 < length self.old.store.pending }
+        ensures ok { IfOk result (λ receipts. Moves self.old self.new entry check_event (decided_reply receipts.told)) }
+        ensures ticket { IfOk result (λ receipts. receipts.told.ticket ≡ length self.old.store.decided + 1) }
+        ensures kept { IfOk result (λ receipts. receipts.kept ≡ receipts.told) }
+        ensures err { OnErr result (IsSameButRuns self.old self.new) }
+        ensures runs { self.old.flows_run ≤ self.new.flows_run }
+    {
+        let Some(oldest) = self.store.oldest() else {
+            unreachable!()
+        };
+        let ticket = oldest.ticket;
+        let rows = self.weigh_rows(oldest)?;
+        let weighed = self.weigh(rows, judged)?;
+        let Verdicts { told, kept } = self.decide(entry, weighed)?;
+        Ok(Receipts {
+            told: Receipt {
+                ticket,
+                entry,
+                verdict: told,
+            },
+            kept: Receipt {
+                ticket,
+                entry,
+                verdict: kept,
+            },
+        })
+    }
+
     /// Decides the oldest proposal that waits, as entry number `entry`, and gives the answer twice: a journal keeps one, and to copy
-    /// it once the proposal is decided could fail. At `Err` nothing has changed.
+    /// it once the proposal is decided could fail. At `Err` nothing has changed but the count of runs.
     pub fn check_twice(&mut self, entry: u32) -> Result<Checks, AllocError>
         ensures ok { IfOk result (λ checks. Moves self.old self.new entry check_event (reply_of_check checks.told)) }
         ensures kept { IfOk result (λ checks. checks.kept ≡ checks.told) }
-        ensures err { OnErr result (self.new ≡ self.old) }
+        ensures err { OnErr result (IsSameButRuns self.old self.new) }
+        ensures runs { self.old.flows_run ≤ self.new.flows_run }
     {
-        let Some(oldest) = self.store.oldest() else {
+        if self.store.oldest().is_none() {
             return Ok(Checks {
                 told: Check::Idle,
                 kept: Check::Idle,
             });
-        };
-        let ticket = oldest.ticket;
-        let rows = self.rows_judged(oldest)?;
-        let judged = self.judged(rows)?;
-        let Verdicts { told, kept } = self.decide(entry, judged)?;
+        }
+        let Receipts { told, kept } = self.decide_oldest(entry, None)?;
         Ok(Checks {
-            told: Check::Decided(Receipt {
-                ticket,
-                entry,
-                verdict: told,
-            }),
-            kept: Check::Decided(Receipt {
-                ticket,
-                entry,
-                verdict: kept,
-            }),
+            told: Check::Decided(told),
+            kept: Check::Decided(kept),
         })
     }
 
-    /// Decides the oldest proposal that waits, as entry number `entry`. At `Err` nothing has changed.
+    /// Decides the oldest proposal that waits, as entry number `entry`. At `Err` nothing has changed but the count of runs.
     pub fn check(&mut self, entry: u32) -> Result<Check, AllocError>
         ensures ok { IfOk result (λ check. Moves self.old self.new entry check_event (reply_of_check check)) }
-        ensures err { OnErr result (self.new ≡ self.old) }
+        ensures err { OnErr result (IsSameButRuns self.old self.new) }
+        ensures runs { self.old.flows_run ≤ self.new.flows_run }
     {
         Ok(self.check_twice(entry)?.told)
+    }
+
+    /// What the oldest proposal that waits is judged on, in copies, so that it can be judged while the checker goes on. `Idle` comes
+    /// exactly where nothing waits.
+    pub fn begin_check(&self) -> Result<Begin, AllocError>
+        ensures { IfOk result (Begins self.now) }
+    {
+        let _version = self.store.version();
+        let Some(oldest) = self.store.oldest() else {
+            return Ok(Begin::Idle);
+        };
+        let rows = oldest.rows.as_slice();
+        let changed = changed(self.alloc, &self.topo, self.store.target(), rows)?;
+        let SureSets { sure, after } = self.sure_sets(&changed)?;
+        let topo = Arc::try_clone(&self.shared)?;
+        let needs = self.book.needs().to_vec(self.alloc)?;
+        let known = self.book.shown_in(&self.topo, &after)?;
+        let ticket = oldest.ticket;
+        Ok(Begin::Basis(Basis::new(topo, needs, ticket, sure, after, known)))
+    }
+
+    /// Whether a proposal that was judged away from the checker may be committed: it was given a ticket here, and each lower ticket is
+    /// decided.
+    pub fn may_commit(&self, judged: &Judged) -> bool
+        ensures { IsTrue result ↔ MayCommit self.now judged.now.ticket }
+    {
+        let _version = self.store.version();
+        if self.store.decided(judged.ticket()).is_some() {
+            return true;
+        }
+        match self.store.oldest() {
+            Some(oldest) => oldest.ticket == judged.ticket(),
+            None => false,
+        }
+    }
+
+    /// Decides the judged proposal, which is the oldest that waits, as entry number `entry`, and gives the receipt twice, as `check_twice`
+    /// does. The verdict is that of how the checker stands now, whatever was judged. At `Err` nothing has changed but the count of runs.
+    pub fn commit_twice(&mut self, entry: u32, judged: &Judged) -> Result<Receipts, AllocError>
+        requires oldest { judged.now.ticket ≡ length self.old.store.decided + 1 }
+        requires given { judged.now.ticket ≤ self.old.store.tickets }
+        ensures ok { IfOk result (λ receipts. Moves self.old self.new entry check_event (decided_reply receipts.told)) }
+        ensures ticket { IfOk result (λ receipts. receipts.told.ticket ≡ judged.now.ticket) }
+        ensures kept { IfOk result (λ receipts. receipts.kept ≡ receipts.told) }
+        ensures err { OnErr result (IsSameButRuns self.old self.new) }
+        ensures runs { self.old.flows_run ≤ self.new.flows_run }
+    {
+        let _version = self.store.version();
+        self.decide_oldest(entry, Some(judged))
+    }
+
+    /// Decides a proposal that was judged away from the checker, as entry number `entry`. It was given a ticket here, and each lower ticket
+    /// is decided. `Gone` comes exactly where it is decided too, and changes nothing. Else the verdict is that of how the checker stands
+    /// now, whatever was judged. At `Err` nothing has changed but the count of runs.
+    pub fn commit(&mut self, entry: u32, judged: &Judged) -> Result<Commit, AllocError>
+        requires { MayCommit self.old judged.now.ticket }
+        ensures ok { IfOk result (Commits self.old self.new entry judged.now.ticket) }
+        ensures err { OnErr result (IsSameButRuns self.old self.new) }
+        ensures runs { self.old.flows_run ≤ self.new.flows_run }
+    {
+        if let Some(entry) = self.store.decided(judged.ticket()) {
+            return Ok(Commit::Gone { entry });
+        }
+        Ok(Commit::Decided(self.commit_twice(entry, judged)?.told))
     }
 
     /// What an entity is to be sent, so that it becomes as the target has it. `Settled` comes exactly where it is settled. Else the
@@ -332,6 +532,7 @@ impl Control {
         requires { IsEntityOf self.old.group report.entity }
         ensures hears { Hears self.old self.new entry report result }
         ensures old { OldChangesNothing result self.old self.new }
+        ensures runs { self.new.flows_run ≡ self.old.flows_run }
     {
         let place = self.topo.place(report.entity);
         let target = self.store.target().get(report.entity);
@@ -346,7 +547,8 @@ impl Control {
     /// Gives a lock of an entity to an application, where no other holds it. At `Held` nothing changes.
     pub fn lock(&mut self, app: AppId, entity: Entity, prio: Prio) -> Grant
         requires { IsEntityOf self.old.group entity }
-        ensures { (n : ℕ) → Moves self.old self.new n (Lock app entity prio) (reply_of_grant result) }
+        ensures moves { (n : ℕ) → Moves self.old self.new n (Lock app entity prio) (reply_of_grant result) }
+        ensures runs { self.new.flows_run ≡ self.old.flows_run }
     {
         self.locks.grant(app, entity, prio)
     }
@@ -354,7 +556,8 @@ impl Control {
     /// Takes a lock of an entity back from its holder. At `NotYours` nothing changes.
     pub fn unlock(&mut self, app: AppId, entity: Entity, prio: Prio) -> Release
         requires { IsEntityOf self.old.group entity }
-        ensures { (n : ℕ) → Moves self.old self.new n (Unlock app entity prio) (reply_of_release result) }
+        ensures moves { (n : ℕ) → Moves self.old self.new n (Unlock app entity prio) (reply_of_release result) }
+        ensures runs { self.new.flows_run ≡ self.old.flows_run }
     {
         self.locks.release(app, entity, prio)
     }

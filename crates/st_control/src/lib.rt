@@ -2,6 +2,7 @@
 //! into the group's target. Its answers are replies of the group's journal.
 #![tactic(auto)]
 
+mod basis;
 mod control;
 mod replies;
 mod send;
@@ -9,7 +10,8 @@ mod settled;
 mod stamps;
 mod sure;
 
-pub use control::{Check, Checks, Control};
+pub use basis::{Basis, Judged, judge_basis};
+pub use control::{Begin, Check, Checks, Commit, Control, Receipts};
 pub use replies::{check_reply, grant_reply, keep_reply, put_reply, release_reply};
 pub use send::SendStep;
 pub use st_store::{Keep, Put};

@@ -22,7 +22,8 @@ invariant_of-self-in-Some c =
       fits = kept.fits;
       lock_rows = c.self.invariant.lock_rows;
       stamp_count = c.self.invariant.stamp_count;
-      needs_are = c.self.invariant.needs_are;
+      book_is = c.self.invariant.book_is;
+      shared_is = c.self.invariant.shared_is;
     }
 
 pub returns-in-Some-clause-ok : goal.returns-in-Some-clause-ok
@@ -39,7 +40,8 @@ invariant_of-self-in-None c =
       fits = kept.fits;
       lock_rows = c.self.invariant.lock_rows;
       stamp_count = ap length back ∙ c.stamp_all.ensures.count ∙ ap length c.as_mut_slice.ensures.value ∙ c.self.invariant.stamp_count;
-      needs_are = c.self.invariant.needs_are;
+      book_is = c.self.invariant.book_is;
+      shared_is = c.self.invariant.shared_is;
     }
 
 pub returns-clause-ok : goal.returns-clause-ok

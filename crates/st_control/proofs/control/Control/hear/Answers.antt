@@ -41,3 +41,13 @@ returns-else-eq-clause-hears c =
           let old : is_taken (reply_of_keep c.keep-keep.result) ≡ false = search rules in
           rw w.self-is (heard (stamps_kept k c.args.entry r c.keep-keep.result old))
     ]
+
+pub returns-then-is_renewed-clause-runs : goal.returns-then-is_renewed-clause-runs
+returns-then-is_renewed-clause-runs c = ap (λ (k : Checker). k.flows_run) c.self.view_is
+
+pub returns-else-eq-clause-runs : goal.returns-else-eq-clause-runs
+returns-else-eq-clause-runs c =
+    elim c.else-eq.branch [
+      | else-eq-via-then-eq+else-is_renewed w ↦ rw w.self-is (ap (λ (k : Checker). k.flows_run) c.self.view_is)
+      | else-eq-via-else-eq w ↦ rw w.self-is (ap (λ (k : Checker). k.flows_run) c.self.view_is)
+    ]

@@ -7,6 +7,7 @@ returns c =
     let start = c.in_ok-store.ensures in
     record {
       group = refl;
+      runs = c.in_ok-book.ensures.no_runs;
       standing = rw (start.tickets, start.decided, start.pending, start.version, start.target, start.observed, c.in_ok-stamps.ensures.opening, c.in_ok-locks.ensures.free) refl;
       versions = start.versions ∙ sym (value_at-opening c.args.topo);
     }

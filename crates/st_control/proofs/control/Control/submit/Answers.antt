@@ -1,6 +1,10 @@
-use Rattle.std.proofs.Common.{subst, sym}
+use Rattle.std.proofs.Common.{ℕ, subst, sym}
+use Rattle.std.specs.Prelude.{IfOk}
 use Rattle.st_net.specs.Ranges.{RowsFit}
-use Rattle.st_control.specs.Checker.{Checker}
+use Rattle.st_event.specs.declared.event.Event.TheVariants.{Submit}
+use Rattle.st_control.specs.Inside.{checker_of}
+use Rattle.st_control.specs.Checker.{Checker, Moves, reply_of_put}
+use Rattle.st_control.proofs.RunLaws.{put_ok}
 use Rattle.st_control.proofs.StoreLaws.{store_after_put}
 use Rattle.st_control.proofs.control.Control.submit.Goals as goal
 
@@ -12,5 +16,11 @@ invariant_of-self c =
       fits = kept.fits;
       lock_rows = c.self.invariant.lock_rows;
       stamp_count = c.self.invariant.stamp_count;
-      needs_are = c.self.invariant.needs_are;
+      book_is = c.self.invariant.book_is;
+      shared_is = c.self.invariant.shared_is;
     }
+
+pub returns-clause-ok : goal.returns-clause-ok
+returns-clause-ok c =
+    subst (λ (old : Checker). IfOk c.put.result (λ put. (n : ℕ) → Moves old (record (checker_of c.self.inside) { store = c.put.new.self }) n (Submit c.args.app c.args.rows) (reply_of_put put))) c.self.view_is
+    (put_ok (checker_of c.self.inside) c.put.new.self c.args.app c.args.rows c.put.result c.put.ensures.answer c.put.ensures.store)

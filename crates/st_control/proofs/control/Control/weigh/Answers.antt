@@ -1,5 +1,5 @@
 use Rattle.st_control.proofs.CheckLemmas.{judged_barred, judged_by}
-use Rattle.st_control.proofs.control.Control.judged.Goals as goal
+use Rattle.st_control.proofs.control.Control.weigh.Goals as goal
 
 pub returns-in-Some-clause-judged : goal.returns-in-Some-clause-judged
 returns-in-Some-clause-judged c = λ p are. judged_barred c.args.self.now p c.args.rows c.in-Some.cause are c.in-Some.is

@@ -1,4 +1,4 @@
-use Rattle.st_control.proofs.control.Control.rows_judged.Goals as goal
+use Rattle.st_control.proofs.control.Control.weigh_rows.Goals as goal
 
 pub returns-clause-judged : goal.returns-clause-judged
 returns-clause-judged c = record {

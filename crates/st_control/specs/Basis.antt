@@ -1,0 +1,55 @@
+-- A check away from its checker: what it is judged on, and what was found.
+use Rattle.std.specs.Prelude.{◌≡◌, ℕ, ◌+◌, ◌<◌, ◌≤◌, Bool, List, map, length}
+use Rattle.st_net.specs.Groups.{Group}
+use Rattle.st_net.specs.Merge.{without_altered}
+use Rattle.st_net.specs.Promises.{is_kept}
+use Rattle.st_net.specs.Sets.{Marks, MarksOf, is_in}
+use Rattle.st_event.specs.Proposals.{first_rows}
+use Rattle.st_event.specs.Standing.{sure_in}
+use Rattle.st_overlay.specs.Values.{value_in}
+use Rattle.st_promise.specs.Book.{AreNeedsOf, AreKept}
+use Rattle.st_control.specs.Checker.{Checker, standing_in}
+
+-- a group and what its promises need; a ticket; the sure entities, and those that the proposal leaves as they are; and which promises
+-- were known to hold while these are up
+pub record BasisView : Type 0 where
+  pub group : Group
+  pub needs : List ℕ
+  pub ticket : ℕ
+  pub sure : Marks
+  pub after : Marks
+  pub known : List Bool
+
+-- the needs are those of the group, there is a mark for each of its entities, and what is known is so
+pub record IsBasis (b : BasisView) : Type 0 where
+  pub needs : AreNeedsOf b.group b.needs
+  pub ticket : 0 < b.ticket
+  pub sure : MarksOf b.group b.sure
+  pub after : MarksOf b.group b.after
+  pub known : AreKept b.group (is_in b.after) b.known
+
+-- the group, the ticket and the smaller set of a basis, and for each promise whether it holds in that set
+pub record JudgedView : Type 0 where
+  pub group : Group
+  pub ticket : ℕ
+  pub after : Marks
+  pub holds : List Bool
+
+pub record IsJudged (j : JudgedView) : Type 0 where
+  pub ticket : 0 < j.ticket
+  pub after : MarksOf j.group j.after
+  pub holds : j.holds ≡ map (is_kept j.group (is_in j.after)) j.group.promises
+
+-- this was judged on that
+pub record IsJudgedOf (b : BasisView) (j : JudgedView) : Type 0 where
+  pub group : j.group ≡ b.group
+  pub ticket : j.ticket ≡ b.ticket
+  pub after : j.after ≡ b.after
+
+-- what the oldest proposal is judged on, where the checker stands so
+pub record IsBasisOf (k : Checker) (b : BasisView) : Type 0 where
+  pub group : b.group ≡ k.group
+  pub oldest : b.ticket ≡ length k.store.decided + 1
+  pub given : b.ticket ≤ k.store.tickets
+  pub sure : is_in b.sure ≡ sure_in k.group (standing_in k)
+  pub after : is_in b.after ≡ without_altered k.group (sure_in k.group (standing_in k)) (value_in k.store.target) (first_rows k.store.pending)

@@ -1,0 +1,26 @@
+-- What a begin of a check finds, and what a commit of it does.
+use Rattle.std.specs.Prelude.{◌≡◌, ℕ, ◌+◌, ◌≤◌, [], length, Some}
+use Rattle.st_net.specs.Numbered.{nth}
+use Rattle.st_event.specs.declared.event.Event.TheVariants.{Check}
+use Rattle.st_event.specs.declared.reply.Reply.TheVariants.{Decided as decided_reply}
+use Rattle.st_control.specs.declared.control.Begin.{Begin}
+use Rattle.st_control.specs.declared.control.Begin.TheVariants.{Basis, Idle}
+use Rattle.st_control.specs.declared.control.Commit.{Commit}
+use Rattle.st_control.specs.declared.control.Commit.TheVariants.{Decided, Gone}
+use Rattle.st_control.specs.Basis.{IsBasisOf}
+use Rattle.st_control.specs.Checker.{Checker, Moves}
+
+-- a basis, or nothing waits
+abbrev pub Begins : Checker → Begin → Type 0
+Begins k (Basis basis) = IsBasisOf k basis
+Begins k Idle = k.store.pending ≡ []
+
+-- the ticket was given, and each lower ticket is decided
+pub record MayCommit (k : Checker) (ticket : ℕ) : Type 0 where
+  pub given : ticket ≤ k.store.tickets
+  pub lower : ticket ≤ length k.store.decided + 1
+
+-- the oldest proposal has the ticket and gets the verdict that is called for, whatever was judged; or that ticket was decided, by this entry
+abbrev pub Commits : Checker → Checker → ℕ → ℕ → Commit → Type 0
+Commits old new n ticket (Decided receipt) = (receipt.ticket ≡ ticket) × Moves old new n Check (decided_reply receipt)
+Commits old new n ticket (Gone entry) = (nth old.store.decided ticket ≡ Some entry) × (new ≡ old)
