@@ -4,3 +4,4 @@ pub mod RunLaws
 pub mod SettleLaws
 pub mod RoundLaws
 pub mod WorldLaws
+pub mod CommitLaws

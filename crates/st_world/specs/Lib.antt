@@ -2,3 +2,4 @@ pub mod Plant
 pub mod Machine
 pub mod World
 pub mod Rounds
+pub mod Commits

@@ -11,7 +11,7 @@ use Rattle.st_event.specs.Standing.{Wires, standing_of, wires_of, standing_after
 use Rattle.st_event.specs.Versions.{value_at, versions_after}
 use Rattle.st_agent.specs.State.{AgentState}
 use Rattle.st_wire.specs.Messages.{Messages, HasSameMessages}
-use Rattle.st_control.specs.Checker.{Checker, standing_in, versions_in}
+use Rattle.st_control.specs.Checker.{Checker, IsSameButRuns, standing_in, versions_in}
 use Rattle.st_world.specs.Plant.{IsPlantOf, agent_in}
 
 -- the checker; an agent for each entity, in the order of entities; and the messages
@@ -58,8 +58,8 @@ pub record Answers (old new : MachineView) (n : ℕ) (event : Event) (reply : Re
   pub group : new.checker.group ≡ old.checker.group
   pub versions : versions_in new.checker ≡ versions_after (standing_in old.checker) event reply (versions_in old.checker)
 
--- nothing has changed, but for the room that there is for messages
+-- nothing has changed, but for the room that there is for messages and the checker's count of runs
 pub record HasSameMachine (old new : MachineView) : Type 0 where
-  pub checker : new.checker ≡ old.checker
+  pub checker : IsSameButRuns old.checker new.checker
   pub agents : new.agents ≡ old.agents
   pub messages : HasSameMessages old.messages new.messages

@@ -2,11 +2,13 @@
 //! here with its reply; services and scripts drive it, and reports are read from it.
 #![tactic(auto)]
 
+pub mod laws;
 mod machine;
 mod plant;
 #[cfg(test)]
 mod tests;
 mod world;
 
+pub use world::commits::Committed;
 pub use world::rounds::{Going, Rounded};
 pub use world::{Stepped, World};

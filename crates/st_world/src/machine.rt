@@ -5,6 +5,7 @@ ghost use Rattle.std.specs.Prelude.{◌≡◌, ℕ, ◌<◌, ◌≤◌, ◌+◌,
 ghost use Rattle.st_net.specs.Groups.{IsEntityOf};
 ghost use Rattle.st_net.specs.Ranges.{RowsFit};
 ghost use Rattle.st_event.specs.declared.event.Event.TheVariants.{Submit, Check as check_event, Lock, Unlock, Send, Deliver, Finish as finish_event, Report as report_event, Hear, Fail};
+ghost use Rattle.st_event.specs.declared.reply.Reply.TheVariants.{Decided as decided_reply};
 ghost use Rattle.st_event.specs.declared.journal.TheConstants.{MAX_ENTRIES};
 ghost use Rattle.st_event.specs.Events.{is_without_side};
 ghost use Rattle.st_event.specs.Legal.{Fits};
@@ -14,7 +15,8 @@ ghost use Rattle.st_world.specs.Machine.{Answers, HasSameMachine, IsBelow, IsOpe
 use crate::plant::Plant;
 use st_agent::{Delivery, Finish};
 use st_control::{
-    Control, SendStep, check_reply, grant_reply, keep_reply, put_reply, release_reply,
+    Control, Judged, Receipts, SendStep, check_reply, grant_reply, keep_reply, put_reply,
+    release_reply,
 };
 use st_event::{Event, Reply, Rows};
 use st_net::{AppId, Entity, GroupTopo, Prio, Vals};
@@ -120,11 +122,11 @@ impl Machine {
         Ok(put_reply(self.control.submit(app, asked)?))
     }
 
-    /// The oldest proposal is decided.
+    /// The oldest proposal is decided. At `Err` nothing has changed but the checker's count of runs.
     fn check(&mut self, entry: u32) -> Result<Answered, AllocError>
         ensures ok { IfOk result (λ answered. Answers self.old self.new entry check_event answered.told) }
         ensures kept { IfOk result (λ answered. answered.kept ≡ answered.told) }
-        ensures err { OnErr result (self.new ≡ self.old) }
+        ensures err { OnErr result (HasSameMachine self.old self.new) }
         ensures room { self.new.messages ≡ self.old.messages }
     {
         let checks = self.control.check_twice(entry)?;
@@ -132,6 +134,20 @@ impl Machine {
             told: check_reply(checks.told),
             kept: check_reply(checks.kept),
         })
+    }
+
+    /// The oldest proposal, which was judged away from the checker, is decided, and the receipt is given twice. At `Err` nothing has
+    /// changed but the checker's count of runs.
+    pub fn commit(&mut self, entry: u32, judged: &Judged) -> Result<Receipts, AllocError>
+        requires oldest { judged.now.ticket ≡ length self.old.checker.store.decided + 1 }
+        requires given { judged.now.ticket ≤ self.old.checker.store.tickets }
+        ensures ok { IfOk result (λ receipts. Answers self.old self.new entry check_event (decided_reply receipts.told)) }
+        ensures ticket { IfOk result (λ receipts. receipts.told.ticket ≡ judged.now.ticket) }
+        ensures kept { IfOk result (λ receipts. receipts.kept ≡ receipts.told) }
+        ensures err { OnErr result (HasSameMachine self.old self.new) }
+        ensures room { self.new.messages ≡ self.old.messages }
+    {
+        self.control.commit_twice(entry, judged)
     }
 
     /// An application asks for a lock.
@@ -244,7 +260,7 @@ impl Machine {
         Reply::Changed
     }
 
-    /// Answers an event as entry number `entry`. At `Err` nothing has changed. Where there is room, only proposals and decisions take
+    /// Answers an event as entry number `entry`. At `Err` nothing has changed but the checker's count of runs. Where there is room, only proposals and decisions take
     /// memory.
     pub fn answer(&mut self, entry: u32, event: &Event) -> Result<Answered, AllocError>
         requires fits { Fits self.old.checker.group event.now }

@@ -3,6 +3,8 @@
 
 ghost use Rattle.std.specs.Prelude.{◌+◌, ◌^◌, ◌<◌};
 
+mod commits;
+mod detour;
 mod replies;
 mod two_path;
 
@@ -10,12 +12,13 @@ use crate::World;
 use replies::{
     accept, firmware, firmware_row, has_entry, has_firmware, is_full, leaves, round_leads, told,
 };
-use st_control::{Check, Control};
+use st_control::{Begin, Check, Commit, Control, Judged, judge_basis};
 use st_event::{Event, MAX_ENTRIES, Receipt, Verdict};
 use st_net::{AppId, Entity, Prio, Vals};
 use st_wire::{WireKind, WireLine};
 use std::alloc::Global;
 use std::test::Fail;
+use std::thread::Threads;
 use two_path::{topo, world_with};
 
 const A1: Entity = Entity::Device(2);
@@ -282,4 +285,53 @@ fn a_checker_decides_without_a_world(rt: HostRuntime) -> Result<(), Fail> {
     let mut control = Control::start(alloc, topo(alloc)?)?;
     proposed(alloc, &mut control)?;
     decided_alone(&mut control)
+}
+
+/// What is judged twice of the oldest proposal is decided once.
+fn committed_alone(
+    rt: &(impl Threads + Sync),
+    alloc: Global,
+    control: &mut Control,
+) -> Result<(), Fail> {
+    let first = judged_alone(rt, alloc, control)?;
+    let second = judged_alone(rt, alloc, control)?;
+    if !control.may_commit(&first) {
+        return Err(Fail::new("the ticket may not be committed"));
+    }
+    match control.commit(2, &first)? {
+        Commit::Decided(
+            Receipt {
+                ticket: 1,
+                entry: 2,
+                verdict: Verdict::Accepted { version: 1 },
+            },
+        ) => {}
+        _ => return Err(Fail::new("not accepted as ticket 1 and version 1")),
+    }
+    if !control.may_commit(&second) {
+        return Err(Fail::new("a decided ticket may not be committed"));
+    }
+    match control.commit(3, &second)? {
+        Commit::Gone { entry: 2 } => Ok(()),
+        _ => Err(Fail::new("not gone")),
+    }
+}
+
+fn judged_alone(
+    rt: &(impl Threads + Sync),
+    alloc: Global,
+    control: &Control,
+) -> Result<Judged, Fail> {
+    match control.begin_check()? {
+        Begin::Basis(basis) => Ok(judge_basis(rt, alloc, basis)?),
+        Begin::Idle => Err(Fail::new("nothing waits")),
+    }
+}
+
+#[test]
+fn a_checker_commits_without_a_world(rt: HostRuntime) -> Result<(), Fail> {
+    let alloc = rt.alloc();
+    let mut control = Control::start(alloc, topo(alloc)?)?;
+    proposed(alloc, &mut control)?;
+    committed_alone(&rt, alloc, &mut control)
 }

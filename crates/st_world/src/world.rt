@@ -15,6 +15,7 @@ ghost use Rattle.st_control.specs.Checker.{standing_in, versions_in};
 ghost use Rattle.st_world.specs.Machine.{is_sure_event};
 ghost use Rattle.st_world.specs.World.{Steps};
 
+pub mod commits;
 mod fit;
 pub mod rounds;
 

@@ -73,7 +73,7 @@ pub fn told(alloc: Global, world: &mut World, event: Event, words: &str) -> Resu
 }
 
 /// Nothing where it is so.
-fn expect(is_so: bool) -> Result<(), Fail> {
+pub fn expect(is_so: bool) -> Result<(), Fail> {
     if is_so {
         Ok(())
     } else {

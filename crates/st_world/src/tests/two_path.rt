@@ -1,6 +1,6 @@
 //! The two-path group, at its opening.
 
-ghost use Rattle.std.specs.Prelude.{◌≡◌, ◌+◌, IfOk, length};
+ghost use Rattle.std.specs.Prelude.{◌≡◌, ◌+◌, ◌<◌, IfOk, length};
 
 use crate::World;
 use st_net::{
@@ -11,11 +11,11 @@ use st_wire::{LossPlan, WireLine};
 use std::alloc::Global;
 use std::test::Fail;
 
-fn name(alloc: Global, text: &str) -> Result<Name, Fail> {
+pub fn name(alloc: Global, text: &str) -> Result<Name, Fail> {
     Ok(Name::read(alloc, text.as_bytes())?.ok_or("no name")?)
 }
 
-fn device(alloc: Global, text: &str, tor: bool) -> Result<DevicePart, Fail> {
+pub fn device(alloc: Global, text: &str, tor: bool) -> Result<DevicePart, Fail> {
     Ok(DevicePart {
         name: name(alloc, text)?,
         tor,
@@ -36,7 +36,7 @@ fn end(alloc: Global, text: &str) -> Result<EndPart, Fail> {
     })
 }
 
-fn link(alloc: Global, text: &str, a: &str, b: &str) -> Result<LinkPart, Fail> {
+pub fn link(alloc: Global, text: &str, a: &str, b: &str) -> Result<LinkPart, Fail> {
     Ok(LinkPart {
         name: name(alloc, text)?,
         a: end(alloc, a)?,
@@ -79,13 +79,20 @@ fn parts(alloc: Global) -> Result<Parts, Fail>
     })
 }
 
-/// The group.
-pub fn topo(alloc: Global) -> Result<GroupTopo, Fail> {
-    let parts = parts(alloc)?;
-    match GroupTopo::build(alloc, &parts)? {
+/// The group that has these parts.
+pub fn built(alloc: Global, parts: &Parts) -> Result<GroupTopo, Fail>
+    requires { length parts.now.devices + length parts.now.links + length parts.now.promises < 100 }
+{
+    match GroupTopo::build(alloc, parts)? {
         Built::Topo(topo) => Ok(topo),
         Built::Fault(_) => Err(Fail::new("a fault")),
     }
+}
+
+/// The group.
+pub fn topo(alloc: Global) -> Result<GroupTopo, Fail> {
+    let parts = parts(alloc)?;
+    built(alloc, &parts)
 }
 
 /// The group at its opening, with these wire lines.

@@ -1,0 +1,179 @@
+//! Checks that are judged away from their world.
+
+use super::replies::{accept, expect, firmware, told};
+use super::{A1, A2, UP, detour, plain_world};
+use crate::{Committed, World};
+use st_control::{Begin, Judged, judge_basis};
+use st_event::{Cause, Event, Receipt, Rows, Verdict};
+use st_net::{Broken, BrokenKind, Entity, Row, Vals, Var};
+use std::alloc::Global;
+use std::test::Fail;
+use std::thread::Threads;
+
+/// What is judged of the oldest proposal.
+fn judged(rt: &(impl Threads + Sync), alloc: Global, world: &World) -> Result<Judged, Fail> {
+    match world.begin_check()? {
+        Begin::Basis(basis) => Ok(judge_basis(rt, alloc, basis)?),
+        Begin::Idle => Err(Fail::new("nothing waits")),
+    }
+}
+
+fn committed(world: &mut World, judged: &Judged) -> Result<Committed, Fail> {
+    if !world.may_commit(judged) {
+        return Err(Fail::new("the ticket may not be committed"));
+    }
+    Ok(world.commit(judged)?)
+}
+
+/// Drains the first switch.
+fn drain(alloc: Global) -> Result<Event, Fail> {
+    let row = Row {
+        entity: A1,
+        var: Var::Routing,
+        value: 0,
+    };
+    Ok(Event::Submit {
+        app: UP,
+        rows: Rows::from_slice(alloc, [row].as_slice())?,
+    })
+}
+
+/// The second switch works no more.
+fn down() -> Event {
+    Event::Fail {
+        entity: A2,
+        vals: Vals {
+            v0: 1,
+            v1: 1,
+            v2: 1,
+            v3: 1,
+        },
+        health: 0,
+    }
+}
+
+fn broken_of(verdict: &Verdict) -> Option<&Broken> {
+    match verdict {
+        Verdict::Refused(Cause::Broken(broken)) => Some(broken),
+        _ => None,
+    }
+}
+
+fn is_cut_off(receipt: &Receipt) -> bool {
+    let Some(broken) = broken_of(&receipt.verdict) else {
+        return false;
+    };
+    receipt.entry == 5
+        && broken.kind == BrokenKind::CutOff
+        && broken.need == 10
+        && broken.has == 0
+        && broken.side.as_slice() == [0].as_slice()
+}
+
+/// The commit is refused by entry 5.
+fn refuses(world: &mut World, judged: &Judged) -> Result<(), Fail> {
+    match committed(world, judged)? {
+        Committed::Did(receipt) => expect(is_cut_off(&receipt)),
+        _ => Err(Fail::new("no receipt")),
+    }
+}
+
+/// The ticket was decided by entry 5.
+fn is_gone(world: &mut World, judged: &Judged) -> Result<(), Fail> {
+    match committed(world, judged)? {
+        Committed::Gone { entry } => expect(entry == 5 && world.journal().len() == 5),
+        _ => Err(Fail::new("not gone")),
+    }
+}
+
+fn second_switch_fails(alloc: Global, world: &mut World) -> Result<(), Fail> {
+    told(alloc, world, down(), "changed")?;
+    told(alloc, world, Event::Report { entity: A2 }, "reported 1")?;
+    told(alloc, world, Event::Hear { report: 1 }, "taken")
+}
+
+fn shrunk(rt: &(impl Threads + Sync), alloc: Global, world: &mut World) -> Result<(), Fail> {
+    told(alloc, world, drain(alloc)?, "queued 1")?;
+    let first = judged(rt, alloc, world)?;
+    let second = judged(rt, alloc, world)?;
+    second_switch_fails(alloc, world)?;
+    refuses(world, &first)?;
+    is_gone(world, &second)
+}
+
+#[test]
+fn a_commit_judges_what_is_sure_then(rt: HostRuntime) -> Result<(), Fail> {
+    let alloc = rt.alloc();
+    let mut world = plain_world(alloc)?;
+    shrunk(&rt, alloc, &mut world)
+}
+
+fn is_accepted(verdict: &Verdict) -> bool {
+    match verdict {
+        Verdict::Accepted { version } => *version == 1,
+        Verdict::Refused(_) => false,
+    }
+}
+
+/// The commit is accepted by entry 2.
+fn accepts(world: &mut World, judged: &Judged) -> Result<(), Fail> {
+    match committed(world, judged)? {
+        Committed::Did(receipt) => expect(receipt.entry == 2 && is_accepted(&receipt.verdict)),
+        _ => Err(Fail::new("no receipt")),
+    }
+}
+
+fn kept(rt: &(impl Threads + Sync), alloc: Global, world: &mut World) -> Result<(), Fail> {
+    told(alloc, world, drain(alloc)?, "queued 1")?;
+    let judged = judged(rt, alloc, world)?;
+    accepts(world, &judged)
+}
+
+#[test]
+fn a_commit_accepts_what_was_judged_to_hold(rt: HostRuntime) -> Result<(), Fail> {
+    let alloc = rt.alloc();
+    let mut world = plain_world(alloc)?;
+    kept(&rt, alloc, &mut world)
+}
+
+/// How many runs of a flow a world counts once an upgrade of a switch was judged away from it and committed.
+fn runs_away(
+    rt: &(impl Threads + Sync),
+    alloc: Global,
+    world: &mut World,
+    entity: Entity,
+) -> Result<u64, Fail> {
+    told(alloc, world, firmware(alloc, entity, 2)?, "queued 1")?;
+    let judged = judged(rt, alloc, world)?;
+    accepts(world, &judged)?;
+    Ok(world.control().flows_run())
+}
+
+/// How many it counts once the same was checked by it.
+fn runs_here(alloc: Global, world: &mut World, entity: Entity) -> Result<u64, Fail> {
+    accept(alloc, world, entity, 2)?;
+    Ok(world.control().flows_run())
+}
+
+fn runs_of_commit(rt: &(impl Threads + Sync), alloc: Global, way: Entity) -> Result<u64, Fail> {
+    let mut world = detour::world(alloc)?;
+    runs_away(rt, alloc, &mut world, way)
+}
+
+fn runs_of_check(alloc: Global, way: Entity) -> Result<u64, Fail> {
+    let mut world = detour::world(alloc)?;
+    runs_here(alloc, &mut world, way)
+}
+
+// One of the two ways carries the flow that is kept, so that a check has to find another where that one is upgraded.
+#[test]
+fn a_commit_runs_no_flow_for_what_was_judged_away(rt: HostRuntime) -> Result<(), Fail> {
+    let alloc = rt.alloc();
+    let [first, second] = detour::WAYS;
+    assert_eq!(&rt; runs_of_commit(&rt, alloc, first)?, 0);
+    assert_eq!(&rt; runs_of_commit(&rt, alloc, second)?, 0);
+    let first = runs_of_check(alloc, first)?;
+    let second = runs_of_check(alloc, second)?;
+    assert!(&rt; first > 0 || second > 0);
+    Ok(())
+}

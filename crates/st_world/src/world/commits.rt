@@ -1,0 +1,64 @@
+//! Checks that are judged away from their world: a basis is taken from it, and what was judged is committed to it as one entry.
+
+ghost use Rattle.std.specs.Prelude.{◌≡◌, ◌↔◌, ◌≤◌, IfOk, MatchResult, IsTrue, OnErr};
+ghost use Rattle.st_world.specs.Commits.{Begins, MayCommit, Commits, SpendsRoom};
+
+use crate::world::{World, enter_last};
+use st_control::{Begin, Judged, Receipts};
+use st_event::{Event, MAX_ENTRIES, Receipt, Reply};
+use std::alloc::AllocError;
+
+/// The answer to a commit.
+#[derive(Drop)]
+pub enum Committed {
+    /// The judged proposal was decided, and a Check with this receipt was entered.
+    Did(Receipt),
+    /// The entry of this number had decided it before: nothing has changed.
+    Gone { entry: u32 },
+    /// The journal has as many entries as it may have, which is this number: nothing has changed.
+    JournalFull { entries: u32 },
+}
+
+impl World {
+    /// What the oldest proposal that waits is judged on, in copies. No entry is made. `Idle` comes exactly where nothing waits.
+    pub fn begin_check(&self) -> Result<Begin, AllocError>
+        ensures { IfOk result (Begins self.now.history) }
+    {
+        self.machine.control().begin_check()
+    }
+
+    /// Whether a proposal that was judged away from the world may be committed: it was given a ticket here, and each lower ticket is
+    /// decided. What was judged on a basis of this world may be, from the time the basis was taken.
+    pub fn may_commit(&self, judged: &Judged) -> bool
+        ensures { IsTrue result ↔ MayCommit self.now.history.past judged.now.ticket }
+    {
+        self.machine.control().may_commit(judged)
+    }
+
+    /// Decides a proposal that was judged away from the world, as one Check. It was given a ticket here, and each lower ticket is decided,
+    /// as is so of each basis since it was taken. `Gone` comes exactly where it is decided too, and else `JournalFull` exactly where the
+    /// journal has 200,000 entries: then nothing changes. Else the reply is the one that the entries before it call for, whatever was
+    /// judged. At `Err` the group, its journal and its plan are as they were. Only where an entry is made is room for one spent.
+    pub fn commit(&mut self, judged: &Judged) -> Result<Committed, AllocError>
+        requires { MayCommit self.old.history.past judged.now.ticket }
+        ensures ok { IfOk result (Commits self.old.history self.new.history judged.now.ticket) }
+        ensures err { OnErr result (self.new.history ≡ self.old.history) }
+        ensures plan { self.new.lines ≡ self.old.lines }
+        ensures room { MatchResult result (SpendsRoom self.old.room self.new.room) (λ _. self.old.room ≤ self.new.room) }
+    {
+        if let Some(entry) = self.machine.control().store().decided(judged.ticket()) {
+            return Ok(Committed::Gone { entry });
+        }
+        if self.journal.len() >= MAX_ENTRIES {
+            return Ok(Committed::JournalFull {
+                entries: MAX_ENTRIES as u32,
+            });
+        }
+        let entry = self.journal.len() as u32 + 1;
+        // Room first: once the machine has decided, the entry has to follow.
+        self.journal.reserve(1)?;
+        let Receipts { told, kept } = self.machine.commit(entry, judged)?;
+        enter_last(&mut self.journal, Event::Check, Reply::Decided(kept));
+        Ok(Committed::Did(told))
+    }
+}
