@@ -1,11 +1,9 @@
 //! The promises of a group: how many held at the opening, how many hold now, and which were lost.
 
-ghost use Rattle.std.specs.Prelude.{◌≡◌, ◌++◌, ◌<◌, [], OnOk, OnErr, IfOk, length, map, count_by, not, ◌&&◌, if◌then◌else◌};
+ghost use Rattle.std.specs.Prelude.{◌≡◌, ◌++◌, ◌<◌, [], OnOk, OnErr, length, count_by, not, ◌&&◌, if◌then◌else◌};
 ghost use Rattle.st_text.specs.Printed.{HoldsPart};
 ghost use Rattle.st_net.specs.Groups.{promise_of};
-ghost use Rattle.st_net.specs.Promises.{is_kept};
 ghost use Rattle.st_net.specs.Sets.{MarksOf, is_in};
-ghost use Rattle.st_promise.specs.Book.{IsBookOf};
 ghost use Rattle.st_report.specs.Counted.{lost_line, promise_lines as promise_lines_lem};
 
 use crate::words::entity_name;
@@ -13,25 +11,6 @@ use st_net::{Entity, EntitySet, GroupTopo};
 use st_promise::Book;
 use st_text::{Text, Word, print_line};
 use std::alloc::{AllocError, Global};
-
-/// Which promises hold while these entities are up, in order. The book is as it was, also after `Err`.
-fn kept_promises(
-    alloc: Global,
-    topo: &GroupTopo,
-    book: &mut Book,
-    up: &EntitySet,
-) -> Result<Vec<bool>, AllocError>
-    requires book { IsBookOf topo.now book.old }
-    requires marks { MarksOf topo.now up.now }
-    ensures kept { IfOk result (λ kept. kept.items ≡ map (is_kept topo.now (is_in up.now)) topo.now.promises) }
-    ensures same { book.new ≡ book.old }
-{
-    let mut kept = Vec::new(alloc);
-    for i in 0..topo.promise_count() {
-        kept.push(book.promise_holds(topo, up, i)?)?;
-    }
-    Ok(kept)
-}
 
 /// How many marks are set.
 fn mark_count(kept: &[bool]) -> usize
@@ -62,9 +41,9 @@ fn print_lost(
 }
 
 /// Adds the line `promises`: how many there are, how many held at the opening and how many hold now; and then a line for each
-/// that held and does not hold, in order. It computes what each promise needs, one flow for each that is not of 0 percent, and
-/// judges each once for each set. After `Err`, which is for want of memory alone, the text holds a part of these lines behind
-/// what it held.
+/// that held and does not hold, in order. It computes what each promise needs and a flow that shows it, and judges each once for
+/// each set: where these flows show all, no network is built. After `Err`, which is for want of memory alone, the text holds a
+/// part of these lines behind what it held.
 pub fn promise_lines(
     alloc: Global,
     topo: &GroupTopo,
@@ -77,9 +56,9 @@ pub fn promise_lines(
     ensures ok { OnOk result (out.new ≡ out.old ++ promise_lines_lem topo.now (is_in start.now) (is_in now.now)) }
     ensures err { OnErr result (HoldsPart out.old out.new (promise_lines_lem topo.now (is_in start.now) (is_in now.now))) }
 {
-    let mut book = Book::start(alloc, topo)?;
-    let held = kept_promises(alloc, topo, &mut book, start)?;
-    let holding = kept_promises(alloc, topo, &mut book, now)?;
+    let book = Book::start(alloc, topo)?;
+    let held = book.held_in(topo, start)?;
+    let holding = book.held_in(topo, now)?;
     print_line(
         b"promises",
         &[
