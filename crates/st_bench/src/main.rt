@@ -2,22 +2,29 @@
 //! prints one line of counts; `document` and a network print that network for another program.
 #![tactic(auto)]
 
+mod checks;
 mod cuts;
 mod document;
 mod group;
 mod network;
 mod promises;
+mod proposals;
+mod work;
 mod worlds;
 
+use checks::{Decided, Way, decide};
 use cuts::least_cuts;
 use document::print_document;
 use group::group_of;
 use network::{Network, fat_tree, full_group};
-use promises::{Judged, judge, start};
+use promises::{Judged, judge, start, wide};
+use proposals::{Outage, Proposed, propose};
 use st_net::GroupTopo;
 use std::alloc::{AllocError, Global};
 use std::rt::Runtime;
+use std::thread::Threads;
 use std::{env, io};
+use work::{GroupTask, Task, task_of};
 use worlds::{Course, Driven, drive};
 
 /// The network of a work: a fat tree of ten pods, or a random group with as many parts as a group may have.
@@ -27,37 +34,6 @@ fn network_of(alloc: Global, work: &str) -> Result<Option<Network>, AllocError> 
         "full-group" => Ok(Some(full_group(alloc)?)),
         _ => Ok(None),
     }
-}
-
-/// What is done with a network.
-#[derive(Clone, Copy)]
-enum Task {
-    /// The least cut of each pair of leaves.
-    Cuts,
-    /// The need of a promise between each pair of leaves.
-    Start,
-    /// A change of its group, judged by these promises.
-    Judge,
-    /// Events of its group's world.
-    Drive(Course),
-}
-
-/// The task that a word names, and what is left of the word.
-fn task_of(word: &str) -> (Task, &str) {
-    let tasks = [
-        ("start-", Task::Start),
-        ("judge-", Task::Judge),
-        ("locks-", Task::Drive(Course::Locks)),
-        ("reports-", Task::Drive(Course::Reports)),
-        ("failures-", Task::Drive(Course::Failures)),
-        ("rounds-", Task::Drive(Course::Rounds)),
-    ];
-    for (prefix, task) in &tasks {
-        if let Some(work) = word.strip_prefix(*prefix) {
-            return (*task, work);
-        }
-    }
-    (Task::Cuts, word)
 }
 
 /// Finds the least cuts so often, and once at least, and prints what the last time found.
@@ -90,6 +66,24 @@ fn print_judged(rt: &impl Runtime, word: &str, judged: Judged) -> io::Result<()>
     }
 }
 
+/// Judges so many proposals, and prints how.
+fn repeat_proposals(
+    rt: &impl Runtime,
+    alloc: Global,
+    word: &str,
+    topo: &GroupTopo,
+    outage: Outage,
+    times: u32,
+) -> io::Result<()> {
+    let Proposed {
+        promises,
+        proposals,
+        refused,
+        runs,
+    } = propose(alloc, topo, outage, times)?;
+    println!(rt; "{word} promises {promises} proposals {proposals} refused {refused} runs {runs}")
+}
+
 /// Drives a world of a group so often, and prints how it stands then.
 fn repeat_driven(
     rt: &impl Runtime,
@@ -103,26 +97,70 @@ fn repeat_driven(
     println!(rt; "{word} entries {entries} unsettled {unsettled}")
 }
 
-/// Does a work so often, and prints what its last time found.
-fn repeat(rt: &impl Runtime, alloc: Global, word: &str, times: u32) -> io::Result<()> {
-    let (task, work) = task_of(word);
-    let Some(network) = network_of(alloc, work)? else {
-        return println!(rt; "no work is called {word}");
-    };
-    if let Task::Cuts = task {
-        return repeat_cuts(rt, alloc, word, &network, times);
-    }
-    let Some(topo) = group_of(alloc, &network)? else {
-        return println!(rt; "{word} is no group");
-    };
+/// Checks proposals of a world of a group so often, and prints what came of them.
+fn repeat_checks(
+    rt: &(impl Runtime + Threads + Sync),
+    alloc: Global,
+    word: &str,
+    topo: GroupTopo,
+    way: Way,
+    times: u32,
+) -> io::Result<()> {
+    let Decided {
+        bases,
+        accepted,
+        refused,
+    } = decide(rt, alloc, topo, way, times)?;
+    println!(rt; "{word} bases {bases} accepted {accepted} refused {refused}")
+}
+
+/// Does a work on a group so often, and prints what its last time found.
+fn repeat_on(
+    rt: &(impl Runtime + Threads + Sync),
+    alloc: Global,
+    word: &str,
+    topo: GroupTopo,
+    task: GroupTask,
+    times: u32,
+) -> io::Result<()> {
     match task {
-        Task::Drive(course) => repeat_driven(rt, alloc, word, topo, course, times),
-        Task::Judge => print_judged(rt, word, judge(alloc, &topo, times)?),
-        _ => print_judged(rt, word, start(alloc, &topo, times)?),
+        GroupTask::Start => print_judged(rt, word, start(alloc, &topo, times)?),
+        GroupTask::Judge => print_judged(rt, word, judge(alloc, &topo, times)?),
+        GroupTask::Wide => print_judged(rt, word, wide(rt, alloc, &topo, times)?),
+        GroupTask::Propose(outage) => repeat_proposals(rt, alloc, word, &topo, outage, times),
+        GroupTask::Drive(course) => repeat_driven(rt, alloc, word, topo, course, times),
+        GroupTask::Check(way) => repeat_checks(rt, alloc, word, topo, way, times),
     }
 }
 
-fn run(rt: &impl Runtime, alloc: Global, first: &str, second: &str) -> io::Result<()> {
+/// Does a work so often, and prints what its last time found.
+fn repeat(
+    rt: &(impl Runtime + Threads + Sync),
+    alloc: Global,
+    word: &str,
+    times: u32,
+) -> io::Result<()> {
+    let (task, rest) = task_of(word);
+    let Some(network) = network_of(alloc, rest)? else {
+        return println!(rt; "no work is called {word}");
+    };
+    match task {
+        Task::Cuts => repeat_cuts(rt, alloc, word, &network, times),
+        Task::OnGroup { percent, task } => {
+            let Some(topo) = group_of(alloc, &network, percent)? else {
+                return println!(rt; "{word} is no group");
+            };
+            repeat_on(rt, alloc, word, topo, task, times)
+        }
+    }
+}
+
+fn run(
+    rt: &(impl Runtime + Threads + Sync),
+    alloc: Global,
+    first: &str,
+    second: &str,
+) -> io::Result<()> {
     if first == "document" {
         match network_of(alloc, second)? {
             Some(network) => print_document(rt, &network),

@@ -1,10 +1,12 @@
 //! Promises judged: the needs of a group, and a change that takes one device down.
 ghost use Rattle.std.specs.Prelude.{IfOk};
 ghost use Rattle.st_net.specs.Sets.{MarksOf};
+ghost use Rattle.st_promise.specs.Book.{AreNeedsOf};
 
 use st_net::{Broken, Entity, EntitySet, GroupTopo};
-use st_promise::Book;
+use st_promise::{Book, judge_wide};
 use std::alloc::{AllocError, Global};
+use std::thread::Threads;
 
 /// What all needs of a group add up to, and which promise a change breaks.
 #[derive(Clone, Copy)]
@@ -15,7 +17,7 @@ pub struct Judged {
 }
 
 /// All links, and so many devices.
-fn first(alloc: Global, topo: &GroupTopo, devices: u32) -> Result<EntitySet, AllocError>
+pub fn first(alloc: Global, topo: &GroupTopo, devices: u32) -> Result<EntitySet, AllocError>
     ensures { IfOk result (MarksOf topo.now) }
 {
     let mut up = EntitySet::none(alloc, topo)?;
@@ -43,17 +45,27 @@ fn number_of(broken: &Option<Broken>) -> Option<u32> {
     }
 }
 
-/// Computes the needs of a group so often, and once at least.
-pub fn start(alloc: Global, topo: &GroupTopo, times: u32) -> Result<Judged, AllocError> {
-    let mut book = Book::start(alloc, topo)?;
-    for _ in 1..times {
-        book = Book::start(alloc, topo)?;
-    }
+/// What a book tells at its start.
+fn start_once(alloc: Global, topo: &GroupTopo) -> Result<Judged, AllocError> {
+    let book = Book::start(alloc, topo)?;
     Ok(Judged {
         promises: book.needs().len() as u64,
         needs: sum(book.needs()),
         broken: None,
     })
+}
+
+/// Makes a book of a group so often, and tells of the last. Where none is made there is nothing to tell.
+pub fn start(alloc: Global, topo: &GroupTopo, times: u32) -> Result<Judged, AllocError> {
+    let mut judged = Judged {
+        promises: 0,
+        needs: 0,
+        broken: None,
+    };
+    for _ in 0..times {
+        judged = start_once(alloc, topo)?;
+    }
+    Ok(judged)
 }
 
 /// Judges so often, and once at least, a change that takes the last device down.
@@ -65,6 +77,42 @@ pub fn judge(alloc: Global, topo: &GroupTopo, times: u32) -> Result<Judged, Allo
     for _ in 1..times {
         broken = number_of(&book.judge_pairs(topo, &before, &after)?);
     }
+    Ok(Judged {
+        promises: book.needs().len() as u64,
+        needs: sum(book.needs()),
+        broken,
+    })
+}
+
+/// Judges the same change so often in as many threads as there are processors, by promises that need so much.
+fn judge_needs(
+    rt: &(impl Threads + Sync),
+    alloc: Global,
+    topo: &GroupTopo,
+    needs: &[u64],
+    times: u32,
+) -> Result<Option<u32>, AllocError>
+    requires { AreNeedsOf topo.now needs.now }
+{
+    let before = first(alloc, topo, u32::MAX)?;
+    let after = first(alloc, topo, topo.device_count().saturating_sub(1))?;
+    let mut broken = None;
+    for _ in 0..times {
+        let wide = judge_wide(rt, alloc, topo, needs, &before, &after)?;
+        broken = number_of(&wide.first);
+    }
+    Ok(broken)
+}
+
+/// The same by the promises of a group.
+pub fn wide(
+    rt: &(impl Threads + Sync),
+    alloc: Global,
+    topo: &GroupTopo,
+    times: u32,
+) -> Result<Judged, AllocError> {
+    let book = Book::start(alloc, topo)?;
+    let broken = judge_needs(rt, alloc, topo, book.needs(), times)?;
     Ok(Judged {
         promises: book.needs().len() as u64,
         needs: sum(book.needs()),

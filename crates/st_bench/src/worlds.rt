@@ -137,14 +137,19 @@ fn run(world: &mut World, course: Course, times: u32) -> Result<Driven, AllocErr
     })
 }
 
-/// Drives a world of this group so often, and says how it stands then. No message of it is lost.
+/// A world of this group, in which no message is lost.
+pub fn open(alloc: Global, topo: GroupTopo) -> Result<World, AllocError> {
+    let plan = LossPlan::from_lines(alloc, Vec::new(alloc));
+    World::start(alloc, topo, plan)
+}
+
+/// Drives a world of this group so often, and says how it stands then.
 pub fn drive(
     alloc: Global,
     topo: GroupTopo,
     course: Course,
     times: u32,
 ) -> Result<Driven, AllocError> {
-    let plan = LossPlan::from_lines(alloc, Vec::new(alloc));
-    let mut world = World::start(alloc, topo, plan)?;
+    let mut world = open(alloc, topo)?;
     run(&mut world, course, times)
 }

@@ -1,0 +1,100 @@
+//! Proposals judged one after another: each takes another switch down, and is undone before the next.
+ghost use Rattle.std.specs.Prelude.{IfOk};
+ghost use Rattle.st_net.specs.Sets.{MarksOf};
+
+use crate::group::Switches;
+use crate::promises::first;
+use st_net::{Entity, EntitySet, GroupTopo};
+use st_promise::Book;
+use std::alloc::{AllocError, Global};
+
+/// Where links are down, it is one of so many.
+const LINKS: u32 = 40;
+
+/// What is down before each proposal.
+#[derive(Clone, Copy)]
+pub enum Outage {
+    Nothing,
+    /// Every 40th link.
+    Links,
+    /// The first ToR.
+    Tor,
+}
+
+/// How proposals were judged, and for how many promises a flow was run.
+#[derive(Clone, Copy)]
+pub struct Proposed {
+    pub promises: u64,
+    pub proposals: u32,
+    pub refused: u32,
+    pub runs: u64,
+}
+
+fn take_links_down(topo: &GroupTopo, up: &mut EntitySet)
+    requires { MarksOf topo.now up.old }
+    ensures { MarksOf topo.now up.new }
+{
+    for link in 0..topo.link_count() {
+        if link % LINKS == 1 {
+            up.remove(Entity::Link(link));
+        }
+    }
+}
+
+/// The first ToR; 0 where there is none.
+fn first_tor(topo: &GroupTopo) -> u32 {
+    for device in 0..topo.device_count() {
+        if topo.is_tor(device) {
+            return device;
+        }
+    }
+    0
+}
+
+fn take_down(topo: &GroupTopo, up: &mut EntitySet, device: u32)
+    requires { MarksOf topo.now up.old }
+    ensures { MarksOf topo.now up.new }
+{
+    if device < topo.device_count() {
+        up.remove(Entity::Device(device));
+    }
+}
+
+/// What is up before each proposal.
+fn standing(alloc: Global, topo: &GroupTopo, outage: Outage) -> Result<EntitySet, AllocError>
+    ensures { IfOk result (MarksOf topo.now) }
+{
+    let mut up = first(alloc, topo, u32::MAX)?;
+    match outage {
+        Outage::Nothing => {}
+        Outage::Links => take_links_down(topo, &mut up),
+        Outage::Tor => take_down(topo, &mut up, first_tor(topo)),
+    }
+    Ok(up)
+}
+
+/// Judges so many proposals, of one switch after another in turn.
+pub fn propose(
+    alloc: Global,
+    topo: &GroupTopo,
+    outage: Outage,
+    times: u32,
+) -> Result<Proposed, AllocError> {
+    let switches = Switches::of(alloc, topo)?;
+    let before = standing(alloc, topo, outage)?;
+    let mut book = Book::start(alloc, topo)?;
+    let mut refused = 0u32;
+    for time in 0..times {
+        let mut after = before.copy(alloc)?;
+        take_down(topo, &mut after, switches.in_turn(time));
+        if book.judge_pairs(topo, &before, &after)?.is_some() {
+            refused = refused.wrapping_add(1);
+        }
+    }
+    Ok(Proposed {
+        promises: book.needs().len() as u64,
+        proposals: times,
+        refused,
+        runs: book.flows_run(),
+    })
+}
