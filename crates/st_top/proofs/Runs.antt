@@ -8,7 +8,7 @@ use Rattle.std.proofs.lemmas.List.Elements.{All-append}
 use Rattle.std.proofs.lemmas.Option.{slice_get-get_or}
 use Rattle.st_net.specs.declared.entity.AppId.{AppId}
 use Rattle.st_net.specs.declared.parts.Parts.{Parts}
-use Rattle.st_net.specs.Groups.{Group, IsEntityOf}
+use Rattle.st_net.specs.Groups.{Group, IsEntityOf, IsSound}
 use Rattle.st_net.specs.Faults.{group_of}
 use Rattle.st_event.specs.declared.act.Act.{Act}
 use Rattle.st_event.specs.declared.act.Act.TheVariants.{Propose, Await, Settle, Lock, Unlock, Read, ReadAt, Fail, Poll}
@@ -354,6 +354,7 @@ kept_all (parts ∷ groups) n (s ∷ ss) same kept =
     let rest : groups_in ss ≡ map group_of groups = cc in
     let turned = reverse-reverse past in
     let here : IsKept parts (record { group = n; entries = reverse past }) = record {
+      sound = subst IsSound first kept.0.sound;
       legal = subst (λ p. IsLegal (group_of parts) p) (sym turned) (subst (λ g. IsLegal g past) first kept.0.legal);
       promises = subst (λ p. AtEach (KeepsPromises (group_of parts)) p) (sym turned) (subst (λ g. AtEach (KeepsPromises g) past) first kept.0.promises);
     } in

@@ -6,6 +6,7 @@ use Rattle.st_io.specs.Outside.{Rose}
 use Rattle.st_io.specs.Output.{AppendsPrefix}
 use Rattle.st_net.specs.declared.parts.Parts.{Parts}
 use Rattle.st_net.specs.Faults.{group_of}
+use Rattle.st_net.specs.Groups.{IsSound}
 use Rattle.st_event.specs.declared.act.Log.{Log}
 use Rattle.st_event.specs.declared.journal.Journal.{Journal}
 use Rattle.st_event.specs.Legal.{IsLegal, AtEach}
@@ -57,8 +58,9 @@ pub record Results : Type 0 where
 abbrev pub no_results : Results
 no_results = record { journals = []; logs = [] }
 
--- the journal of a group is legal, and at each of its moments the group's promises were kept
+-- the group is sound, its journal is legal, and at each of the journal's moments the group's promises were kept
 pub record IsKept (parts : Parts) (journal : Journal) : Type 0 where
+  pub sound : IsSound (group_of parts)
   pub legal : IsLegal (group_of parts) (reverse journal.entries)
   pub promises : AtEach (KeepsPromises (group_of parts)) (reverse journal.entries)
 
@@ -122,12 +124,13 @@ pub record SinkState : Type 0 where
   pub held : Option (List ℕ)
   pub faults : ℕ
 
--- a command with its input: these bytes were read, and this status comes of it with these results and this text
+-- a command with its input: these bytes were read, and no read failed; and this status comes of it with these results and this text
 pub record EndsAtEnd (command : Command) (old new : SourceState) (results : Results) (text : List ℕ) (status : Status) : Type 0 where
   pub bytes : List ℕ
   pub consumed : Consumes old.left new.left bytes
   pub ended : IsAtEnd new.left
   pub few : length bytes ≤ MAX_BYTES
+  pub still : new.faults ≡ old.faults
   pub ends : EndsOn command (document_of bytes) results text status
 
 pub record StopsAtFault (old new : SourceState) (results : Results) (text : List ℕ) : Type 0 where
@@ -142,6 +145,7 @@ pub record StopsTooLong (old new : SourceState) (results : Results) (text : List
   pub bytes : List ℕ
   pub consumed : Consumes old.left new.left bytes
   pub many : length bytes ≡ MAX_BYTES + 1
+  pub still : new.faults ≡ old.faults
   pub none : results ≡ no_results
   pub told : text ≡ fault_text TooLong
 
@@ -166,11 +170,12 @@ ComesOf (Some command) old new results text status = EndsAtEnd command old new r
 abbrev pub Comes : List (List ℕ) → SourceState → SourceState → Results → List ℕ → Status → Type 0
 Comes words = ComesOf (command_of words)
 
--- a status that came for its reason, and its text was written whole
+-- a status that came for its reason, and its text was written whole: no write failed
 pub record HasWritten (words : List (List ℕ)) (old new : SourceState) (before now : SinkState) (results : Results) (status : Status) : Type 0 where
   pub text : List ℕ
   pub comes : Comes words old new results text status
   pub held : Appends before.held now.held text
+  pub still : now.faults ≡ before.faults
 
 -- a status whose text was being written: the sink holds what it held and a prefix of that text
 pub record WasWriting (words : List (List ℕ)) (old new : SourceState) (before now : SinkState) (results : Results) : Type 0 where
@@ -189,8 +194,8 @@ pub record IsUnread (old new : SourceState) : Type 0 where
   pub left : Keeps old.left new.left
   pub faults : new.faults ≡ old.faults
 
--- how a call ends, of its words, of the source before and after it, and of the sink before and after it
+-- how a call ends, of its words, of the source before and after it, and of the sink before and after it. A write failed in it only at WriteFault
 abbrev pub EndsWith : List (List ℕ) → SourceState → SourceState → SinkState → SinkState → Results → Status → Type 0
 EndsWith words old new before now results WriteFault = WasWriting words old new before now results × Rose before.faults now.faults
-EndsWith words old new before now results OutOfMemory = WasRefused before now results ⊎ WasWriting words old new before now results
+EndsWith words old new before now results OutOfMemory = (WasRefused before now results ⊎ WasWriting words old new before now results) × (now.faults ≡ before.faults)
 EndsWith words old new before now results status = HasWritten words old new before now results status

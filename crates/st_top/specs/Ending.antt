@@ -3,6 +3,7 @@ use Rattle.std.specs.Prelude.{◌≡◌, ℕ, List, [], ◌∷◌, Option, Some,
 use Rattle.st_io.specs.declared.writing.Written.{Written}
 use Rattle.st_io.specs.declared.writing.Written.TheVariants as ways
 use Rattle.st_io.specs.Output.{Writes}
+use Rattle.st_net.specs.Groups.{IsSound}
 use Rattle.st_event.specs.History.{History}
 use Rattle.st_event.specs.Legal.{IsLegal, AtEach}
 use Rattle.st_event.specs.Network.{KeepsPromises}
@@ -43,8 +44,9 @@ IsEndOn command read ending = EndsOn command read (results_in ending) ending.tex
 abbrev pub IsCalledFor : Option Command → SourceState → SourceState → Ending → Type 0
 IsCalledFor command old new ending = ComesOf command old new (results_in ending) ending.text ending.status
 
--- the journal is legal, and at each of its moments the group's promises were kept
+-- the group is sound, the journal is legal, and at each of its moments the group's promises were kept
 pub record IsKeptHistory (h : History) : Type 0 where
+  pub sound : IsSound h.group
   pub legal : IsLegal h.group h.past
   pub promises : AtEach (KeepsPromises h.group) h.past
 

@@ -5,4 +5,5 @@ pub mod Serial
 pub mod Output
 pub mod Exit
 pub mod Answer
+pub mod Completeness
 pub mod Ending

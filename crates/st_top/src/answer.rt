@@ -134,6 +134,21 @@ impl Journals {
     }
 }
 
+impl Outcome {
+    /// The outcome where memory was refused before anything was written.
+    pub fn out_of_memory(alloc: Global) -> Outcome
+        ensures status { result.status ≡ Status.OutOfMemory }
+        ensures journals { result.journals ≡ [] }
+        ensures logs { result.logs ≡ [] }
+    {
+        Outcome {
+            status: Status::OutOfMemory,
+            journals: Journals::none(alloc),
+            logs: Logs::none(alloc),
+        }
+    }
+}
+
 impl Status {
     /// The exit status of the program.
     pub fn exit_code(self) -> u8

@@ -1,6 +1,6 @@
 //! The whole call: all that is to be written is decided first, and then it is written once.
 
-ghost use Rattle.std.specs.Prelude.{◌≡◌, ◌≢◌, ◌≤◌, ◌<◌, ◌-◌, ◌^◌, [], ◌∷◌, ◌++◌, All, codes, replicate, Ok as read_ok, Some, None, length, map, string_bytes, true, IfOk};
+ghost use Rattle.std.specs.Prelude.{◌≡◌, ◌≢◌, ◌≤◌, ◌<◌, ◌-◌, ◌^◌, ◌⊎◌, [], ◌∷◌, ◌++◌, All, codes, replicate, Ok as read_ok, Some, None, length, map, string_bytes, true, IfOk};
 ghost use Rattle.st_net.specs.Faults.{group_of};
 ghost use Rattle.st_io.specs.declared.reading.TheConstants.{MAX_BYTES};
 ghost use Rattle.st_grammar.specs.Reading.{document_of};
@@ -10,6 +10,7 @@ ghost use Rattle.st_top.specs.Words.{command_of as command_of_lem};
 ghost use Rattle.st_top.specs.Output.{app_names as app_names_lem, run_text};
 ghost use Rattle.st_top.specs.Serial.{all_opened, scripts_done as scripts_done_lem, decided as decided_lem, serial_end, groups_in, journals_from, logs_from, LogsFit};
 ghost use Rattle.st_top.specs.Answer.{EndsWith, IsUnread};
+ghost use Rattle.st_top.specs.Completeness.{CanBeDone, IsAfterReadFault, IsFaultless};
 ghost use Rattle.st_top.specs.Ending.{TellsFault, IsToldOf, IsEndOn, IsCalledFor, AreKeptSites, run_in, WritesEnding, told as told_lem};
 
 use crate::answer::{Journals, Logs, Outcome, Status, fault_text};
@@ -344,9 +345,19 @@ pub fn statesman<S: Source, K: Sink>(
         (record { left = S.left source.old; faults = S.faults source.old })
         (record { left = S.left source.new; faults = S.faults source.new }) }
 
+    // Where the words and the input can be carried out, and nothing fails, the call succeeds unless memory is refused.
+    ensures complete { CanBeDone (map string_bytes words.now) (S.left source.old) →
+        IsFaultless (S.faults source.old) (S.faults source.new) →
+        IsFaultless (K.faults sink.old) (K.faults sink.new) →
+        (result.status ≡ Status.Ok) ⊎ (result.status ≡ Status.OutOfMemory) }
+
     // Neither count of faults falls.
     ensures source_later { S.faults source.old ≤ S.faults source.new }
     ensures sink_later { K.faults sink.old ≤ K.faults sink.new }
+
+    // A failure is told: where a read failed by that, or by its line that could not be written, and where a write failed by that.
+    ensures read_counted { S.faults source.old < S.faults source.new → IsAfterReadFault result.status }
+    ensures write_counted { K.faults sink.old < K.faults sink.new → result.status ≡ Status.WriteFault }
 
     // Where nothing failed, no failure is told.
     ensures read_told { S.faults source.new ≡ S.faults source.old → S.faults source.old < 2 ^ 64 - 1 → result.status ≢ Status.ReadFault }
@@ -354,10 +365,6 @@ pub fn statesman<S: Source, K: Sink>(
 {
     match prepare(alloc, words, source) {
         Ok(ending) => write_ending(ending, sink),
-        Err(_) => Outcome {
-            status: Status::OutOfMemory,
-            journals: Journals::none(alloc),
-            logs: Logs::none(alloc),
-        },
+        Err(_) => Outcome::out_of_memory(alloc),
     }
 }

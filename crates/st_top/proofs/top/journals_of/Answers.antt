@@ -14,6 +14,6 @@ overflow_cast-group c =
 pub loop-site-preserved : goal.loop-site-preserved
 loop-site-preserved c = record {
   journals_are = journal_next c.loop-site.yielded c.in-Some.site c.len-group.result c.into_journal.result c.loop-site.journals.items c.push.new.self.items (omega (arith, c.len-group.ensures)) c.into_journal.ensures.group c.into_journal.ensures.entries c.loop-site.invariant.journals_are c.in_ok-push.ensures.items;
-  kept = kept_more c.loop-site.yielded c.in-Some.site c.loop-site.invariant.kept (record { legal = c.keeps_promises.ensures.legal; promises = c.keeps_promises.ensures.kept });
+  kept = kept_more c.loop-site.yielded c.in-Some.site c.loop-site.invariant.kept (record { sound = c.keeps_promises.ensures.sound; legal = c.keeps_promises.ensures.legal; promises = c.keeps_promises.ensures.kept });
   all = c.loop-site.invariant.all ∙ ap (λ rest. c.loop-site.yielded ++ rest) c.in-Some.ensures.steps.0 ∙ sym (append_assoc c.loop-site.yielded (c.in-Some.site ∷ []) c.next.new.self.rest.items);
 }
