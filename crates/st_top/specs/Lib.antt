@@ -7,3 +7,4 @@ pub mod Exit
 pub mod Answer
 pub mod Completeness
 pub mod Ending
+pub mod Program

@@ -3,6 +3,7 @@
 
 mod answer;
 mod output;
+mod program;
 mod schedule;
 mod serial;
 mod site;
@@ -11,6 +12,7 @@ mod up;
 mod words;
 
 pub use answer::{Journals, Logs, Outcome, Status};
+pub use program::{ended, run_program};
 pub use top::statesman;
 pub use words::Command;
 

@@ -1,0 +1,66 @@
+//! The program but for its streams: its arguments in, its exit status out.
+
+ghost use Rattle.std.specs.Prelude.{◌≡◌, drop, map, string_bytes, IfOk};
+ghost use Rattle.std.specs.Process.{exit_status};
+ghost use Rattle.std.specs.Vec.Iter.{into_iter_items};
+ghost use Rattle.st_top.specs.Exit.{exit_code_of};
+ghost use Rattle.st_top.specs.Program.{words_in, ProgramEnds};
+
+use crate::answer::Outcome;
+use crate::top::statesman;
+use st_io::{Sink, Source};
+use std::alloc::{AllocError, Global};
+use std::env::Args;
+use std::io;
+use std::io::ErrorKind;
+use std::process::ExitCode;
+
+/// The words after the first of these, which is the program's name.
+fn after_name(alloc: Global, mut args: Args) -> Result<Vec<String>, AllocError>
+    ensures { IfOk result (λ words. words.items ≡ drop 1 (into_iter_items args)) }
+{
+    let _name = args.next();
+    let mut words = Vec::new(alloc);
+    for word in args {
+        words.push(word)?;
+    }
+    Ok(words)
+}
+
+/// The words after the program's name. An argument that is not text is no word of a command: then there are none.
+fn words_after(alloc: Global, args: io::Result<Args>) -> Result<Vec<String>, AllocError>
+    ensures { IfOk result (λ words. map string_bytes words.items ≡ words_in args) }
+{
+    match args {
+        Ok(args) => after_name(alloc, args),
+        Err(error) if error.kind() == ErrorKind::OutOfMemory => Err(AllocError),
+        Err(_) => Ok(Vec::new(alloc)),
+    }
+}
+
+/// The exit status of the program whose call ended so.
+pub fn ended(outcome: &Outcome) -> ExitCode
+    ensures { exit_status result ≡ exit_code_of outcome.now.status }
+{
+    ExitCode::from(outcome.status.exit_code())
+}
+
+/// The whole call on the words of these arguments, of which the first is the program's name. Where memory was refused to the
+/// arguments, nothing is read or written, and the exit status is that of want of memory.
+pub fn run_program<S: Source, K: Sink>(
+    alloc: Global,
+    args: io::Result<Args>,
+    source: &mut S,
+    sink: &mut K,
+) -> ExitCode
+    ensures { ProgramEnds (words_in args)
+        (record { left = S.left source.old; faults = S.faults source.old })
+        (record { left = S.left source.new; faults = S.faults source.new })
+        (record { held = K.held sink.old; faults = K.faults sink.old })
+        (record { held = K.held sink.new; faults = K.faults sink.new }) result }
+{
+    match words_after(alloc, args) {
+        Ok(words) => ended(&statesman(alloc, words.as_slice(), source, sink)),
+        Err(_) => ended(&Outcome::out_of_memory(alloc)),
+    }
+}
