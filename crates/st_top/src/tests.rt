@@ -1,5 +1,7 @@
 //! Whole calls: words and bytes in; text, status and journals out. Expected texts are worked by hand.
 
+mod tables;
+
 use crate::{Outcome, Status, statesman};
 use st_doc::DocKind;
 use st_event::{Event, Reply, Verdict};
