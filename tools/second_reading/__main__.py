@@ -1,0 +1,163 @@
+"""Compares the program with a second reading of the documents: `python3 tools/second_reading --cases 2000`.
+
+Case S is made from the seed S alone: every third has one line broken. The exit status is 0 where all agree, 1 where a case
+differs, 2 where nothing could be tried. `--show S` prints a case with what the second reading makes of it, and runs nothing.
+"""
+
+import argparse
+import difflib
+import os
+import random
+import sys
+import time
+from collections import Counter
+
+sys.dont_write_bytecode = True
+
+from broken_lines import broken, bytes_of  # noqa: E402
+from comparisons import COMPARISONS, Reading, difference  # noqa: E402
+from edges import edge_documents  # noqa: E402
+from journal import Decided, entry_line  # noqa: E402
+from looking_back import first_difference  # noqa: E402
+from random_documents import random_document  # noqa: E402
+from smaller import smaller  # noqa: E402
+
+# A text with more bytes is not printed.
+MOST_SHOWN = 20000
+
+REPOSITORY = os.path.dirname(os.path.dirname(os.path.dirname(os.path.abspath(__file__))))
+PROGRAM = os.path.join(REPOSITORY, "crates", "statesman_cli", "out", "statesman_cli")
+
+
+def main():
+    options = read_options()
+    if options.show is not None:
+        show(case_text(options.show))
+        return 0
+    if not os.access(options.program, os.X_OK):
+        print("no program at %s: ./statesman check <examples/two_path.txt builds it" % options.program)
+        return 2
+    trial = Trial(options)
+    trial.try_all()
+    trial.tell()
+    return 1 if trial.differing else 0
+
+
+def read_options():
+    parser = argparse.ArgumentParser(prog="second_reading", description=__doc__)
+    parser.add_argument("--program", default=PROGRAM, help="the program to compare with")
+    parser.add_argument("--cases", type=int, default=2000, help="how many cases (2000)")
+    parser.add_argument("--first", type=int, default=1, help="the seed of the first case (1)")
+    parser.add_argument("--seconds", type=float, default=60, help="after so many seconds no new case begins (60)")
+    parser.add_argument("--edges", action="store_true", help="also the documents at limits")
+    parser.add_argument("--look-back", type=int, default=0, metavar="N",
+                        help="of each N-th case also look back over the journals, as the definitions do")
+    parser.add_argument("--differences", type=int, default=5, help="stop after so many differing cases (5)")
+    parser.add_argument("--show", type=int, metavar="SEED", help="print a case, its journals and its report")
+    return parser.parse_args()
+
+
+def case_text(seed):
+    """The text of a case."""
+    chance = random.Random(seed)
+    lines = random_document(chance)
+    if seed % 3 == 0:
+        lines = broken(chance, lines)
+    return bytes_of(chance, lines)
+
+
+def show(text):
+    """Prints a text with what the second reading makes of it."""
+    print(text.decode("latin-1"))
+    reading = Reading(text)
+    if reading.run is not None:
+        for standing in reading.run.standings:
+            print("journal of %s" % standing.group.name)
+            for number, entry in enumerate(standing.entries, 1):
+                print(entry_line(reading.document, standing.group, number, entry))
+    for comparison in COMPARISONS:
+        print("%s: status %d\n%s" % ((" ".join(comparison.words),) + reading.wanted(comparison)))
+
+
+class Trial:
+    """The cases that were tried, and what they met."""
+
+    def __init__(self, options):
+        self.options = options
+        self.begin = time.monotonic()
+        self.met = Counter()
+        self.tried, self.entries, self.differing = 0, 0, 0
+        self.last = None
+
+    def try_all(self):
+        if self.options.edges:
+            for name, text in edge_documents():
+                self.try_one("edge %r" % name, text, False)
+        for seed in range(self.options.first, self.options.first + self.options.cases):
+            if self.differing >= self.options.differences or time.monotonic() - self.begin > self.options.seconds:
+                break
+            looks_back = self.options.look_back and seed % self.options.look_back == 0
+            self.try_one("seed %d" % seed, case_text(seed), looks_back)
+            self.last = seed
+
+    def try_one(self, name, text, looks_back):
+        reading = Reading(text)
+        self.tried += 1
+        self.count(reading)
+        if looks_back and reading.run is not None:
+            self.look_back(name, reading)
+        found = difference(self.options.program, text, reading)
+        if found is not None:
+            self.differing += 1
+            self.tell_difference(name, text, found)
+
+    def look_back(self, name, reading):
+        self.met["looked back over"] += 1
+        for standing in reading.run.standings:
+            found = first_difference(standing)
+            if found is not None:
+                self.differing += 1
+                print("== %s: the second reading contradicts itself in group %s\n%s" % (name, standing.group.name, found))
+
+    def count(self, reading):
+        if reading.is_too_long:
+            self.met["too long"] += 1
+            return
+        if reading.fault is not None:
+            self.met["fault " + reading.fault.kind] += 1
+            return
+        self.met["documents"] += 1
+        for standing in reading.run.standings:
+            self.entries += len(standing.entries)
+            for event, reply in standing.entries:
+                self.met["%s %s" % (type(event).__name__, reply_word(reply))] += 1
+        for log in reading.run.logs:
+            for seen in log:
+                self.met["read" if len(seen) == 5 else "readat" if seen.value is not None else "readat none"] += 1
+
+    def tell_difference(self, name, text, found):
+        print("== %s differs; made small:" % name)
+        small = smaller(text, lambda rest: difference(self.options.program, rest) is not None, 30)
+        found = difference(self.options.program, small) or found
+        print(small.decode("latin-1") if len(small) <= MOST_SHOWN else "%d bytes, not shown" % len(small))
+        print("-- %s: wanted status %r, the program's %r" % (" ".join(found.words), found.wanted[0], found.got[0]))
+        sys.stdout.writelines(difflib.unified_diff(
+            found.wanted[1].splitlines(True), found.got[1].splitlines(True), "wanted", "the program's"))
+        sys.stdout.flush()
+
+    def tell(self):
+        for word in sorted(self.met):
+            print("%8d %s" % (self.met[word], word))
+        seeds = "no seeds" if self.last is None else "seeds %d to %d" % (self.options.first, self.last)
+        print("%d cases (%s), %d entries, %d differing, %.1f seconds" % (
+            self.tried, seeds, self.entries, self.differing, time.monotonic() - self.begin))
+
+
+def reply_word(reply):
+    if isinstance(reply, Decided):
+        return type(reply.verdict).__name__
+    return type(reply).__name__
+
+
+if __name__ == "__main__":
+    sys.exit(main())

@@ -1,0 +1,248 @@
+"""Events, replies and verdicts, and the entries of a journal, with one line of text for each.
+
+The lines have the words that docs/DEFINITIONS.md uses in its journals. They are for a reader's eye so far; once the form
+`replay` has a format, `entry_line` is the place for it.
+"""
+
+from typing import NamedTuple
+
+from document import Entity, Row
+from promises import Break
+
+MOST_ENTRIES = 200000
+MOST_PENDING = 64
+
+
+# Events. Each stands in the journal of one group.
+
+class Submit(NamedTuple):
+    application: int
+    rows: tuple
+
+
+class Check(NamedTuple):
+    pass
+
+
+class Lock(NamedTuple):
+    application: int
+    entity: Entity
+    priority: str
+
+
+class Unlock(NamedTuple):
+    application: int
+    entity: Entity
+    priority: str
+
+
+class Send(NamedTuple):
+    entity: Entity
+
+
+class Deliver(NamedTuple):
+    number: int
+
+
+class Finish(NamedTuple):
+    entity: Entity
+
+
+class Report(NamedTuple):
+    entity: Entity
+
+
+class Hear(NamedTuple):
+    number: int
+
+
+class Fail(NamedTuple):
+    entity: Entity
+    health: int
+    values: tuple
+
+
+# Verdicts.
+
+class Accepted(NamedTuple):
+    version: int
+
+
+class LacksLevel(NamedTuple):
+    """A row needs more of `entity`, which is the row's own or, for a link's row, one of its ends."""
+
+    row: Row
+    entity: Entity
+    has: int
+    needs: int
+
+
+class LacksPower(NamedTuple):
+    row: Row
+
+
+class IsLocked(NamedTuple):
+    entity: Entity
+    holder: int
+    priority: str
+
+
+class WouldBreak(NamedTuple):
+    broken: Break
+
+
+# Replies.
+
+class Queued(NamedTuple):
+    ticket: int
+
+
+class Full(NamedTuple):
+    pending: int
+
+
+class Idle(NamedTuple):
+    pass
+
+
+class Decided(NamedTuple):
+    ticket: int
+    entry: int
+    verdict: tuple
+
+
+class Granted(NamedTuple):
+    pass
+
+
+class Held(NamedTuple):
+    holder: int
+
+
+class Released(NamedTuple):
+    pass
+
+
+class NotYours(NamedTuple):
+    """`holder` is None where nobody has the lock."""
+
+    holder: int
+
+
+class Settled(NamedTuple):
+    pass
+
+
+class Blocked(NamedTuple):
+    row: Row
+
+
+class Sent(NamedTuple):
+    number: int
+
+
+class NoSuch(NamedTuple):
+    made: int
+
+
+class Stale(NamedTuple):
+    fence: int
+
+
+class Begun(NamedTuple):
+    pass
+
+
+class Done(NamedTuple):
+    pass
+
+
+class NotBusy(NamedTuple):
+    pass
+
+
+class Reported(NamedTuple):
+    number: int
+
+
+class Old(NamedTuple):
+    number: int
+
+
+class Taken(NamedTuple):
+    pass
+
+
+class Changed(NamedTuple):
+    pass
+
+
+class Entry(NamedTuple):
+    event: tuple
+    reply: tuple
+
+
+def verdict_text(group, applications, verdict):
+    """What stands behind a receipt's ticket and application: `accepted N` or `refused CAUSE`."""
+    if isinstance(verdict, Accepted):
+        return "accepted %d" % verdict.version
+    if isinstance(verdict, LacksLevel):
+        cause = "level %s of %s has %d needs %d" % (
+            group.assignment(verdict.row), group.name_of(verdict.entity), verdict.has, verdict.needs)
+    elif isinstance(verdict, LacksPower):
+        cause = "off %s" % group.assignment(verdict.row)
+    elif isinstance(verdict, IsLocked):
+        cause = "locked %s %s %s" % (
+            group.name_of(verdict.entity), applications[verdict.holder].name, verdict.priority)
+    else:
+        broken = verdict.broken
+        promise = group.promises[broken.promise]
+        cause = "broken %s %s %s need %d has %d side %s" % (
+            group.devices[promise.first].name, group.devices[promise.second].name,
+            "cutoff" if broken.is_cut_off else "short", broken.need, broken.has,
+            " ".join(group.devices[device].name for device in broken.side))
+    return "refused " + cause
+
+
+def lock_reply_text(applications, reply):
+    """`granted` or `held APP` of a request, `released`, `notyours APP` or `notyours -` of a return."""
+    if isinstance(reply, Held):
+        return "held %s" % applications[reply.holder].name
+    if isinstance(reply, NotYours):
+        return "notyours %s" % ("-" if reply.holder is None else applications[reply.holder].name)
+    return "granted" if isinstance(reply, Granted) else "released"
+
+
+def event_text(group, applications, event):
+    word = type(event).__name__.lower()
+    if isinstance(event, Submit):
+        rows = " ".join(group.assignment(row) for row in event.rows)
+        return "submit %s %s" % (applications[event.application].name, rows)
+    if isinstance(event, (Lock, Unlock)):
+        return "%s %s %s %s" % (word, applications[event.application].name, group.name_of(event.entity), event.priority)
+    if isinstance(event, (Deliver, Hear)):
+        return "%s %d" % (word, event.number)
+    if isinstance(event, (Send, Finish, Report)):
+        return "%s %s" % (word, group.name_of(event.entity))
+    if isinstance(event, Fail):
+        values = zip(event.entity.variables(), event.values)
+        return "fail %s %d %s" % (
+            group.name_of(event.entity), event.health, " ".join("%s=%d" % pair for pair in values))
+    return word
+
+
+def reply_text(group, applications, reply):
+    word = type(reply).__name__.lower()
+    if isinstance(reply, Decided):
+        return "receipt %d %s" % (reply.ticket, verdict_text(group, applications, reply.verdict))
+    if isinstance(reply, Blocked):
+        return "blocked %s" % group.assignment(reply.row)
+    if isinstance(reply, (Granted, Held, Released, NotYours)):
+        return lock_reply_text(applications, reply)
+    return " ".join([word] + ["%d" % number for number in reply])
+
+
+def entry_line(document, group, number, entry):
+    applications = document.applications
+    return "%d %s : %s" % (
+        number, event_text(group, applications, entry.event), reply_text(group, applications, entry.reply))
