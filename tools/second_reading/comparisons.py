@@ -11,7 +11,7 @@ from reading import MOST_BYTES, Fault, read_document
 from report import TOO_LONG_TEXT, check_text, fault_text, serial_text
 from scripts import ScriptRun
 
-SECONDS_OF_A_RUN = 60
+SECONDS_OF_A_RUN = 300
 
 
 class Comparison(NamedTuple):
@@ -60,13 +60,16 @@ class Difference(NamedTuple):
 
 
 def program_says(program, words, text):
-    """The program's exit status and its output; the status is None where it came to no end."""
+    """The program's exit status and its output, behind which stands what it wrote to standard error, which should be nothing.
+
+    The status is None where it came to no end.
+    """
     try:
         done = subprocess.run([program, *words], input=text, stdout=subprocess.PIPE, stderr=subprocess.PIPE,
                               timeout=SECONDS_OF_A_RUN, check=False)
     except subprocess.TimeoutExpired:
         return None, ""
-    return done.returncode, done.stdout.decode("latin-1")
+    return done.returncode, (done.stdout + done.stderr).decode("latin-1")
 
 
 def difference(program, text, reading=None):

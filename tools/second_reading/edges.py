@@ -46,6 +46,10 @@ def edge_documents():
     tors = ["d%d" % number for number in range(64)]
     pairs = ["promise %s %s 0" % (first, second) for place, first in enumerate(tors) for second in tors[:place]]
     yield "2016 promises", text_of("group g", *("device %s tor" % tor for tor in tors), *pairs)
+    rows = ["%s.%s=1" % (name, word) for name in ("t1", "t2", "a1", "a2") for word in ("power", "firmware", "config", "routing")]
+    for last in ("l1.power=1", "l1.power=2", "t1.power=1", "t9.power=1", "l1.firmware=1", "l1.iface=x"):
+        yield "16 rows, then %s" % last, text_of(*NETWORK, "app up", "propose dc1 " + " ".join(rows + [last]))
+    yield "16 rows", text_of(*NETWORK, "app up", "propose dc1 " + " ".join(rows), "settle dc1 1")
     for count in (64, 65, 66, 129):
         lines = ["propose dc1 a1.config=%d" % number for number in range(count)]
         yield "%d proposals at once" % count, text_of(*NETWORK, "app up", *lines, "settle dc1 2")
