@@ -7,19 +7,17 @@ differs, 2 where nothing could be tried. `--show S` prints a case with what the 
 import argparse
 import difflib
 import os
-import random
 import sys
 import time
 from collections import Counter
 
 sys.dont_write_bytecode = True
 
-from broken_lines import broken, bytes_of  # noqa: E402
+from cases import case_text  # noqa: E402
 from comparisons import COMPARISONS, Reading, difference  # noqa: E402
 from edges import edge_documents  # noqa: E402
 from journal import Decided, entry_line  # noqa: E402
 from looking_back import first_difference  # noqa: E402
-from random_documents import random_document  # noqa: E402
 from smaller import smaller  # noqa: E402
 
 # A text with more bytes is not printed.
@@ -38,7 +36,10 @@ def main():
         print("no program at %s: ./statesman check <examples/two_path.txt builds it" % options.program)
         return 2
     trial = Trial(options)
-    trial.try_all()
+    try:
+        trial.try_all()
+    except KeyboardInterrupt:
+        print("interrupted")
     trial.tell()
     return 1 if trial.differing else 0
 
@@ -54,16 +55,8 @@ def read_options():
                         help="of each N-th case also look back over the journals, as the definitions do")
     parser.add_argument("--differences", type=int, default=5, help="stop after so many differing cases (5)")
     parser.add_argument("--show", type=int, metavar="SEED", help="print a case, its journals and its report")
+    parser.add_argument("documents", nargs="*", help="compare these files in the place of cases by chance")
     return parser.parse_args()
-
-
-def case_text(seed):
-    """The text of a case."""
-    chance = random.Random(seed)
-    lines = random_document(chance)
-    if seed % 3 == 0:
-        lines = broken(chance, lines)
-    return bytes_of(chance, lines)
 
 
 def show(text):
@@ -90,10 +83,14 @@ class Trial:
         self.last = None
 
     def try_all(self):
+        for path in self.options.documents:
+            with open(path, "rb") as file:
+                self.try_one(path, file.read(), self.options.look_back)
         if self.options.edges:
             for name, text in edge_documents():
                 self.try_one("edge %r" % name, text, False)
-        for seed in range(self.options.first, self.options.first + self.options.cases):
+        cases = 0 if self.options.documents else self.options.cases
+        for seed in range(self.options.first, self.options.first + cases):
             if self.differing >= self.options.differences or time.monotonic() - self.begin > self.options.seconds:
                 break
             looks_back = self.options.look_back and seed % self.options.look_back == 0

@@ -33,6 +33,7 @@ class DocumentMaker:
         self.has_healths = self.chance(0.3)
         self.has_wire_lines = self.chance(0.6)
         self.has_deep_queue = self.chance(0.03)
+        self.has_delays = not self.is_wild and self.chance(0.3)
 
     def chance(self, probability):
         return self.random.random() < probability
@@ -49,7 +50,9 @@ class DocumentMaker:
             net = Net(names[number] if number < len(names) else "G%d" % number)
             nets.append(net)
             lines += self.group_lines(net)
-        if self.has_wire_lines:
+        if self.has_delays:
+            lines += [self.delay_line(net) for net in nets for _ in range(self.random.randint(2, 9))]
+        elif self.has_wire_lines:
             lines += [self.wire_line(net) for net in nets for _ in range(self.random.randint(0, 8))]
         apps = ["up", "te", "mitigate-1", "A_b-9", "x" * 32][:self.pick((1, 1, 2, 2, 2, 3, 3, 4, 5))]
         for app in apps:
@@ -159,6 +162,12 @@ class DocumentMaker:
             to_turn = 4294967295
         return "%s %s %s %d %d" % (word, net.name, kind, number, to_turn)
 
+    def delay_line(self, net):
+        """Among the first messages, and by a few turns: so a message of one entity arrives in the turn of another."""
+        word, kind = self.pick(("hold", "hold", "hold", "repeat")), self.pick(("command", "report"))
+        number = self.random.randint(1, 6)
+        return "%s %s %s %d %d" % (word, net.name, kind, number, number + self.random.randint(1, 3))
+
     # An application.
 
     def command_lines(self, nets):
@@ -166,7 +175,21 @@ class DocumentMaker:
             net = self.pick(nets)
             if net.devices():
                 return [self.propose(net) for _ in range(self.random.randint(30, 90))]
+        if self.has_delays:
+            return [line for _ in range(self.random.randint(0, 5)) for line in self.delayed_work(self.pick(nets))]
         return [self.command(self.pick(nets)) for _ in range(self.random.randint(0, 24))]
+
+    def delayed_work(self, net):
+        """A proposal for several entities, and single rounds and polls behind it."""
+        devices = net.devices()
+        if not devices:
+            return []
+        some = self.random.sample(devices, self.random.randint(1, min(3, len(devices))))
+        rows = " ".join("%s.%s=%d" % (name, self.pick(("firmware", "config")), self.random.randint(0, 3)) for name in some)
+        lines = ["propose %s %s" % (net.name, rows), "await " + net.name]
+        for _ in range(self.random.randint(1, 6)):
+            lines.append(self.pick(("settle %s 1" % net.name, "settle %s 2" % net.name, "poll %s %s" % (net.name, self.pick(some)))))
+        return lines if self.chance(0.8) else lines + [self.command(net)]
 
     def command(self, net):
         entities = net.devices() + net.links

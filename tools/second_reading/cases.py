@@ -1,0 +1,15 @@
+"""The cases by chance: each is made from its seed alone, and every third has one line broken, or two."""
+
+import random
+
+from broken_lines import broken, bytes_of
+from random_documents import random_document
+
+
+def case_text(seed):
+    """The text of a case."""
+    chance = random.Random(seed)
+    lines = random_document(chance)
+    if seed % 3 == 0:
+        lines = broken(chance, lines)
+    return bytes_of(chance, lines)
