@@ -29,6 +29,11 @@ def edge_documents():
     yield "order without applications", text_of("order up")
     yield "a wire line without groups", text_of("drop dc1 command 1")
     yield "a group without devices", text_of("group g", "app a", "await g", "settle g 64", "order a a a")
+    for line in ("hold dc1 report 2 2", "hold dc1 report 2 3", "repeat dc1 report 2 2", "repeat dc1 report 2 1", "drop dc1 report 0",
+                 "open a1.power=0", "health a1 4", "health l1 2", "link l5 t1 dc2/t1 5", "link l5 t1 dc1/a1 5", "link l5 t1 t1 5",
+                 "promise t2 t1 5", "promise t1 a1 5", "promise t1 t1 5"):
+        yield line, text_of(*NETWORK, line)
+        yield line + ", twice", text_of(*NETWORK, line, line)
     for count in (16, 17):
         yield "%d groups" % count, text_of(*("group g%d" % number for number in range(count)))
     for count in (32, 33):

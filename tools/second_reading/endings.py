@@ -1,4 +1,7 @@
-"""Prints a line for each case: a checksum of all that the second reading calls for. `planted_misreadings.py` runs it."""
+"""Prints a line for each small document at a limit and then for each case: a checksum of all that the second reading calls for.
+
+`planted_misreadings.py` runs it.
+"""
 
 import hashlib
 import sys
@@ -7,11 +10,20 @@ sys.dont_write_bytecode = True
 
 from cases import case_text  # noqa: E402
 from comparisons import COMPARISONS, Reading  # noqa: E402
+from edges import edge_documents  # noqa: E402
+
+
+FEW_BYTES = 2500
+
+
+def small_edges():
+    return [(name, text) for name, text in edge_documents() if len(text) <= FEW_BYTES]
 
 
 def main():
-    for seed in range(1, 1 + int(sys.argv[1])):
-        reading = Reading(case_text(seed))
+    texts = [text for _, text in small_edges()]
+    for place in range(len(texts) + int(sys.argv[1])):
+        reading = Reading(texts[place] if place < len(texts) else case_text(place - len(texts) + 1))
         endings = [reading.wanted(comparison) for comparison in COMPARISONS]
         print(hashlib.sha256(repr(endings).encode()).hexdigest(), flush=True)
 

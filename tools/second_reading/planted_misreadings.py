@@ -11,6 +11,10 @@ import subprocess
 import sys
 import tempfile
 
+sys.dont_write_bytecode = True
+
+from endings import small_edges  # noqa: E402
+
 HERE = os.path.dirname(os.path.abspath(__file__))
 
 MISREADINGS = (
@@ -69,16 +73,22 @@ def main():
     parser.add_argument("--cases", type=int, default=2000, help="how many cases for each (2000)")
     parser.add_argument("--only", default="", metavar="TEXT", help="those alone whose description has this text")
     options = parser.parse_args()
-    right, untold = [], 0
+    right, untold, edges = [], 0, small_edges()
     ahead = start(HERE, options.cases)
     tried = [misreading for misreading in MISREADINGS if options.only in misreading[3]]
     for file, old, new, what in tried:
-        seed = first_seed(file, old, new, options.cases, right, ahead)
-        untold += seed is None
-        print("%s: %s" % (what, "no case" if seed is None else "case %d" % seed), flush=True)
+        place = first_place(file, old, new, options.cases + len(edges), right, ahead)
+        untold += place is None
+        print("%s: %s" % (what, place_text(edges, place)), flush=True)
     ahead.kill()
     print("%d misreadings, %d that no case tells" % (len(tried), untold))
     return 1 if untold else 0
+
+
+def place_text(edges, place):
+    if place is None:
+        return "no case"
+    return "case %d" % (place - len(edges) + 1) if place >= len(edges) else "the document %r" % edges[place][0]
 
 
 def start(folder, cases):
@@ -86,8 +96,8 @@ def start(folder, cases):
                             stderr=subprocess.DEVNULL)
 
 
-def first_seed(file, old, new, cases, right, ahead):
-    """The first seed at which the copy with the misreading ends otherwise; `right` grows with what the right one ends with."""
+def first_place(file, old, new, cases, right, ahead):
+    """The first place at which the copy with the misreading ends otherwise; `right` grows with what the right one ends with."""
     with tempfile.TemporaryDirectory() as folder:
         copy = os.path.join(folder, "copy")
         shutil.copytree(HERE, copy, ignore=shutil.ignore_patterns("__pycache__"))
@@ -103,7 +113,7 @@ def first_seed(file, old, new, cases, right, ahead):
                 if place == len(right):
                     right.append(ahead.stdout.readline())
                 if reader.stdout.readline() != right[place]:
-                    return place + 1
+                    return place
         finally:
             reader.kill()
             reader.wait()
