@@ -104,7 +104,7 @@ fn the_program_ends_with_the_exit_status_of_its_call(rt: HostRuntime) -> Result<
 fn an_input_of_the_most_bytes_is_read(rt: HostRuntime) -> Result<(), Fail> {
     let alloc = rt.alloc();
     let mut bytes = joined(alloc, &[TWO_PATHS, HALF, FIRST])?;
-    while bytes.len() < 1_048_576 {
+    for _ in bytes.len()..1_048_576 {
         bytes.push(b'\n')?;
     }
     let called = call(alloc, &["serial"], &[bytes.as_slice()])?;
