@@ -19,12 +19,6 @@ use Rattle.st_promise.specs.UpNetwork.{up_network, IsLeastCutOf}
 use Rattle.st_promise.proofs.NetworkLaws.{cut_same, cut_low}
 use Rattle.st_promise.proofs.NumberLaws.{numbers_of}
 
--- promise number i of a sound group
-pub promise_at : (devices : List DeviceOpening) (ps : List Promise) (i : ℕ) → ArePromises devices ps → i < length ps → IsPromiseAmong devices (slice_index_or ps i no_promise)
-promise_at devices [] i are low = absurd (omega arith)
-promise_at devices (p ∷ ps) zero are low = are.0
-promise_at devices (p ∷ ps) (suc i) are low = promise_at devices ps i are.1 (omega arith)
-
 -- the least cut of a network of what is up has the least value of the group's cuts
 pub value_is : (g : Group) (up : Entity → Bool) (a b value : ℕ) (side : List ℕ) → IsSound g → a ≢ b → IsLeastEdgeCut (up_network g up) a b value side → value ≡ least_cut (length g.devices) g.links up a b
 value_is g up a b value side sound apart is =

@@ -26,7 +26,7 @@ use Rattle.st_promise.specs.KeptFlow.{IsEndIn, lost_share, lost, IsEnough, AreKe
 use Rattle.st_promise.specs.Reach.{is_member}
 use Rattle.st_promise.specs.FlowIndex.{IsEntered, AreEntered, AreUntouched}
 use Rattle.st_promise.proofs.KeptLaws.{left_holds, edges_count}
-use Rattle.st_promise.proofs.FlowLaws.{promise_at}
+use Rattle.st_net.proofs.GroupLaws.{promise_at}
 use Rattle.st_promise.proofs.BookLaws.{AreFieldsOf, flow_read}
 use Rattle.st_promise.proofs.ShareLaws.{edge_read}
 

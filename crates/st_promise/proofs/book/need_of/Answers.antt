@@ -2,7 +2,8 @@ use Rattle.std.proofs.Common.{arith, ap, ◌∙◌}
 use Rattle.st_net.specs.declared.promise.Promise.{Promise}
 use Rattle.st_net.specs.Groups.{promise_of}
 use Rattle.st_promise.specs.UpNetwork.{baseline_of}
-use Rattle.st_promise.proofs.FlowLaws.{promise_at, share_fits, need_is}
+use Rattle.st_net.proofs.GroupLaws.{promise_at}
+use Rattle.st_promise.proofs.FlowLaws.{share_fits, need_is}
 use Rattle.st_promise.proofs.book.need_of.Goals as goal
 
 pub least-requires : goal.least-requires

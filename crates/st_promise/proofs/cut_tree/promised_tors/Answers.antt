@@ -1,6 +1,6 @@
 use Rattle.std.proofs.Common.{◌<◌, length, arith}
 use Rattle.std.proofs.lemmas.List.Elements.{All-push}
-use Rattle.st_promise.proofs.FlowLaws.{promise_at}
+use Rattle.st_net.proofs.GroupLaws.{promise_at}
 use Rattle.st_promise.proofs.cut_tree.promised_tors.Goals as goal
 use Rattle.st_promise.proofs.cut_tree.promised_tors.Goals.{then-index+in_ok-push, else-index}
 

@@ -3,7 +3,7 @@ use Rattle.std.proofs.lemmas.List.{length_push}
 use Rattle.st_net.specs.Groups.{promise_of}
 use Rattle.st_net.specs.Promises.{is_kept}
 use Rattle.st_net.specs.Sets.{is_in}
-use Rattle.st_promise.proofs.FlowLaws.{promise_at}
+use Rattle.st_net.proofs.GroupLaws.{promise_at}
 use Rattle.st_promise.proofs.BookLaws.{fields_of, promise_read, lists_count}
 use Rattle.st_promise.proofs.IndexLaws.{shown_whole, both_so}
 use Rattle.st_promise.proofs.WithinLaws.{marked_more}

@@ -3,7 +3,7 @@ use Rattle.std.proofs.lemmas.Bool.Decides.{nat_tests}
 use Rattle.st_net.specs.Sets.{is_in}
 use Rattle.st_net.specs.Groups.{promise_of}
 use Rattle.st_net.specs.Promises.{need_of}
-use Rattle.st_promise.proofs.FlowLaws.{promise_at}
+use Rattle.st_net.proofs.GroupLaws.{promise_at}
 use Rattle.st_promise.proofs.KeptLaws.{left_holds}
 use Rattle.st_promise.proofs.BookLaws.{fields_of, promise_read, need_read, flow_read, link_marked, heads_marked}
 use Rattle.st_promise.proofs.book.Book.shows.Goals as goal

@@ -1,5 +1,6 @@
 use Rattle.std.proofs.Common.{◌∙◌, arith}
-use Rattle.st_promise.proofs.FlowLaws.{promise_at, enough_kept, least_of, short_fails, least_holds}
+use Rattle.st_net.proofs.GroupLaws.{promise_at}
+use Rattle.st_promise.proofs.FlowLaws.{enough_kept, least_of, short_fails, least_holds}
 use Rattle.st_promise.proofs.up_network.UpNetwork.find.Goals as goal
 
 pub max_flow-requires : goal.max_flow-requires
