@@ -23,3 +23,4 @@ pub mod InmostCut
 pub mod Ascending
 pub mod Unnamed
 pub mod Versions
+pub mod Accepting

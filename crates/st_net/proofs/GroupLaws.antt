@@ -14,7 +14,8 @@ use Rattle.st_net.proofs.SideLaws.{least_side-within, least_side-has}
 pub keeps_with_more : (g : Group) → KeepsWithMore g
 keeps_with_more g up more p within holds = Holds-more g.links (need_of g p) p.a p.b up more within holds
 
-promise_at : (devices : List DeviceOpening) (ps : List Promise) (i : ℕ) → ArePromises devices ps → i < length ps → IsPromiseAmong devices (slice_index_or ps i no_promise)
+-- promise number i of a sound group
+pub promise_at : (devices : List DeviceOpening) (ps : List Promise) (i : ℕ) → ArePromises devices ps → i < length ps → IsPromiseAmong devices (slice_index_or ps i no_promise)
 promise_at devices [] i are low = absurd (omega arith)
 promise_at devices (p ∷ ps) zero are low = are.0
 promise_at devices (p ∷ ps) (suc i) are low = promise_at devices ps i are.1 (omega arith)

@@ -7,7 +7,7 @@ use Rattle.st_net.specs.declared.entity.Var.TheVariants.{Power, Firmware, Config
 use Rattle.st_net.specs.declared.entity.Vals.{Vals}
 use Rattle.st_net.specs.declared.entity.Row.{Row}
 use Rattle.st_net.specs.declared.topo.TheConstants.{MAX_ROWS}
-use Rattle.st_net.specs.Entities.{is_same_entity, is_same_var}
+use Rattle.st_net.specs.Entities.{is_same_entity, is_same_var, is_var_of}
 use Rattle.st_net.specs.Groups.{Group, IsEntityOf, are_device_vals, are_link_vals}
 
 -- the values that a device's variable may have, and a link's; none of a variable that such an entity does not have
@@ -59,5 +59,21 @@ are_apart (row ∷ rows) = is_free_of row.entity row.var rows && are_apart rows
 pub record RowsFit (g : Group) (rows : List Row) : Type 0 where
   pub some : 1 ≤ length rows
   pub few : length rows ≤ MAX_ROWS
+  pub each : All (RowFits g) rows
+  pub apart : are_apart rows ≡ true
+
+-- a variable of an entity of the group
+pub record IsVariableOf (entity : Entity) (var : Var) (g : Group) : Type 0 where
+  pub entity_in : IsEntityOf g entity
+  pub variable : is_var_of entity var ≡ true
+
+abbrev pub IsOn : Entity → Row → Type 0
+IsOn entity row = row.entity ≡ entity
+
+-- what an entity of the group may change to of itself: a health, and values of its own variables
+pub record IsChangeOf (entity : Entity) (health : ℕ) (rows : List Row) (g : Group) : Type 0 where
+  pub entity_in : IsEntityOf g entity
+  pub health_range : is_health_of entity health ≡ true
+  pub own : All (IsOn entity) rows
   pub each : All (RowFits g) rows
   pub apart : are_apart rows ≡ true

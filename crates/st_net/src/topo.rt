@@ -2,7 +2,7 @@
 //! and none tests it again.
 
 ghost use Rattle.std.specs.Prelude.{◌≡◌, ℕ, ◌<◌, ◌^◌, length, slice_index_or, slice_get, Some, IfOk, IfSome, IfNone};
-ghost use Rattle.st_net.specs.InOrder.{place_in, entity_count};
+ghost use Rattle.st_net.specs.InOrder.{place_in, entity_count, entities_of};
 ghost use Rattle.st_net.specs.Groups.{Group, IsEntityOf, find_in, name_of as name_of_lem, no_device, no_link, no_promise, opening_of, health_of, IsSound};
 
 mod same;
@@ -185,6 +185,28 @@ impl GroupTopo {
         ensures within { result < entity_count self.now }
     {
         e.place_behind(self.devices.len())
+    }
+
+    /// How many entities there are: devices and links.
+    pub fn entity_count(&self) -> u32
+        ensures { result ≡ length (entities_of self.now) }
+    {
+        self.is_sound();
+        self.device_count() + self.link_count()
+    }
+
+    /// An entity, by its place from 0 in the order of entities: devices first, then links.
+    pub fn entity_at(&self, place: u32) -> Entity
+        requires { place < length (entities_of self.now) }
+        ensures of { IsEntityOf self.now result }
+        ensures at { result ≡ slice_index_or (entities_of self.now) place result }
+    {
+        let devices = self.device_count();
+        if place < devices {
+            Entity::Device(place)
+        } else {
+            Entity::Link(place - devices)
+        }
     }
 
     /// The entity of a name: None exactly where no part has it.
