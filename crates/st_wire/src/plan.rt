@@ -1,7 +1,7 @@
 //! The loss plan of a group: which messages arrive at which turn. A document states its lines, and a round asks it after each
 //! message that it sends.
 
-ghost use Rattle.std.specs.Prelude.{◌≡◌, IfOk};
+ghost use Rattle.std.specs.Prelude.{◌≡◌, IfOk, length};
 ghost use Rattle.std.specs.List.{list_any};
 ghost use Rattle.st_wire.specs.Deliveries.{deliveries as deliveries_lem, own_delivery as own_delivery_lem, keeps_back as keeps_back_lem, brought_at as brought_at_lem};
 
@@ -52,6 +52,13 @@ impl LossPlan {
         ensures { result ≡ lines.items }
     {
         LossPlan { alloc, lines }
+    }
+
+    /// How many lines the plan has. At a turn at most one message more arrives.
+    pub fn len(&self) -> usize
+        ensures { result ≡ length self.now }
+    {
+        self.lines.len()
     }
 
     /// Whether a line keeps message `m` of a kind from its own turn.

@@ -1,7 +1,6 @@
 -- Tickets that may be committed, and what a commit comes to over the journal that a world keeps.
 use Rattle.std.proofs.Common.{◌≡◌, ℕ, ◌+◌, ◌<◌, ◌≤◌, List, [], ◌∷◌, ◌++◌, length, ap, sym, ◌∙◌, inl, inr, arith, length-append}
 use Rattle.std.specs.Prelude.{reverse, ◌⊎◌}
-use Rattle.st_net.specs.Groups.{Group}
 use Rattle.st_net.specs.Merge.{without_altered}
 use Rattle.st_event.specs.declared.event.Event.{Event}
 use Rattle.st_event.specs.declared.event.Event.TheVariants.{Submit, Check}

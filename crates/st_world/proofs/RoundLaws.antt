@@ -1,6 +1,6 @@
 -- Steps of a world as the run of their events, and what is left of a run from where a world stands.
 use Rattle.std.proofs.Common.{◌≡◌, ℕ, ◌+◌, ◌^◌, ◌<◌, List, ◌∷◌, length, map, drop, get_or, refl, ap, sym, ◌∙◌, subst, add-one, drop-cons, arith}
-use Rattle.std.specs.Prelude.{false, true, not, nat_lt, All, Result, Ok, Err, OnErr}
+use Rattle.std.specs.Prelude.{false, not, nat_lt, All, Result, Ok, Err, OnErr}
 use Rattle.std.specs.List.{filter}
 use Rattle.std.proofs.lemmas.Bool.Decides.{nat_tests}
 use Rattle.std.proofs.lemmas.Result.{on_err_weaker}
@@ -16,7 +16,7 @@ use Rattle.st_net.specs.Reports.{is_settled_by}
 use Rattle.st_net.proofs.EntityOrder.{entities_count}
 use Rattle.st_net.proofs.Tests.{less}
 use Rattle.st_event.specs.declared.event.Event.{Event}
-use Rattle.st_event.specs.declared.event.Event.TheVariants.{Finish, Report as make_report}
+use Rattle.st_event.specs.declared.event.Event.TheVariants.{Finish}
 use Rattle.st_event.specs.declared.reply.Reply.{Reply}
 use Rattle.st_event.specs.declared.journal.Entry.{Entry}
 use Rattle.st_event.specs.declared.journal.TheConstants.{MAX_ENTRIES}
@@ -36,8 +36,8 @@ use Rattle.st_world.specs.declared.world.Stepped.TheVariants.{Did, JournalFull}
 use Rattle.st_world.specs.declared.world.rounds.Going.{Going}
 use Rattle.st_world.specs.declared.world.rounds.Going.TheVariants.{On, Full}
 use Rattle.st_world.specs.World.{WorldView, IsBeginning, Steps}
-use Rattle.st_world.specs.Rounds.{Run, run_from, run_at, enter, enter_all, enter_told, arrivals_of, newest_arrivals, turn, turns, round, unsettled, HasSamePlant, IsPartOf, SettlesSent}
-use Rattle.st_world.proofs.RunLaws.{entered, beginning-self, beginning-more, enter-grows, enter_all-grows, enter_told-grows, turn-grows, turns-grows, enter-stopped, enter_all-stopped, enter_told-stopped, turns-stopped, unsettled_fit}
+use Rattle.st_world.specs.Rounds.{Run, run_from, run_at, enter, enter_all, enter_told, arrivals_of, newest_arrivals, poll, turn, turns, round, unsettled, HasSamePlant, IsPartOf, SettlesSent}
+use Rattle.st_world.proofs.RunLaws.{entered, beginning-self, beginning-more, enter-grows, enter_all-grows, turn-grows, turns-grows, enter_all-stopped, turns-stopped, unsettled_fit}
 use Rattle.st_world.proofs.SettleLaws.{round_made}
 
 -- what is left of a run
@@ -137,7 +137,7 @@ first_left : {X : Type 0} (xs : List X) (i : ℕ) (default : X) → i < length x
 first_left xs i default low = rw (add-one, drop-cons xs i default low) refl
 
 -- the next part was entered whole
-part_goes : (rest : Group → List WireLine → Run → Run) (old now next : WorldView) (whole left first : Run) (going : Going) → IsOnWay old now whole left → left ≡ rest now.history.group now.lines first → IsBeginning now.history.past first.past → run_at going next ≡ first → going ≡ On → HasSamePlant now next → IsOnWay old next whole (rest next.history.group next.lines (run_from next.history.past))
+pub part_goes : (rest : Group → List WireLine → Run → Run) (old now next : WorldView) (whole left first : Run) (going : Going) → IsOnWay old now whole left → left ≡ rest now.history.group now.lines first → IsBeginning now.history.past first.past → run_at going next ≡ first → going ≡ On → HasSamePlant now next → IsOnWay old next whole (rest next.history.group next.lines (run_from next.history.past))
 part_goes rest old now next whole left first going way split grows is on plant =
     let here = way_from rest now next first going grows is on plant in
     way_more old now next whole left (rest next.history.group next.lines (run_from next.history.past)) way (record { began = here.began; plant = here.plant; ends = here.ends ∙ sym split })
@@ -147,7 +147,7 @@ pub stops_there : (rest : Run → Run) (now : WorldView) (first : Run) (going : 
 stops_there rest now first going is full stays = sym stays ∙ ap (λ (at : Going). rest (run_at at now)) (sym full) ∙ ap rest is
 
 -- a part of the next part was entered
-part_parts : {T E : Type 0} (r : Result T E) (old now next : WorldView) (whole left behind first : Run) → IsOnWay old now whole left → left ≡ behind → IsBeginning first.past behind.past → IsPartOf now next first → OnErr r (IsPartOf old next whole)
+pub part_parts : {T E : Type 0} (r : Result T E) (old now next : WorldView) (whole left behind first : Run) → IsOnWay old now whole left → left ≡ behind → IsBeginning first.past behind.past → IsPartOf now next first → OnErr r (IsPartOf old next whole)
 part_parts r old now next whole left behind first way split grows part =
     part_whole r old now next whole left way (part_more r now next first left (subst (λ (run : Run). IsBeginning first.past run.past) (sym split) grows) part)
 
@@ -199,23 +199,13 @@ no_arrivals_part r w events = none_entered r w w (enter_all w.history.group (run
 
 -- a turn
 
--- a report with its arrivals
-abbrev pub reporting : Entity → Group → List WireLine → Run → Run
-reporting e g lines run = enter_told g lines run (make_report e)
+-- the finish that ends an update
+abbrev pub finishing : Entity → Group → List WireLine → Run → Run
+finishing e g lines run = enter g run (Finish e)
 
--- the end of a turn: a finish, and a report with its arrivals
-abbrev pub ending : Entity → Group → List WireLine → Run → Run
-ending e g lines run = reporting e g lines (enter g run (Finish e))
-
--- the end of a turn leaves what was entered before
-pub ending-grows : (e : Entity) (g : Group) (lines : List WireLine) (run : Run) → IsBeginning run.past (ending e g lines run).past
-ending-grows e g lines run =
-    let finished = enter g run (Finish e) in
-    beginning-more run.past finished.past (ending e g lines run).past (enter-grows g run (Finish e)) (enter_told-grows g lines finished (make_report e))
-
--- a run that has stopped stays as it is
-pub ending-stopped : (e : Entity) (g : Group) (lines : List WireLine) (run : Run) → run.stopped ≡ true → ending e g lines run ≡ run
-ending-stopped e g lines run stopped = ap (reporting e g lines) (enter-stopped g run (Finish e) stopped) ∙ enter_told-stopped g lines run (make_report e) stopped
+-- the poll that follows it
+abbrev pub polling : Entity → Group → List WireLine → Run → Run
+polling e g lines run = poll g lines run e
 
 -- turns one after another
 

@@ -19,7 +19,7 @@ use Rattle.st_wire.specs.declared.line.WireKind.TheVariants.{Command as command_
 use Rattle.st_wire.specs.declared.line.WireLine.{WireLine}
 use Rattle.st_wire.specs.Deliveries.{deliveries}
 use Rattle.st_world.specs.World.{IsBeginning}
-use Rattle.st_world.specs.Rounds.{Run, run_from, enter, enter_all, arrivals_of, newest_arrivals, enter_told, turn, turns, unsettled, round}
+use Rattle.st_world.specs.Rounds.{Run, run_from, enter, enter_all, arrivals_of, newest_arrivals, enter_told, update_turn, poll, turn, turns, unsettled, round}
 
 -- beginnings
 
@@ -52,12 +52,18 @@ enter_told-grows g lines run event =
     let next = enter g run event in
     beginning-more run.past next.past (enter_told g lines run event).past (enter-grows g run event) (enter_all-grows g next (newest_arrivals lines next.past))
 
+pub update_turn-grows : (g : Group) (lines : List WireLine) (run : Run) (e : Entity) → IsBeginning run.past (update_turn g lines run e).past
+update_turn-grows g lines run e =
+    let told = enter_told g lines run (Send e) in
+    beginning-more run.past told.past (update_turn g lines run e).past (enter_told-grows g lines run (Send e)) (enter-grows g told (Finish e))
+
+pub poll-grows : (g : Group) (lines : List WireLine) (run : Run) (e : Entity) → IsBeginning run.past (poll g lines run e).past
+poll-grows g lines run e = enter_told-grows g lines run (make_report e)
+
 pub turn-grows : (g : Group) (lines : List WireLine) (run : Run) (e : Entity) → IsBeginning run.past (turn g lines run e).past
 turn-grows g lines run e =
-    let told = enter_told g lines run (Send e) in
-    let finished = enter g told (Finish e) in
-    beginning-more run.past told.past (turn g lines run e).past (enter_told-grows g lines run (Send e))
-    (beginning-more told.past finished.past (turn g lines run e).past (enter-grows g told (Finish e)) (enter_told-grows g lines finished (make_report e)))
+    let updated = update_turn g lines run e in
+    beginning-more run.past updated.past (turn g lines run e).past (update_turn-grows g lines run e) (poll-grows g lines updated e)
 
 pub turns-grows : (g : Group) (lines : List WireLine) (run : Run) (es : List Entity) → IsBeginning run.past (turns g lines run es).past
 turns-grows g lines run [] = beginning-self run.past
@@ -78,11 +84,14 @@ enter_all-stopped g run (event ∷ events) stopped = ap (λ (r : Run). enter_all
 pub enter_told-stopped : (g : Group) (lines : List WireLine) (run : Run) (event : Event) → run.stopped ≡ true → enter_told g lines run event ≡ run
 enter_told-stopped g lines run event stopped = ap (λ (r : Run). enter_all g r (newest_arrivals lines r.past)) (enter-stopped g run event stopped) ∙ enter_all-stopped g run (newest_arrivals lines run.past) stopped
 
+pub update_turn-stopped : (g : Group) (lines : List WireLine) (run : Run) (e : Entity) → run.stopped ≡ true → update_turn g lines run e ≡ run
+update_turn-stopped g lines run e stopped = ap (λ (r : Run). enter g r (Finish e)) (enter_told-stopped g lines run (Send e) stopped) ∙ enter-stopped g run (Finish e) stopped
+
+pub poll-stopped : (g : Group) (lines : List WireLine) (run : Run) (e : Entity) → run.stopped ≡ true → poll g lines run e ≡ run
+poll-stopped g lines run e stopped = enter_told-stopped g lines run (make_report e) stopped
+
 pub turn-stopped : (g : Group) (lines : List WireLine) (run : Run) (e : Entity) → run.stopped ≡ true → turn g lines run e ≡ run
-turn-stopped g lines run e stopped =
-    ap (λ (r : Run). enter_told g lines (enter g r (Finish e)) (make_report e)) (enter_told-stopped g lines run (Send e) stopped)
-    ∙ ap (λ (r : Run). enter_told g lines r (make_report e)) (enter-stopped g run (Finish e) stopped)
-    ∙ enter_told-stopped g lines run (make_report e) stopped
+turn-stopped g lines run e stopped = ap (λ (r : Run). poll g lines r e) (update_turn-stopped g lines run e stopped) ∙ poll-stopped g lines run e stopped
 
 pub turns-stopped : (g : Group) (lines : List WireLine) (run : Run) (es : List Entity) → run.stopped ≡ true → turns g lines run es ≡ run
 turns-stopped g lines run [] stopped = refl
@@ -125,11 +134,14 @@ enter_told-legal g lines run event legal fits =
     let next = enter g run event in
     enter_all-legal g next (newest_arrivals lines next.past) (enter-legal g run event legal fits) (newest_arrivals_fit g lines next.past)
 
+pub update_turn-legal : (g : Group) (lines : List WireLine) (run : Run) (e : Entity) → IsLegal g run.past → IsEntityOf g e → IsLegal g (update_turn g lines run e).past
+update_turn-legal g lines run e legal own = enter-legal g (enter_told g lines run (Send e)) (Finish e) (enter_told-legal g lines run (Send e) legal own) own
+
+pub poll-legal : (g : Group) (lines : List WireLine) (run : Run) (e : Entity) → IsLegal g run.past → IsEntityOf g e → IsLegal g (poll g lines run e).past
+poll-legal g lines run e legal own = enter_told-legal g lines run (make_report e) legal own
+
 pub turn-legal : (g : Group) (lines : List WireLine) (run : Run) (e : Entity) → IsLegal g run.past → IsEntityOf g e → IsLegal g (turn g lines run e).past
-turn-legal g lines run e legal own =
-    let told = enter_told g lines run (Send e) in
-    let finished = enter g told (Finish e) in
-    enter_told-legal g lines finished (make_report e) (enter-legal g told (Finish e) (enter_told-legal g lines run (Send e) legal own) own) own
+turn-legal g lines run e legal own = poll-legal g lines (update_turn g lines run e) e (update_turn-legal g lines run e legal own) own
 
 pub turns-legal : (g : Group) (lines : List WireLine) (run : Run) (es : List Entity) → IsLegal g run.past → All (IsEntityOf g) es → IsLegal g (turns g lines run es).past
 turns-legal g lines run [] legal own = legal

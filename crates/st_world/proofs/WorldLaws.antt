@@ -1,7 +1,8 @@
 -- One entry more keeps a world consistent. `items` is the journal as the code keeps it, the oldest entry first.
-use Rattle.std.proofs.Common.{◌≡◌, ℕ, ◌+◌, ◌<◌, ◌≤◌, List, [], ◌∷◌, ◌++◌, length, refl, ap, sym, ◌∙◌, subst, arith, length-append}
+use Rattle.std.proofs.Common.{◌≡◌, ℕ, ◌+◌, ◌-◌, ◌<◌, ◌≤◌, List, [], ◌∷◌, ◌++◌, length, take, drop, refl, ap, sym, ◌∙◌, subst, arith, length-append}
 use Rattle.std.specs.Prelude.{Bool, true, false, if◌then◌else◌, reverse}
-use Rattle.std.proofs.lemmas.List.{reverse-append, length-reverse}
+use Rattle.std.proofs.lemmas.List.{reverse-append, reverse-reverse, length-reverse, take_all}
+use Rattle.std.proofs.Math.Seq.{drop-append_seam}
 use Rattle.st_net.specs.declared.entity.Entity.{Entity}
 use Rattle.st_net.specs.declared.message.Command.{Command}
 use Rattle.st_net.specs.declared.message.Report.{Report}
@@ -60,15 +61,15 @@ one_report : (event : Event) (report : Entity → Report) (before : List Report)
 one_report (make_report e) report before = rw length-append (omega arith)
 one_report _ report before = omega arith
 
-few_tickets : (past : List Entry) → length (proposals past) ≤ length past
+pub few_tickets : (past : List Entry) → length (proposals past) ≤ length past
 few_tickets [] = omega arith
 few_tickets (entry ∷ past) = omega (arith, one_ticket entry.event entry.reply (proposals past), few_tickets past)
 
-few_commands : (g : Group) (past : List Entry) → length (commands g past) ≤ length past
+pub few_commands : (g : Group) (past : List Entry) → length (commands g past) ≤ length past
 few_commands g [] = omega arith
 few_commands g (entry ∷ past) = omega (arith, one_command entry.event entry.reply (λ e. record { entity = e; stamp = stamp g past e; vals = vals_in g (target g past) e }) (commands g past), few_commands g past)
 
-few_reports : (g : Group) (past : List Entry) → length (reports g past) ≤ length past
+pub few_reports : (g : Group) (past : List Entry) → length (reports g past) ≤ length past
 few_reports g [] = omega arith
 few_reports g (entry ∷ past) = omega (arith, one_report entry.event (report_now g past) (reports g past), few_reports g past)
 
@@ -76,7 +77,7 @@ one_number : (counts : Bool) (n : ℕ) → (if counts then n + 1 else n) ≤ n +
 one_number true n = omega arith
 one_number false n = omega arith
 
-low_numbers : (past : List Entry) (e : Entity) → number past e ≤ length past
+pub low_numbers : (past : List Entry) (e : Entity) → number past e ≤ length past
 low_numbers [] e = omega arith
 low_numbers (entry ∷ past) e = omega (arith, one_number (is_report_of e entry.event) (number past e), low_numbers past e)
 
@@ -180,3 +181,12 @@ agent_is m items e g agents found agrees group same is =
     ∙ ap (λ (h : Group). own_state e (agent_in h agents e)) group
     ∙ ap (λ (xs : List AgentState). own_state e (agent_in m.checker.group xs e)) same
     ∙ ap (λ (w : Wires). own_state e (w.agent e)) agrees.wires
+
+-- the entries behind the first so many are those that were made since
+pub since_is : (items before more : List Entry) (from : ℕ) → reverse items ≡ more ++ before → length before ≡ from → take (length items - from) (drop from items) ≡ reverse more
+since_is items before more from is count =
+    let whole : items ≡ reverse before ++ reverse more = sym (reverse-reverse items) ∙ (ap reverse is ∙ reverse-append more before) in
+    let start : length (reverse before) ≡ from = length-reverse before ∙ count in
+    let rest : drop from items ≡ reverse more = ap (λ (n : ℕ). drop n items) (sym start) ∙ (ap (drop (length (reverse before))) whole ∙ drop-append_seam (reverse before) (reverse more)) in
+    let left : length items - from ≡ length (reverse more) = omega (arith, ap length whole, length-append (reverse before) (reverse more), start) in
+    ap (take (length items - from)) rest ∙ take_all (length items - from) (reverse more) (omega (arith, left))

@@ -54,9 +54,17 @@ newest_arrivals lines (entry ∷ past) = arrivals_of lines entry.reply
 abbrev pub enter_told : Group → List WireLine → Run → Event → Run
 enter_told g lines run event = let next = enter g run event in enter_all g next (newest_arrivals lines next.past)
 
--- the turn of an entity: Send with the arrivals of its command, Finish, Report with the arrivals of its report
+-- the half of an entity's turn that updates it: Send with the arrivals of its command, and Finish
+abbrev pub update_turn : Group → List WireLine → Run → Entity → Run
+update_turn g lines run e = enter g (enter_told g lines run (Send e)) (Finish e)
+
+-- the half that monitors it: Report with the arrivals of its report
+abbrev pub poll : Group → List WireLine → Run → Entity → Run
+poll g lines run e = enter_told g lines run (make_report e)
+
+-- the turn of an entity: the one half and then the other
 abbrev pub turn : Group → List WireLine → Run → Entity → Run
-turn g lines run e = enter_told g lines (enter g (enter_told g lines run (Send e)) (Finish e)) (make_report e)
+turn g lines run e = poll g lines (update_turn g lines run e) e
 
 abbrev pub turns : Group → List WireLine → Run → List Entity → Run
 turns g lines run [] = run
@@ -82,6 +90,10 @@ is_full Full = true
 
 abbrev pub run_at : Going → WorldView → Run
 run_at going w = record { past = w.history.past; stopped = is_full going }
+
+-- the world has gone through a run, and it is told whether that met a full journal
+abbrev pub Goes : WorldView → Run → Going → Type 0
+Goes new run going = run_at going new ≡ run
 
 -- a part of a run was entered, from its start
 pub record IsPartOf (old new : WorldView) (run : Run) : Type 0 where

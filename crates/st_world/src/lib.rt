@@ -1,5 +1,5 @@
 //! One group's whole machine: its checker, its simulated agents, its messages and its journal. Every event of the group is entered
-//! here with its reply; services and scripts drive it, and reports are read from it.
+//! here with its reply, those of an application's acts too; services and scripts drive it, and reports are read from it.
 #![tactic(auto)]
 
 pub mod laws;
@@ -9,6 +9,7 @@ mod plant;
 mod tests;
 mod world;
 
+pub use world::acts::group_number;
 pub use world::commits::Committed;
 pub use world::rounds::{Going, Rounded};
 pub use world::{Stepped, World};

@@ -3,6 +3,7 @@
 
 ghost use Rattle.std.specs.Prelude.{◌+◌, ◌^◌, ◌<◌};
 
+mod acts;
 mod commits;
 mod detour;
 mod replies;

@@ -1,9 +1,10 @@
 //! One group's world: every event goes through `World::step`, which asks the group's machine for the reply and enters both in the
 //! journal. Scripts and services drive it, and reports are read from it.
 
-ghost use Rattle.std.specs.Prelude.{◌≡◌, [], ◌∷◌, ◌++◌, ◌<◌, ◌≤◌, ◌+◌, IfOk, IsOk, IsTrue, OnOk, OnErr, reverse};
+ghost use Rattle.std.specs.Prelude.{◌≡◌, List, [], ◌∷◌, ◌++◌, ◌<◌, ◌≤◌, ◌+◌, IfOk, IsOk, IsTrue, OnOk, OnErr, length, drop, reverse};
 ghost use Rattle.std.specs.Vec.{vec_len, vec_capacity};
 ghost use Rattle.st_net.specs.Groups.{IsSound, IsEntityOf};
+ghost use Rattle.st_event.specs.declared.journal.Entry.{Entry as entry};
 ghost use Rattle.st_event.specs.Agents.{agent_of};
 ghost use Rattle.st_event.specs.Facts.{AgentsAgree};
 ghost use Rattle.st_event.specs.Legal.{Fits, IsLegal, AtEach};
@@ -15,6 +16,7 @@ ghost use Rattle.st_control.specs.Checker.{standing_in, versions_in};
 ghost use Rattle.st_world.specs.Machine.{is_sure_event};
 ghost use Rattle.st_world.specs.World.{Steps};
 
+pub mod acts;
 pub mod commits;
 mod fit;
 pub mod rounds;
@@ -159,6 +161,24 @@ impl World {
         ensures { reverse result.now ≡ self.now.history.past }
     {
         self.journal.as_slice()
+    }
+
+    /// How many entries the journal has.
+    pub fn entries(&self) -> u32
+        ensures count { result ≡ length self.now.history.past }
+        ensures few { result ≤ MAX_ENTRIES }
+    {
+        self.is_legal();
+        self.journal.len() as u32
+    }
+
+    /// The entries behind the first `from`, the oldest first. With what `entries` told before, those that were made since then.
+    pub fn entries_since(&self, from: u32) -> &[Entry]
+        requires { from ≤ length self.now.history.past }
+        ensures rest { result.now ≡ drop from (reverse self.now.history.past) }
+        ensures since { (more : List entry) (before : List entry) → self.now.history.past ≡ more ++ before → length before ≡ from → result.now ≡ reverse more }
+    {
+        &self.journal.as_slice()[from as usize..]
     }
 
     /// The journal as that of the group of this number, given back without taking memory.

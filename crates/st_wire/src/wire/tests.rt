@@ -59,6 +59,7 @@ fn lines_bring_messages_behind_the_turns_own(rt: HostRuntime) -> Result<(), Fail
         m: 3,
     })?;
     let plan = LossPlan::from_lines(rt.alloc(), lines);
+    assert_eq!(rt; plan.len(), 4);
     assert_eq!(rt; plan.deliveries(kind, 1)?.as_slice(), [1].as_slice());
     assert_eq!(rt; plan.deliveries(kind, 2)?.len(), 0);
     assert_eq!(rt; plan.deliveries(kind, 3)?.as_slice(), [3, 1, 2].as_slice());

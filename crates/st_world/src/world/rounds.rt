@@ -3,9 +3,9 @@
 
 ghost use Rattle.std.specs.Prelude.{◌≡◌, All, IfOk, OnErr, map};
 ghost use Rattle.st_net.specs.Groups.{IsEntityOf};
-ghost use Rattle.st_event.specs.declared.event.Event.TheVariants.{Deliver, Finish, Report as report_event, Hear};
+ghost use Rattle.st_event.specs.declared.event.Event.TheVariants.{Deliver, Hear};
 ghost use Rattle.st_event.specs.Legal.{Fits};
-ghost use Rattle.st_world.specs.Rounds.{arrivals_of, enter as enter_lem, enter_all, enter_told, turn as turn_lem, turns as turns_lem, round as round_lem, run_from, run_at, unsettled as unsettled_lem, Rounds, IsPartOf, HasSamePlant, DidSettle};
+ghost use Rattle.st_world.specs.Rounds.{arrivals_of, enter as enter_lem, enter_all, enter_told, update_turn as update_turn_lem, poll as poll_lem, turn as turn_lem, turns as turns_lem, round as round_lem, run_from, unsettled as unsettled_lem, Goes, Rounds, IsPartOf, HasSamePlant, DidSettle};
 
 use crate::world::{Stepped, World};
 use st_event::{Event, MAX_ENTRIES, Reply};
@@ -48,10 +48,11 @@ impl World {
     }
 
     /// Enters an event. As in all of these runs, at `Full` and at `Err` what was entered is a part of the run, from its start.
-    fn enter(&mut self, event: Event) -> Result<Going, AllocError>
+    pub(crate) fn enter(&mut self, event: Event) -> Result<Going, AllocError>
         requires { Fits self.old.history.group event }
-        ensures ok { IfOk result (λ going. run_at going self.new ≡ enter_lem self.old.history.group (run_from self.old.history.past) event) }
+        ensures ok { IfOk result (Goes self.new (enter_lem self.old.history.group (run_from self.old.history.past) event)) }
         ensures err { OnErr result (IsPartOf self.old self.new (enter_lem self.old.history.group (run_from self.old.history.past) event)) }
+        ensures none { OnErr result (self.new.history ≡ self.old.history) }
         ensures plant { HasSamePlant self.old self.new }
     {
         match self.step(event)? {
@@ -62,7 +63,7 @@ impl World {
 
     /// Delivers these commands, one after another.
     fn deliver_all(&mut self, commands: &[u32]) -> Result<Going, AllocError>
-        ensures ok { IfOk result (λ going. run_at going self.new ≡ enter_all self.old.history.group (run_from self.old.history.past) (map Deliver commands.now)) }
+        ensures ok { IfOk result (Goes self.new (enter_all self.old.history.group (run_from self.old.history.past) (map Deliver commands.now))) }
         ensures err { OnErr result (IsPartOf self.old self.new (enter_all self.old.history.group (run_from self.old.history.past) (map Deliver commands.now))) }
         ensures plant { HasSamePlant self.old self.new }
     {
@@ -77,7 +78,7 @@ impl World {
 
     /// Hears these reports, one after another.
     fn hear_all(&mut self, reports: &[u32]) -> Result<Going, AllocError>
-        ensures ok { IfOk result (λ going. run_at going self.new ≡ enter_all self.old.history.group (run_from self.old.history.past) (map Hear reports.now)) }
+        ensures ok { IfOk result (Goes self.new (enter_all self.old.history.group (run_from self.old.history.past) (map Hear reports.now))) }
         ensures err { OnErr result (IsPartOf self.old self.new (enter_all self.old.history.group (run_from self.old.history.past) (map Hear reports.now))) }
         ensures plant { HasSamePlant self.old self.new }
     {
@@ -92,7 +93,7 @@ impl World {
 
     /// Enters the arrivals that a reply calls for: those of the turn of the message that was sent or made.
     fn enter_arrivals(&mut self, reply: Reply) -> Result<Going, AllocError>
-        ensures ok { IfOk result (λ going. run_at going self.new ≡ enter_all self.old.history.group (run_from self.old.history.past) (arrivals_of self.old.lines reply)) }
+        ensures ok { IfOk result (Goes self.new (enter_all self.old.history.group (run_from self.old.history.past) (arrivals_of self.old.lines reply))) }
         ensures err { OnErr result (IsPartOf self.old self.new (enter_all self.old.history.group (run_from self.old.history.past) (arrivals_of self.old.lines reply))) }
         ensures plant { HasSamePlant self.old self.new }
     {
@@ -112,7 +113,7 @@ impl World {
     /// Enters an event, and then the arrivals that its reply calls for.
     fn enter_with_arrivals(&mut self, event: Event) -> Result<Going, AllocError>
         requires { Fits self.old.history.group event }
-        ensures ok { IfOk result (λ going. run_at going self.new ≡ enter_told self.old.history.group self.old.lines (run_from self.old.history.past) event) }
+        ensures ok { IfOk result (Goes self.new (enter_told self.old.history.group self.old.lines (run_from self.old.history.past) event)) }
         ensures err { OnErr result (IsPartOf self.old self.new (enter_told self.old.history.group self.old.lines (run_from self.old.history.past) event)) }
         ensures plant { HasSamePlant self.old self.new }
     {
@@ -122,39 +123,42 @@ impl World {
         }
     }
 
-    /// Lets an entity's agent report, and hears what arrives at the report's turn. At `Full` the journal met its limit; then, and at
-    /// `Err`, a part of these events was entered, from the first, and stands.
+    /// The half of an entity's turn that updates it: it is sent its command; where one was sent, each command that arrives at its turn is
+    /// delivered; and it carries its command in work out. At `Full` the journal met its limit; then, and at `Err`, a part of these
+    /// events was entered, from the first, and stands.
+    pub fn update_turn(&mut self, entity: Entity) -> Result<Going, AllocError>
+        requires { IsEntityOf self.old.history.group entity }
+        ensures ok { IfOk result (Goes self.new (update_turn_lem self.old.history.group self.old.lines (run_from self.old.history.past) entity)) }
+        ensures err { OnErr result (IsPartOf self.old self.new (update_turn_lem self.old.history.group self.old.lines (run_from self.old.history.past) entity)) }
+        ensures plant { HasSamePlant self.old self.new }
+    {
+        match self.enter_with_arrivals(Event::Send { entity })? {
+            Going::On => self.enter(Event::Finish { entity }),
+            Going::Full => Ok(Going::Full),
+        }
+    }
+
+    /// The half that monitors it: its agent reports, and each report that arrives at that one's turn is heard. At `Full` the journal met
+    /// its limit; then, and at `Err`, a part of these events was entered, from the first, and stands.
     pub fn poll(&mut self, entity: Entity) -> Result<Going, AllocError>
         requires { IsEntityOf self.old.history.group entity }
-        ensures ok { IfOk result (λ going. run_at going self.new ≡ enter_told self.old.history.group self.old.lines (run_from self.old.history.past) (report_event entity)) }
-        ensures err { OnErr result (IsPartOf self.old self.new (enter_told self.old.history.group self.old.lines (run_from self.old.history.past) (report_event entity))) }
+        ensures ok { IfOk result (Goes self.new (poll_lem self.old.history.group self.old.lines (run_from self.old.history.past) entity)) }
+        ensures err { OnErr result (IsPartOf self.old self.new (poll_lem self.old.history.group self.old.lines (run_from self.old.history.past) entity)) }
         ensures plant { HasSamePlant self.old self.new }
     {
         self.enter_with_arrivals(Event::Report { entity })
     }
 
-    /// Lets an entity's agent carry out its command in work, and then report.
-    fn finish_and_report(&mut self, entity: Entity) -> Result<Going, AllocError>
+    /// The turn of an entity: it is updated, and then monitored. At `Full` the journal met its limit; then, and at `Err`, a part of
+    /// these events was entered, from the first, and stands.
+    pub fn turn(&mut self, entity: Entity) -> Result<Going, AllocError>
         requires { IsEntityOf self.old.history.group entity }
-        ensures ok { IfOk result (λ going. run_at going self.new ≡ enter_told self.old.history.group self.old.lines (enter_lem self.old.history.group (run_from self.old.history.past) (Finish entity)) (report_event entity)) }
-        ensures err { OnErr result (IsPartOf self.old self.new (enter_told self.old.history.group self.old.lines (enter_lem self.old.history.group (run_from self.old.history.past) (Finish entity)) (report_event entity))) }
-        ensures plant { HasSamePlant self.old self.new }
-    {
-        match self.enter(Event::Finish { entity })? {
-            Going::On => self.enter_with_arrivals(Event::Report { entity }),
-            Going::Full => Ok(Going::Full),
-        }
-    }
-
-    /// The turn of an entity.
-    fn turn(&mut self, entity: Entity) -> Result<Going, AllocError>
-        requires { IsEntityOf self.old.history.group entity }
-        ensures ok { IfOk result (λ going. run_at going self.new ≡ turn_lem self.old.history.group self.old.lines (run_from self.old.history.past) entity) }
+        ensures ok { IfOk result (Goes self.new (turn_lem self.old.history.group self.old.lines (run_from self.old.history.past) entity)) }
         ensures err { OnErr result (IsPartOf self.old self.new (turn_lem self.old.history.group self.old.lines (run_from self.old.history.past) entity)) }
         ensures plant { HasSamePlant self.old self.new }
     {
-        match self.enter_with_arrivals(Event::Send { entity })? {
-            Going::On => self.finish_and_report(entity),
+        match self.update_turn(entity)? {
+            Going::On => self.poll(entity),
             Going::Full => Ok(Going::Full),
         }
     }
@@ -162,7 +166,7 @@ impl World {
     /// The turns of these entities, one after another.
     fn turns(&mut self, entities: &[Entity]) -> Result<Going, AllocError>
         requires { All (IsEntityOf self.old.history.group) entities.now }
-        ensures ok { IfOk result (λ going. run_at going self.new ≡ turns_lem self.old.history.group self.old.lines (run_from self.old.history.past) entities.now) }
+        ensures ok { IfOk result (Goes self.new (turns_lem self.old.history.group self.old.lines (run_from self.old.history.past) entities.now)) }
         ensures err { OnErr result (IsPartOf self.old self.new (turns_lem self.old.history.group self.old.lines (run_from self.old.history.past) entities.now)) }
         ensures plant { HasSamePlant self.old self.new }
     {

@@ -1,0 +1,263 @@
+-- Acts of several events: a proposal for which there is room, checks while what is pending passes, and rounds while some entity is not settled.
+use Rattle.std.proofs.Common.{◌≡◌, ◌≢◌, ℕ, zero, suc, ◌+◌, ◌-◌, ◌<◌, ◌≤◌, List, [], ◌∷◌, length, refl, ap, sym, ◌∙◌, subst, arith}
+use Rattle.std.specs.Prelude.{Bool, true, false, ◌==◌, Result, OnErr, if◌then◌else◌}
+use Rattle.st_net.specs.declared.entity.AppId.{AppId}
+use Rattle.st_net.specs.declared.entity.Entity.{Entity}
+use Rattle.st_net.specs.declared.entity.Row.{Row}
+use Rattle.st_net.specs.Groups.{Group}
+use Rattle.st_event.specs.declared.event.Event.TheVariants.{Submit, Check}
+use Rattle.st_event.specs.declared.event.Proposal.{Proposal}
+use Rattle.st_event.specs.declared.journal.Entry.{Entry}
+use Rattle.st_event.specs.declared.journal.TheConstants.{MAX_PENDING}
+use Rattle.st_event.specs.Proposals.{pending}
+use Rattle.st_wire.specs.declared.line.WireLine.{WireLine}
+use Rattle.st_world.specs.declared.world.rounds.Going.{Going}
+use Rattle.st_world.specs.declared.world.rounds.Going.TheVariants.{On, Full}
+use Rattle.st_world.specs.declared.world.rounds.Rounded.{Rounded}
+use Rattle.st_world.specs.declared.world.rounds.Rounded.TheVariants.{Did, JournalFull}
+use Rattle.st_world.specs.World.{WorldView, IsBeginning}
+use Rattle.st_world.specs.Rounds.{Run, run_from, run_at, enter, turns, unsettled, round, Rounds, Goes, HasSamePlant, IsPartOf}
+use Rattle.st_world.specs.Acts.{checked_while, is_something, is_none_left, proposed, rounds_done, with_room}
+use Rattle.st_world.proofs.RunLaws.{beginning-self, beginning-more, enter-grows, enter-stopped, turns-grows, turns-stopped, round-grows}
+use Rattle.st_world.proofs.RoundLaws.{IsOnWay, part_goes, part_parts, stops_there}
+
+-- at the start all of a run is left
+pub way_start : (w : WorldView) (whole : Run) → IsOnWay w w whole whole
+way_start w whole = record { began = beginning-self w.history.past; plant = record { group = refl; lines = refl }; ends = refl }
+
+-- where nothing is left the world has gone through all of the run
+goes_none : (old now : WorldView) (whole left : Run) → IsOnWay old now whole left → left ≡ run_from now.history.past → Goes now whole On
+goes_none old now whole left way none = sym none ∙ way.ends
+
+-- of two runs that a test chooses between, each goes on from the same beginning
+by_test-grows : (past : List Entry) (b : Bool) (first second : Run) → IsBeginning past first.past → IsBeginning past second.past → IsBeginning past (if b then first else second).past
+by_test-grows past true first second one two = one
+by_test-grows past false first second one two = two
+
+-- proposals
+
+pub with_room-grows : (g : Group) (run : Run) → IsBeginning run.past (with_room g run).past
+with_room-grows g run = by_test-grows run.past (length (pending run.past) == MAX_PENDING) (enter g run Check) run (enter-grows g run Check) (beginning-self run.past)
+
+pub proposed-grows : (g : Group) (run : Run) (app : AppId) (rows : List Row) → IsBeginning run.past (proposed g run app rows).past
+proposed-grows g run app rows =
+    let room = with_room g run in
+    beginning-more run.past room.past (proposed g run app rows).past (with_room-grows g run) (enter-grows g room (Submit app rows))
+
+-- the proposal that follows the check that makes room
+abbrev pub submitting : AppId → List Row → Group → List WireLine → Run → Run
+submitting app rows g lines run = enter g run (Submit app rows)
+
+-- checks
+
+-- where what is pending does not pass no check is made
+while_none : (g : Group) (waits : List Proposal → Bool) (n : ℕ) (run : Run) → waits (pending run.past) ≡ false → checked_while g waits n run ≡ run
+unfolding checked_while
+while_none g waits zero run none = refl
+while_none g waits (suc n) run none = rw none refl
+
+-- else one check is made first
+while_one : (g : Group) (waits : List Proposal → Bool) (n : ℕ) (run : Run) → waits (pending run.past) ≡ true → checked_while g waits (suc n) run ≡ checked_while g waits n (enter g run Check)
+unfolding checked_while
+while_one g waits n run some = rw some refl
+
+while_zero : (g : Group) (waits : List Proposal → Bool) (run : Run) → checked_while g waits 0 run ≡ run
+unfolding checked_while
+while_zero g waits run = refl
+
+by_waiting : (g : Group) (waits : List Proposal → Bool) (n : ℕ) (run : Run) (b : Bool) → checked_while g waits n (enter g run Check) ≡ run → (if b then checked_while g waits n (enter g run Check) else run) ≡ run
+by_waiting g waits n run true rest = rest
+by_waiting g waits n run false rest = refl
+
+-- a run that has stopped stays as it is
+pub while-stopped : (g : Group) (waits : List Proposal → Bool) (n : ℕ) (run : Run) → run.stopped ≡ true → checked_while g waits n run ≡ run
+unfolding checked_while
+while-stopped g waits zero run stopped = refl
+while-stopped g waits (suc n) run stopped =
+    by_waiting g waits n run (waits (pending run.past)) (ap (checked_while g waits n) (enter-stopped g run Check stopped) ∙ while-stopped g waits n run stopped)
+
+pub while-grows : (g : Group) (waits : List Proposal → Bool) (n : ℕ) (run : Run) → IsBeginning run.past (checked_while g waits n run).past
+unfolding checked_while
+while-grows g waits zero run = beginning-self run.past
+while-grows g waits (suc n) run =
+    let next = enter g run Check in
+    by_test-grows run.past (waits (pending run.past)) (checked_while g waits n next) run
+    (beginning-more run.past next.past (checked_while g waits n next).past (enter-grows g run Check) (while-grows g waits n next))
+    (beginning-self run.past)
+
+-- so many checks, from where a world stands
+abbrev pub checks_from : (List Proposal → Bool) → ℕ → WorldView → Run
+checks_from waits n w = checked_while w.history.group waits n (run_from w.history.past)
+
+-- on the way of all checks, the others are left once so many were made
+abbrev pub IsChecking : (List Proposal → Bool) → WorldView → WorldView → ℕ → Type 0
+IsChecking waits old now made = IsOnWay old now (checks_from waits MAX_PENDING old) (checks_from waits (MAX_PENDING - made) now)
+
+-- no check was made yet
+pub checking_starts : (waits : List Proposal → Bool) (w : WorldView) → IsChecking waits w w 0
+checking_starts waits w = way_start w (checks_from waits MAX_PENDING w)
+
+-- where nothing passes any more all checks were made
+pub checks_end : (waits : List Proposal → Bool) (old now : WorldView) (made : ℕ) → waits (pending now.history.past) ≡ false → IsChecking waits old now made → Goes now (checks_from waits MAX_PENDING old) On
+checks_end waits old now made none way =
+    goes_none old now (checks_from waits MAX_PENDING old) (checks_from waits (MAX_PENDING - made) now) way (while_none now.history.group waits (MAX_PENDING - made) (run_from now.history.past) none)
+
+-- and where so many were made none is left
+pub checks_all : (waits : List Proposal → Bool) (old now : WorldView) (made : ℕ) → MAX_PENDING ≤ made → IsChecking waits old now made → Goes now (checks_from waits MAX_PENDING old) On
+checks_all waits old now made all way =
+    let none_left : MAX_PENDING - made ≡ 0 = omega arith in
+    goes_none old now (checks_from waits MAX_PENDING old) (checks_from waits (MAX_PENDING - made) now) way
+    (ap (λ (n : ℕ). checks_from waits n now) none_left ∙ while_zero now.history.group waits (run_from now.history.past))
+
+-- the check that is made now, and those behind it
+abbrev check_now : WorldView → Run
+check_now w = enter w.history.group (run_from w.history.past) Check
+
+abbrev checks_behind : (List Proposal → Bool) → ℕ → Group → List WireLine → Run → Run
+checks_behind waits made g lines run = checked_while g waits (MAX_PENDING - (made + 1)) run
+
+first_check : (waits : List Proposal → Bool) (now : WorldView) (made : ℕ) → made < MAX_PENDING → waits (pending now.history.past) ≡ true → checks_from waits (MAX_PENDING - made) now ≡ checks_behind waits made now.history.group now.lines (check_now now)
+first_check waits now made few some =
+    let fewer : MAX_PENDING - made ≡ suc (MAX_PENDING - (made + 1)) = omega arith in
+    ap (λ (n : ℕ). checks_from waits n now) fewer ∙ while_one now.history.group waits (MAX_PENDING - (made + 1)) (run_from now.history.past) some
+
+-- after one check more the others are left
+pub check_goes : (waits : List Proposal → Bool) (old now next : WorldView) (made : ℕ) (going : Going) → IsChecking waits old now made → made < MAX_PENDING → waits (pending now.history.past) ≡ true → Goes next (check_now now) going → going ≡ On → HasSamePlant now next → IsChecking waits old next (made + 1)
+check_goes waits old now next made going way few some =
+    part_goes (checks_behind waits made) old now next (checks_from waits MAX_PENDING old) (checks_from waits (MAX_PENDING - made) now) (check_now now) going way
+    (first_check waits now made few some) (enter-grows now.history.group (run_from now.history.past) Check)
+
+-- where a check meets a full journal no other follows
+pub check_stops : (waits : List Proposal → Bool) (old now next : WorldView) (made : ℕ) (going : Going) → IsChecking waits old now made → made < MAX_PENDING → waits (pending now.history.past) ≡ true → Goes next (check_now now) going → going ≡ Full → Goes next (checks_from waits MAX_PENDING old) Full
+check_stops waits old now next made going way few some is full =
+    stops_there (checks_behind waits made now.history.group now.lines) next (check_now now) going is full (while-stopped now.history.group waits (MAX_PENDING - (made + 1)) (run_at Full next) refl)
+    ∙ sym (first_check waits now made few some)
+    ∙ way.ends
+
+-- and where it meets an `Err` a part of them was made
+pub check_parts : {T E : Type 0} (r : Result T E) (waits : List Proposal → Bool) (old now next : WorldView) (made : ℕ) → IsChecking waits old now made → made < MAX_PENDING → waits (pending now.history.past) ≡ true → IsPartOf now next (check_now now) → OnErr r (IsPartOf old next (checks_from waits MAX_PENDING old))
+check_parts r waits old now next made way few some =
+    part_parts r old now next (checks_from waits MAX_PENDING old) (checks_from waits (MAX_PENDING - made) now) (checks_behind waits made now.history.group now.lines (check_now now)) (check_now now) way
+    (first_check waits now made few some) (while-grows now.history.group waits (MAX_PENDING - (made + 1)) (check_now now))
+
+pub nothing_waits : (ps : List Proposal) → length ps ≡ 0 → is_something ps ≡ false
+nothing_waits [] none = refl
+nothing_waits (p ∷ ps) none = absurd (omega arith)
+
+pub something_waits : (ps : List Proposal) → length ps ≢ 0 → is_something ps ≡ true
+something_waits [] some = absurd (some refl)
+something_waits (p ∷ ps) some = refl
+
+-- rounds
+
+none_settles : (g : Group) (lines : List WireLine) (n : ℕ) (run : Run) (b : Bool) → is_none_left (unsettled g run.past) ≡ b → b ≡ true → rounds_done g lines n run ≡ run
+unfolding rounds_done
+none_settles g lines zero run b is none = refl
+none_settles g lines (suc n) run b is none = rw (is, none) refl
+
+-- where every entity is settled no round is done
+rounds_none : (g : Group) (lines : List WireLine) (n : ℕ) (run : Run) → length (unsettled g run.past) ≡ 0 → rounds_done g lines n run ≡ run
+rounds_none g lines n run none = none_settles g lines n run (is_none_left (unsettled g run.past)) refl (no_entity (unsettled g run.past) none)
+  where
+    no_entity : (es : List Entity) → length es ≡ 0 → is_none_left es ≡ true
+    no_entity [] none = refl
+    no_entity (e ∷ es) none = absurd (omega arith)
+
+rounds_zero : (g : Group) (lines : List WireLine) (run : Run) → rounds_done g lines 0 run ≡ run
+unfolding rounds_done
+rounds_zero g lines run = refl
+
+by_left : (g : Group) (lines : List WireLine) (n : ℕ) (run : Run) (b : Bool) → rounds_done g lines n (turns g lines run (unsettled g run.past)) ≡ run → (if b then run else rounds_done g lines n (turns g lines run (unsettled g run.past))) ≡ run
+by_left g lines n run true rest = refl
+by_left g lines n run false rest = rest
+
+-- a run that has stopped stays as it is
+pub rounds-stopped : (g : Group) (lines : List WireLine) (n : ℕ) (run : Run) → run.stopped ≡ true → rounds_done g lines n run ≡ run
+unfolding rounds_done
+rounds-stopped g lines zero run stopped = refl
+rounds-stopped g lines (suc n) run stopped =
+    by_left g lines n run (is_none_left (unsettled g run.past)) (ap (rounds_done g lines n) (turns-stopped g lines run (unsettled g run.past) stopped) ∙ rounds-stopped g lines n run stopped)
+
+pub rounds-grows : (g : Group) (lines : List WireLine) (n : ℕ) (run : Run) → IsBeginning run.past (rounds_done g lines n run).past
+unfolding rounds_done
+rounds-grows g lines zero run = beginning-self run.past
+rounds-grows g lines (suc n) run =
+    let es = unsettled g run.past in
+    let next = turns g lines run es in
+    by_test-grows run.past (is_none_left es) run (rounds_done g lines n next)
+    (beginning-self run.past)
+    (beginning-more run.past next.past (rounds_done g lines n next).past (turns-grows g lines run es) (rounds-grows g lines n next))
+
+by_entities : (g : Group) (lines : List WireLine) (n : ℕ) (run : Run) (es : List Entity) → unsettled g run.past ≡ es → rounds_done g lines (suc n) run ≡ rounds_done g lines n (turns g lines run es)
+unfolding rounds_done
+by_entities g lines n run [] none = rw none (sym (none_settles g lines n run true (ap is_none_left none) refl))
+by_entities g lines n run (e ∷ es) some = rw some refl
+
+-- a round more is done, and it changes nothing where every entity is settled
+rounds_one : (g : Group) (lines : List WireLine) (n : ℕ) (past : List Entry) → rounds_done g lines (suc n) (run_from past) ≡ rounds_done g lines n (round g lines past)
+rounds_one g lines n past = by_entities g lines n (run_from past) (unsettled g past) refl
+
+-- so many rounds, from where a world stands
+abbrev pub rounds_from : ℕ → WorldView → Run
+rounds_from n w = rounds_done w.history.group w.lines n (run_from w.history.past)
+
+-- on the way of all rounds, the others are left once so many were done
+abbrev pub IsSettling : ℕ → WorldView → WorldView → ℕ → Type 0
+IsSettling rounds old now made = IsOnWay old now (rounds_from rounds old) (rounds_from (rounds - made) now)
+
+-- no round was done yet
+pub settling_starts : (rounds : ℕ) (w : WorldView) → IsSettling rounds w w 0
+settling_starts rounds w =
+    let all_left : rounds ≡ rounds - 0 = omega arith in
+    subst (λ (n : ℕ). IsOnWay w w (rounds_from rounds w) (rounds_from n w)) all_left (way_start w (rounds_from rounds w))
+
+-- where every entity is settled the others change nothing
+settles_none : (rounds : ℕ) (old now : WorldView) (made : ℕ) → length (unsettled now.history.group now.history.past) ≡ 0 → IsSettling rounds old now made → Goes now (rounds_from rounds old) On
+settles_none rounds old now made none way =
+    goes_none old now (rounds_from rounds old) (rounds_from (rounds - made) now) way (rounds_none now.history.group now.lines (rounds - made) (run_from now.history.past) none)
+
+-- and where so many were done none is left
+pub rounds_all : (rounds : ℕ) (old now : WorldView) (made : ℕ) → rounds ≤ made → IsSettling rounds old now made → Goes now (rounds_from rounds old) On
+rounds_all rounds old now made all way =
+    let none_left : rounds - made ≡ 0 = omega arith in
+    goes_none old now (rounds_from rounds old) (rounds_from (rounds - made) now) way
+    (ap (λ (n : ℕ). rounds_from n now) none_left ∙ rounds_zero now.history.group now.lines (run_from now.history.past))
+
+-- the round that is done now, and those behind it
+abbrev round_now : WorldView → Run
+round_now w = round w.history.group w.lines w.history.past
+
+abbrev rounds_behind : ℕ → ℕ → Group → List WireLine → Run → Run
+rounds_behind rounds made g lines run = rounds_done g lines (rounds - (made + 1)) run
+
+first_round : (rounds : ℕ) (now : WorldView) (made : ℕ) → made < rounds → rounds_from (rounds - made) now ≡ rounds_behind rounds made now.history.group now.lines (round_now now)
+first_round rounds now made few =
+    let fewer : rounds - made ≡ suc (rounds - (made + 1)) = omega arith in
+    ap (λ (n : ℕ). rounds_from n now) fewer ∙ rounds_one now.history.group now.lines (rounds - (made + 1)) now.history.past
+
+-- after one round more the others are left
+pub round_goes : (rounds : ℕ) (old now next : WorldView) (made : ℕ) (answer : Rounded) (count : ℕ) → IsSettling rounds old now made → made < rounds → answer ≡ Did count → Rounds now next answer → HasSamePlant now next → IsSettling rounds old next (made + 1)
+round_goes rounds old now next made answer count way few is does plant =
+    let did : Rounds now next (Did count) = subst (λ (a : Rounded). Rounds now next a) is does in
+    part_goes (rounds_behind rounds made) old now next (rounds_from rounds old) (rounds_from (rounds - made) now) (round_now now) On way
+    (first_round rounds now made few) (round-grows now.history.group now.lines now.history.past) (sym did.0) refl plant
+
+-- where it leaves none unsettled it is the last
+pub round_settles : (rounds : ℕ) (old now next : WorldView) (made : ℕ) (answer : Rounded) (count : ℕ) → IsSettling rounds old now made → made < rounds → answer ≡ Did count → count ≡ 0 → Rounds now next answer → HasSamePlant now next → Goes next (rounds_from rounds old) On
+round_settles rounds old now next made answer count way few is none does plant =
+    let did : Rounds now next (Did count) = subst (λ (a : Rounded). Rounds now next a) is does in
+    settles_none rounds old next (made + 1) (sym did.1 ∙ none) (round_goes rounds old now next made answer count way few is does plant)
+
+-- where it meets a full journal no other follows
+pub round_stops : (rounds : ℕ) (old now next : WorldView) (made : ℕ) (answer : Rounded) (entries : ℕ) → IsSettling rounds old now made → made < rounds → answer ≡ JournalFull entries → Rounds now next answer → Goes next (rounds_from rounds old) Full
+round_stops rounds old now next made answer entries way few is does =
+    let stopped : Rounds now next (JournalFull entries) = subst (λ (a : Rounded). Rounds now next a) is does in
+    stops_there (rounds_behind rounds made now.history.group now.lines) next (round_now now) Full (sym stopped.0) refl (rounds-stopped now.history.group now.lines (rounds - (made + 1)) (run_at Full next) refl)
+    ∙ sym (first_round rounds now made few)
+    ∙ way.ends
+
+-- and where it meets an `Err` a part of them was done
+pub round_parts : {T E : Type 0} (r : Result T E) (rounds : ℕ) (old now next : WorldView) (made : ℕ) → IsSettling rounds old now made → made < rounds → IsPartOf now next (round_now now) → OnErr r (IsPartOf old next (rounds_from rounds old))
+round_parts r rounds old now next made way few =
+    part_parts r old now next (rounds_from rounds old) (rounds_from (rounds - made) now) (rounds_behind rounds made now.history.group now.lines (round_now now)) (round_now now) way
+    (first_round rounds now made few) (rounds-grows now.history.group now.lines (rounds - (made + 1)) (round_now now))
