@@ -9,17 +9,18 @@ use Rattle.st_text.proofs.WordLemmas.{word_lines_cut_again, words_cut_again, wor
 use Rattle.st_net.proofs.Tests.{both, turned}
 use Rattle.st_net.specs.Names.{is_among}
 use Rattle.st_net.specs.Groups.{are_new}
+use Rattle.st_token.specs.declared.fault.FaultKind.{FaultKind}
+use Rattle.st_token.specs.Steps.{◌>>=◌}
+use Rattle.st_token.specs.Reading.{read_on}
+use Rattle.st_token.proofs.ReadTokens.{came_from}
 use Rattle.st_grammar.specs.declared.doc.Doc.{Doc}
-use Rattle.st_grammar.specs.declared.fault.DocKind.{DocKind}
-use Rattle.st_grammar.specs.Steps.{◌>>=◌}
 use Rattle.st_grammar.specs.Draft.{Draft, nothing}
 use Rattle.st_grammar.specs.Lines.{tokens_line, line_of}
-use Rattle.st_grammar.specs.Reading.{read_on, doc_of, document_of}
-use Rattle.st_grammar.proofs.SoundLines.{came_from}
+use Rattle.st_grammar.specs.Reading.{doc_of, document_of}
 use Rattle.st_doc.specs.Printed.{Words}
 
 -- what lines of words, one after another, make of a draft
-abbrev pub takes : Draft → List Words → Result Draft DocKind
+abbrev pub takes : Draft → List Words → Result Draft FaultKind
 takes d [] = Ok d
 takes d (words ∷ more) = tokens_line d words >>= λ next. takes next more
 
@@ -101,12 +102,12 @@ line_again : (d e : Draft) (words : Words) → AllByRecursion IsWord words → t
 unfolding line_of
 line_again d e words all p = rw (words_allowed words all, words_cut_again words all) p
 
-lines_again : (lines : List Words) (d e : Draft) (n : ℕ) → AllByRecursion (AllByRecursion IsWord) lines → takes d lines ≡ Ok e → e.begun ≡ true → read_on d n (map line_text lines) ≡ Ok e
-lines_again [] d e n all p b = let same : d ≡ e = cc in rw (same, b) refl
-lines_again (w ∷ ws) d e n all p b =
+lines_again : (lines : List Words) (d e : Draft) (n : ℕ) → AllByRecursion (AllByRecursion IsWord) lines → takes d lines ≡ Ok e → read_on line_of d n (map line_text lines) ≡ Ok e
+lines_again [] d e n all p = let same : d ≡ e = cc in rw same refl
+lines_again (w ∷ ws) d e n all p =
     let step = came_from (tokens_line d w) (λ next. takes next ws) e p in
-    rw (line_again d step.0 w all.0 step.1) (lines_again ws step.0 e (n + 1) all.1 step.2 b)
+    rw (line_again d step.0 w all.0 step.1) (lines_again ws step.0 e (n + 1) all.1 step.2)
 
 -- lines that make a draft of nothing are the text of its document
 pub text_again : (lines : List Words) (e : Draft) (doc : Doc) → Prints nothing lines e → e.begun ≡ true → doc_of e ≡ doc → document_of (text_of lines) ≡ Ok doc
-text_again lines e doc p b is = rw (word_lines_cut_again lines p.words, lines_again lines nothing e 1 p.words p.taken b, is) refl
+text_again lines e doc p b is = rw (word_lines_cut_again lines p.words, lines_again lines nothing e 1 p.words p.taken, b, is) refl

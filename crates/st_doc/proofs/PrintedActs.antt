@@ -19,28 +19,33 @@ use Rattle.st_net.specs.declared.topo.TheConstants.{MAX_ROWS}
 use Rattle.st_net.specs.Names.{is_name, is_among, place_of}
 use Rattle.st_net.specs.Entities.{is_same_entity, is_same_var, is_var_of, place_of as var_place}
 use Rattle.st_net.specs.Groups.{Group, IsEntityOf, name_of, are_new}
-use Rattle.st_net.specs.Ranges.{RowFits, RowsFit, is_health_of, is_in_range, is_free_of, are_apart}
+use Rattle.st_net.specs.Ranges.{RowFits, RowsFit, is_health_of, is_in_range, is_free_of, are_apart, IsVariableOf, IsChangeOf, IsOn}
 use Rattle.st_net.specs.Faults.{group_of, device_names, link_names, device_opening, link_opening}
 use Rattle.st_event.specs.declared.act.Act.{Act}
 use Rattle.st_event.specs.declared.act.Act.TheVariants.{Propose, Await, Settle, Lock, Unlock, Read, ReadAt, Fail, Poll}
+use Rattle.st_token.specs.ReadingBack.{IsNamed, IsPrintable}
+use Rattle.st_token.proofs.PrintedRows.{IsOwnValue, rows_again, rows_words, values_again, values_words, free_of_none}
+use Rattle.st_token.specs.Spelling.{known_name_in, most_health, is_comment}
+use Rattle.st_token.specs.Variables.{rows_in, values_in}
+use Rattle.st_token.proofs.RowLemmas.{same_flipped, free_last}
+use Rattle.st_token.specs.Words.{prio_word, assignment_word, value_word, variable_word}
+use Rattle.st_token.proofs.PrintedTokens.{each, row_of, name_word, number_is_word, prio_is_word, assignment_is_word, value_is_word, variable_is_word, literal, ranged, known_name_again, entity_again, number_again, within_again, prio_again, new_assignment_again, new_value_again, variable_again}
 use Rattle.st_grammar.specs.declared.keyword.Keyword.TheVariants as keywords
 use Rattle.st_grammar.specs.declared.keyword.CommandWord.{CommandWord}
 use Rattle.st_grammar.specs.declared.keyword.CommandWord.TheVariants as command_words
 use Rattle.st_grammar.specs.declared.limits.TheConstants.{MAX_ACTS, MAX_ROUNDS}
 use Rattle.st_grammar.specs.declared.doc.Script.{Script}
 use Rattle.st_grammar.specs.Draft.{GroupDraft, Draft, groups_of, group_names, parts_of}
-use Rattle.st_grammar.specs.Spelling.{known_name_in, entity_named, most_health}
-use Rattle.st_grammar.specs.Commands.{rows_in, values_in, group_in, group_entity_in, propose_of, await_of, settle_of, lock_of, unlock_of, read_of, readat_of, fail_of, poll_of, act_of}
-use Rattle.st_grammar.specs.Keywords.{keyword_of, is_comment}
+use Rattle.st_grammar.specs.Spelling.{entity_named}
+use Rattle.st_grammar.specs.Commands.{group_in, group_entity_in, propose_of, await_of, settle_of, lock_of, unlock_of, read_of, readat_of, fail_of, poll_of, act_of}
+use Rattle.st_grammar.specs.Keywords.{keyword_of}
 use Rattle.st_grammar.specs.Lines.{act_added, act_line, tokens_line, keyword_line, phased_line}
-use Rattle.st_grammar.specs.Sound.{IsSoundGroup, IsSoundAct, IsGroupWith, IsVariableOf, IsChangeOf, IsOn}
+use Rattle.st_grammar.specs.Sound.{IsSoundGroup, IsSoundAct, IsGroupWith}
 use Rattle.st_grammar.proofs.SoundGroups.{IsSoundDraftGroup}
-use Rattle.st_grammar.proofs.SoundActs.{flipped, same_flipped, free_last}
 use Rattle.st_grammar.proofs.SoundParts.{drafted, sound_parts}
 use Rattle.st_grammar.proofs.SoundDocs.{names_of}
-use Rattle.st_doc.specs.Printed.{Words, prio_word, assignment_word, value_word, variable_word, no_parts, group_at, entity_word, assignment_words, value_words, act_words}
+use Rattle.st_doc.specs.Printed.{Words, no_parts, group_at, entity_word, assignment_words, value_words, act_words}
 use Rattle.st_doc.proofs.PrintSteps.{Prints, prints_line, amid, new_before}
-use Rattle.st_doc.proofs.PrintedTokens.{row_of, name_word, number_is_word, prio_is_word, assignment_is_word, value_is_word, variable_is_word, literal, ranged, known_name_again, entity_again, number_again, within_again, prio_again, new_assignment_again, new_value_again, variable_again}
 use Rattle.st_doc.proofs.PrintedParts.{each_spelled, names_amid, device_new, link_new}
 use Rattle.st_doc.proofs.PrintedOpenings.{place_amid, device_found, link_found}
 use Rattle.st_doc.proofs.PrintedGroups.{Begun, all_of}
@@ -100,9 +105,8 @@ group_known d groups n are sound new low =
     }
 
 -- an entity by its name
-pub record EntityKnown (g : GroupDraft) (name : List ℕ) (e : Entity) : Type 0 where
-  pub spelled : is_name name ≡ true
-  pub found : entity_named g name ≡ Some e
+abbrev pub EntityKnown : GroupDraft → List ℕ → Entity → Type 0
+EntityKnown g name e = IsNamed (entity_named g) name e
 
 pub name_at : {X : Type 0} (f : X → List ℕ) (xs : List X) (n : ℕ) (s : Split xs n) → slice_index_or (map f xs) n [] ≡ f s.item
 name_at f xs n s =
@@ -133,63 +137,11 @@ known_here g (Link i) s low =
 pub entity_known : (g : GroupDraft) (p : Parts) (e : Entity) → parts_of g ≡ p → IsSoundGroup (parts_of g) → IsEntityOf (group_of p) e → EntityKnown g (name_of (group_of p) e) e
 entity_known g p e are s low = subst (λ (p : Parts). IsEntityOf (group_of p) e → EntityKnown g (name_of (group_of p) e) e) are (known_here g e (sound_parts (parts_of g) s)) low
 
--- rows on other variables
-abbrev IsFree : List Row → Row → Type 0
-IsFree set row = is_free_of row.entity row.var set ≡ true
-
-others : (set : List Row) (row : Row) (rows : List Row) → is_free_of row.entity row.var rows ≡ true → AllByRecursion (IsFree set) rows → AllByRecursion (IsFree (set ++ row ∷ [])) rows
-others set row [] apart free = tt
-others set row (next ∷ rows) apart free =
-    let parts = both (not (is_same_entity next.entity row.entity && is_same_var next.var row.var)) (is_free_of row.entity row.var rows) apart in
-    let turned : not (is_same_entity row.entity next.entity && is_same_var row.var next.var) ≡ true = rw (same_flipped row.entity next.entity, flipped (var_place row.var) (var_place next.var)) parts.0 in
-    (free_last next.entity next.var set row free.0 turned, others set row rows parts.1 free.1)
-
-free_of_none : (rows : List Row) → AllByRecursion (IsFree []) rows
-free_of_none [] = tt
-free_of_none (row ∷ rows) = (refl, free_of_none rows)
-
 -- the rows of a proposal
-module _ (g : GroupDraft) (p : Parts) (are : parts_of g ≡ p) (sound : IsSoundGroup (parts_of g)) where
-  abbrev row_word : Row → List ℕ
-  row_word row = assignment_word (name_of (group_of p) row.entity) row.var row.value
-
-  rows_again : (set rows : List Row) → AllByRecursion (RowFits (group_of p)) rows → are_apart rows ≡ true → AllByRecursion (IsFree set) rows → rows_in g set (map row_word rows) ≡ Ok (set ++ rows)
-  unfolding rows_in
-  rows_again set [] fits apart free = ap Ok (sym (append-nil set))
-  rows_again set (row ∷ rows) fits apart free =
-      let parts = both (is_free_of row.entity row.var rows) (are_apart rows) apart in
-      let known = entity_known g p row.entity are sound fits.0.entity in
-      rw (new_assignment_again g set (name_of (group_of p) row.entity) row.entity row.var row.value known.spelled known.found fits.0.range free.0)
-      (rows_again (set ++ row ∷ []) rows fits.1 parts.1 (others set row rows parts.0 free.1) ∙ ap Ok (append_assoc set (row ∷ []) rows))
-
-  rows_words : (rows : List Row) → AllByRecursion (RowFits (group_of p)) rows → AllByRecursion IsWord (map row_word rows)
-  rows_words [] fits = tt
-  rows_words (row ∷ rows) fits =
-      let known = entity_known g p row.entity are sound fits.0.entity in
-      (assignment_is_word (name_of (group_of p) row.entity) row.var row.value known.spelled (ranged row.entity row.var row.value fits.0.range).1, rows_words rows fits.1)
+fitting : (g : GroupDraft) (p : Parts) (are : parts_of g ≡ p) (sound : IsSoundGroup (parts_of g)) (rows : List Row) → AllByRecursion (RowFits (group_of p)) rows → AllByRecursion (IsPrintable (entity_named g) (name_of (group_of p))) rows
+fitting g p are sound = each (RowFits (group_of p)) (IsPrintable (entity_named g) (name_of (group_of p))) (λ row fits. record { named = entity_known g p row.entity are sound fits.entity; range = fits.range })
 
 -- the values of a failure
-abbrev IsOwnValue : Entity → Row → Type 0
-IsOwnValue e row = (row.entity ≡ e) × (is_in_range row.entity row.var row.value ≡ true)
-
-abbrev row_value : Row → List ℕ
-row_value row = value_word row.var row.value
-
-values_again : (e : Entity) (set rows : List Row) → AllByRecursion (IsOwnValue e) rows → are_apart rows ≡ true → AllByRecursion (IsFree set) rows → values_in e set (map row_value rows) ≡ Ok (set ++ rows)
-unfolding values_in
-values_again e set [] own apart free = ap Ok (sym (append-nil set))
-values_again e set (row ∷ rows) own apart free =
-    let parts = both (is_free_of row.entity row.var rows) (are_apart rows) apart in
-    let range : is_in_range e row.var row.value ≡ true = subst (λ (x : Entity). is_in_range x row.var row.value ≡ true) own.0.0 own.0.1 in
-    let fresh : is_free_of e row.var set ≡ true = subst (λ (x : Entity). is_free_of x row.var set ≡ true) own.0.0 free.0 in
-    let same : row_of e row.var row.value ≡ row = ap (λ (x : Entity). row_of x row.var row.value) (sym own.0.0) in
-    rw (new_value_again e set row.var row.value range fresh, same)
-    (values_again e (set ++ row ∷ []) rows own.1 parts.1 (others set row rows parts.0 free.1) ∙ ap Ok (append_assoc set (row ∷ []) rows))
-
-values_words : (e : Entity) (rows : List Row) → AllByRecursion (IsOwnValue e) rows → AllByRecursion IsWord (map row_value rows)
-values_words e [] own = tt
-values_words e (row ∷ rows) own = (value_is_word row.var row.value (ranged row.entity row.var row.value own.0.1).1, values_words e rows own.1)
-
 own_values : (e : Entity) (g : Group) (rows : List Row) → AllByRecursion (IsOn e) rows → AllByRecursion (RowFits g) rows → AllByRecursion (IsOwnValue e) rows
 own_values e g [] on fits = tt
 own_values e g (row ∷ rows) on fits = ((on.0, fits.0.range), own_values e g rows on.1 fits.1)
@@ -234,7 +186,7 @@ module _ (groups : List Parts) (sound : AllByRecursion IsSoundGroup groups) (new
 
   entity_found : (n : ℕ) (e : Entity) (k : GroupKnown here groups n) → EntityKnown k.group (entity_word groups n e) e → group_entity_in here (group_at groups n).name (entity_word groups n e) ≡ Ok (n, e)
   unfolding group_entity_in
-  entity_found n e k at = rw (found n k, entity_again k.group (entity_word groups n e) e at.spelled at.found) refl
+  entity_found n e k at = rw (found n k, entity_again (entity_named k.group) (entity_word groups n e) e at.spelled at.found) refl
 
   group_is_word : (n : ℕ) (k : GroupKnown here groups n) → IsWord (group_at groups n).name
   group_is_word n k = name_word (group_at groups n).name (named n k)
@@ -248,11 +200,13 @@ module _ (groups : List Parts) (sound : AllByRecursion IsSoundGroup groups) (new
   unfolding propose_of
   propose_asked n [] k fit = absurd (let some = fit.some in omega arith)
   propose_asked n (row ∷ rows) k fit =
-      let each : AllByRecursion (RowFits (group_of (group_at groups n))) (row ∷ rows) = recursion_from_All (RowFits (group_of (group_at groups n))) (row ∷ rows) fit.each in
-      let read = rows_again k.group (group_at groups n) k.parts k.sound [] (row ∷ rows) each fit.apart (free_of_none (row ∷ rows)) in
+      let all : AllByRecursion (RowFits (group_of (group_at groups n))) (row ∷ rows) = recursion_from_All (RowFits (group_of (group_at groups n))) (row ∷ rows) fit.each in
+      let name : Entity → List ℕ = name_of (group_of (group_at groups n)) in
+      let printable = fitting k.group (group_at groups n) k.parts k.sound (row ∷ rows) all in
+      let read = rows_again (entity_named k.group) name [] (row ∷ rows) printable fit.apart (free_of_none (row ∷ rows)) in
       record {
         taken = rw (found n k, read, at_most (length (row ∷ rows)) MAX_ROWS fit.few) refl;
-        words = (group_is_word n k, rows_words k.group (group_at groups n) k.parts k.sound (row ∷ rows) each);
+        words = (group_is_word n k, rows_words (entity_named k.group) name (row ∷ rows) printable);
       }
 
   await_asked : (n : ℕ) (k : GroupKnown here groups n) → Asked command_words.Await ((group_at groups n).name ∷ []) (Await n)
@@ -276,12 +230,12 @@ module _ (groups : List Parts) (sound : AllByRecursion IsSoundGroup groups) (new
 
   read_asked : (n : ℕ) (e : Entity) (v : Var) (k : GroupKnown here groups n) → EntityKnown k.group (entity_word groups n e) e → is_var_of e v ≡ true → Asked command_words.Read ((group_at groups n).name ∷ variable_word (entity_word groups n e) v ∷ []) (Read n e v)
   unfolding read_of
-  read_asked n e v k at is = record { taken = rw (found n k, variable_again k.group (entity_word groups n e) e v at.spelled at.found is) refl; words = (group_is_word n k, (variable_is_word (entity_word groups n e) v at.spelled, tt)) }
+  read_asked n e v k at is = record { taken = rw (found n k, variable_again (entity_named k.group) (entity_word groups n e) e v at.spelled at.found is) refl; words = (group_is_word n k, (variable_is_word (entity_word groups n e) v at.spelled, tt)) }
 
   readat_asked : (n version : ℕ) (e : Entity) (v : Var) (k : GroupKnown here groups n) → version < 2 ^ 32 → EntityKnown k.group (entity_word groups n e) e → is_var_of e v ≡ true
       → Asked command_words.ReadAt ((group_at groups n).name ∷ decimal version ∷ variable_word (entity_word groups n e) v ∷ []) (ReadAt n version e v)
   unfolding readat_of
-  readat_asked n version e v k small at is = record { taken = rw (found n k, number_again version small, variable_again k.group (entity_word groups n e) e v at.spelled at.found is) refl; words = (group_is_word n k, (number_is_word version small, (variable_is_word (entity_word groups n e) v at.spelled, tt))) }
+  readat_asked n version e v k small at is = record { taken = rw (found n k, number_again version small, variable_again (entity_named k.group) (entity_word groups n e) e v at.spelled at.found is) refl; words = (group_is_word n k, (number_is_word version small, (variable_is_word (entity_word groups n e) v at.spelled, tt))) }
 
   fail_asked : (n : ℕ) (e : Entity) (health : ℕ) (rows : List Row) (k : GroupKnown here groups n) → EntityKnown k.group (entity_word groups n e) e → IsChangeOf e health rows (group_of (group_at groups n))
       → Asked command_words.Fail ((group_at groups n).name ∷ entity_word groups n e ∷ decimal health ∷ value_words rows) (Fail n e health rows)

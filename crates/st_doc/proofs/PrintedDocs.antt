@@ -10,17 +10,17 @@ use Rattle.st_net.specs.declared.parts.Parts.{Parts}
 use Rattle.st_net.specs.Names.{is_name, is_among, place_of}
 use Rattle.st_net.specs.Groups.{are_new}
 use Rattle.st_wire.specs.declared.line.WireLine.{WireLine}
+use Rattle.st_token.specs.Spelling.{known_name_in}
+use Rattle.st_token.proofs.PrintedTokens.{name_word, literal, known_name_again}
 use Rattle.st_grammar.specs.declared.doc.Doc.{Doc}
 use Rattle.st_grammar.specs.declared.doc.Script.{Script}
 use Rattle.st_grammar.specs.declared.limits.TheConstants.{MAX_APPS, MAX_ACTS}
 use Rattle.st_grammar.specs.Draft.{Draft, nothing, app_names, parts_of}
-use Rattle.st_grammar.specs.Spelling.{known_name_in}
 use Rattle.st_grammar.specs.Lines.{app_line, known_names_in, order_line, tokens_line, keyword_line, phased_line}
 use Rattle.st_grammar.specs.Sound.{IsSoundGroup, IsSoundAct, IsSoundScript, AreSoundWires}
 use Rattle.st_doc.specs.Printed.{header_words, act_words, app_words, app_lines, app_name_at, order_words, doc_lines, without_journals}
 use Rattle.st_doc.specs.ReadingBack.{PrintsBack}
 use Rattle.st_doc.proofs.PrintSteps.{Prints, prints_none, prints_line, prints_both, along, lined, amid, new_before, text_again}
-use Rattle.st_doc.proofs.PrintedTokens.{name_word, literal, known_name_again}
 use Rattle.st_doc.proofs.PrintedParts.{names_amid, length_amid}
 use Rattle.st_doc.proofs.PrintedOpenings.{place_amid}
 use Rattle.st_doc.proofs.PrintedGroups.{Begun, all_of, begun_again, header_printed, groups_printed}

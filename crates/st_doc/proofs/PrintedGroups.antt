@@ -8,6 +8,7 @@ use Rattle.st_net.specs.declared.parts.Parts.{Parts}
 use Rattle.st_net.specs.Names.{is_name, is_among}
 use Rattle.st_net.specs.Groups.{are_new}
 use Rattle.st_wire.specs.declared.line.WireLine.{WireLine}
+use Rattle.st_token.proofs.PrintedTokens.{name_word, literal, new_name_again}
 use Rattle.st_grammar.specs.declared.limits.TheConstants.{MAX_GROUPS}
 use Rattle.st_grammar.specs.Draft.{GroupDraft, Draft, nothing, empty_group, group_names, parts_of}
 use Rattle.st_grammar.specs.Lines.{begun_name, group_line, tokens_line, keyword_line, phased_line}
@@ -17,7 +18,6 @@ use Rattle.st_grammar.proofs.SoundGroups.{IsSoundDraftGroup}
 use Rattle.st_grammar.proofs.SoundParts.{Noted, group_with, drafted, sound_parts}
 use Rattle.st_doc.specs.Printed.{header_words, group_words, device_words, link_words, promise_words, device_opens, link_opens, device_healths, link_healths, group_lines}
 use Rattle.st_doc.proofs.PrintSteps.{Prints, prints_line, prints_both, along, amid, new_before}
-use Rattle.st_doc.proofs.PrintedTokens.{name_word, literal, new_name_again}
 use Rattle.st_doc.proofs.PrintedParts.{sections, devices_printed, links_printed, promises_printed, names_amid, length_amid}
 use Rattle.st_doc.proofs.PrintedOpenings.{opens_printed}
 use Rattle.st_doc.proofs.PrintedHealths.{healths_printed}

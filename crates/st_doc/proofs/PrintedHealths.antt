@@ -15,17 +15,19 @@ use Rattle.st_net.specs.declared.parts.LinkPart.{LinkPart}
 use Rattle.st_net.specs.declared.parts.EndPart.{EndPart}
 use Rattle.st_net.specs.Names.{is_name, is_among}
 use Rattle.st_net.specs.Faults.{device_names, link_names}
-use Rattle.st_grammar.specs.declared.limits.TheConstants.{DEVICE_HEALTH, LINK_HEALTH}
+use Rattle.st_token.specs.declared.health.TheConstants.{DEVICE_HEALTH, LINK_HEALTH}
+use Rattle.st_token.specs.Spelling.{most_health}
+use Rattle.st_token.proofs.PrintedTokens.{each, name_word, number_is_word, literal, within_again}
 use Rattle.st_grammar.specs.Draft.{GroupDraft, Draft, device_told, link_told, with_health, has_health, is_told}
-use Rattle.st_grammar.specs.Spelling.{entity_named, most_health}
+use Rattle.st_grammar.specs.Spelling.{entity_named}
 use Rattle.st_grammar.specs.Sections.{health_of, health_line as health_line_of, own_end}
 use Rattle.st_grammar.specs.Lines.{tokens_line, keyword_line, phased_line}
-use Rattle.st_grammar.proofs.SoundGroups.{IsSoundDevice, IsSoundLink, IsSoundDraftGroup, each}
+use Rattle.st_grammar.proofs.SoundGroups.{IsSoundDevice, IsSoundLink, IsSoundDraftGroup}
 use Rattle.st_grammar.proofs.SoundSteps.{pushed_all}
 use Rattle.st_grammar.proofs.SoundParts.{Noted, group_with, drafted}
 use Rattle.st_doc.specs.Printed.{Words, health_words, device_healths, link_healths}
 use Rattle.st_doc.proofs.PrintSteps.{Prints, prints_none, prints_line, prints_both, along, amid}
-use Rattle.st_doc.proofs.PrintedTokens.{name_word, number_is_word, literal, untold_again, within_again}
+use Rattle.st_doc.proofs.PrintedTokens.{untold_again}
 use Rattle.st_doc.proofs.PrintedParts.{sections, each_spelled, device_new, link_new}
 use Rattle.st_doc.proofs.PrintedOpenings.{device_found, link_found, opened_device, opened_link, rows_noted}
 

@@ -20,17 +20,17 @@ use Rattle.st_net.specs.Names.{is_name, place_of, is_among}
 use Rattle.st_net.specs.Groups.{are_device_vals, are_link_vals}
 use Rattle.st_net.specs.Ranges.{is_device_value, is_link_value, is_in_range, is_free_of}
 use Rattle.st_net.specs.Faults.{device_names, link_names}
-use Rattle.st_grammar.specs.declared.limits.TheConstants.{DEVICE_HEALTH}
+use Rattle.st_token.specs.declared.health.TheConstants.{DEVICE_HEALTH}
+use Rattle.st_token.proofs.PrintedTokens.{each, row_of, assignment_is_word, literal, ranged, new_assignment_again}
 use Rattle.st_grammar.specs.Draft.{GroupDraft, Draft, device_default, link_default, device_opened, link_opened, with_open}
 use Rattle.st_grammar.specs.Spelling.{entity_named}
 use Rattle.st_grammar.specs.Sections.{open_of, open_line as open_line_of}
 use Rattle.st_grammar.specs.Lines.{tokens_line, keyword_line, phased_line}
-use Rattle.st_grammar.proofs.SoundGroups.{IsSoundDevice, IsSoundLink, IsSoundDraftGroup, each}
+use Rattle.st_grammar.proofs.SoundGroups.{IsSoundDevice, IsSoundLink, IsSoundDraftGroup}
 use Rattle.st_grammar.proofs.SoundSteps.{pushed_all, not_first, four_true}
 use Rattle.st_grammar.proofs.SoundParts.{Noted, nothing_noted, group_with, drafted}
 use Rattle.st_doc.specs.Printed.{Words, open_words, open_line, device_opens, link_opens}
 use Rattle.st_doc.proofs.PrintSteps.{Prints, prints_none, prints_line, prints_both, along, amid}
-use Rattle.st_doc.proofs.PrintedTokens.{row_of, assignment_is_word, literal, ranged, new_assignment_again}
 use Rattle.st_doc.proofs.PrintedParts.{sections, plain_device, plain_link, each_spelled, device_new, link_new}
 
 -- where a name stands that none before it is
@@ -97,7 +97,7 @@ open_printed : (gs : List GroupDraft) (g : GroupDraft) (name : List ℕ) (e : En
     → Prints (sections gs g) (open_words name v x ∷ []) (sections gs (with_open g (row_of e v x)))
 unfolding open_line_of open_of
 open_printed gs g name e v x spelled at range free =
-    prints_line (sections gs g) (open_words name v x) _ (open_taken gs g _ _ (rw (new_assignment_again g g.opens name e v x spelled at range free) refl))
+    prints_line (sections gs g) (open_words name v x) _ (open_taken gs g _ _ (rw (new_assignment_again (entity_named g) g.opens name e v x spelled at range free) refl))
     (literal (codes "open") refl refl, (assignment_is_word name v x spelled (ranged e v x range).1, tt))
 
 -- one value set, of the part amid others

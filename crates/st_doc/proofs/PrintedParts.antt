@@ -14,16 +14,17 @@ use Rattle.st_net.specs.declared.topo.TheConstants.{MAX_DEVICES, MAX_TORS, MAX_L
 use Rattle.st_net.specs.Names.{is_name, place_of, is_among}
 use Rattle.st_net.specs.Groups.{are_new, are_names}
 use Rattle.st_net.specs.Faults.{device_names, link_names, is_tor, is_tor_name, is_bad_pair, was_promised}
+use Rattle.st_token.proofs.NameLemmas.{found_spelled}
+use Rattle.st_token.proofs.PrintedTokens.{name_word, number_is_word, literal, new_name_again, within_again}
 use Rattle.st_grammar.specs.Draft.{GroupDraft, Draft, is_entity_name, tors, with_device, with_link, with_promise}
 use Rattle.st_grammar.specs.Sections.{has_device_room, new_device, device_of, device_line, new_link, link_of, link_line, promise_of, promise_line}
 use Rattle.st_grammar.specs.Lines.{tokens_line, keyword_line, phased_line}
 use Rattle.st_grammar.proofs.TorLemmas.{tors_push}
-use Rattle.st_grammar.proofs.NameLemmas.{found_spelled}
 use Rattle.st_grammar.proofs.SoundGroups.{IsSoundLink, IsSoundPromise, AreOtherPairs, IsSoundDraftGroup, tor_known}
 use Rattle.st_grammar.proofs.SoundParts.{nothing_noted, group_with, drafted}
 use Rattle.st_doc.specs.Printed.{Words, tor_word, device_words, link_words, promise_words}
 use Rattle.st_doc.proofs.PrintSteps.{Prints, prints_line, lined, amid, new_before}
-use Rattle.st_doc.proofs.PrintedTokens.{name_word, number_is_word, tor_is_word, literal, new_name_again, device_again, end_again, within_again, tor_again}
+use Rattle.st_doc.proofs.PrintedTokens.{tor_is_word, device_again, end_again, tor_again}
 
 -- a draft within the section of a group, behind others
 abbrev pub sections : List GroupDraft → GroupDraft → Draft

@@ -11,16 +11,17 @@ use Rattle.st_net.specs.Names.{is_name, is_among, place_of}
 use Rattle.st_net.specs.Groups.{are_new}
 use Rattle.st_wire.specs.declared.line.WireLine.{WireLine}
 use Rattle.st_wire.specs.declared.line.WireLine.TheVariants.{Drop, Repeat, Hold}
+use Rattle.st_token.specs.Spelling.{known_name_in}
+use Rattle.st_token.proofs.PrintedTokens.{name_word, number_is_word, literal, known_name_again, from_again, above_again}
 use Rattle.st_grammar.specs.declared.limits.TheConstants.{MAX_WIRE_LINES}
 use Rattle.st_grammar.specs.Draft.{GroupDraft, Draft, group_names, parts_of, with_wire, wired}
-use Rattle.st_grammar.specs.Spelling.{known_name_in}
 use Rattle.st_grammar.specs.Commands.{drop_of, repeat_of, hold_of}
 use Rattle.st_grammar.specs.Lines.{wire_count_of, wire_count, wire_line, tokens_line, keyword_line, phased_line}
 use Rattle.st_grammar.specs.Sound.{IsSoundGroup, IsSoundWire, AreSoundWires}
 use Rattle.st_grammar.proofs.SoundDocs.{names_of}
 use Rattle.st_doc.specs.Printed.{Words, wire_kind_word, wire_words as words_of_wire, wires_lines}
 use Rattle.st_doc.proofs.PrintSteps.{Prints, prints_none, prints_line, prints_both, amid, new_before}
-use Rattle.st_doc.proofs.PrintedTokens.{name_word, number_is_word, kind_is_word, literal, known_name_again, kind_again, from_again, above_again}
+use Rattle.st_doc.proofs.PrintedTokens.{kind_is_word, kind_again}
 use Rattle.st_doc.proofs.PrintedParts.{names_amid}
 use Rattle.st_doc.proofs.PrintedOpenings.{place_amid}
 use Rattle.st_doc.proofs.PrintedGroups.{Begun, all_of, grouped, Stands, no_lines}

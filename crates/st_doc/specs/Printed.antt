@@ -1,10 +1,7 @@
 -- The text of a document: lines of words, section by section.
 use Rattle.std.specs.Prelude.{ℕ, List, [], ◌∷◌, ◌++◌, Bool, true, false, ◌==◌, if◌then◌else◌, map, flat_map, codes, decimal, slice_index_or, None}
 use Rattle.st_text.specs.Words.{text_of}
-use Rattle.st_text.specs.Printed as words
 use Rattle.st_net.specs.declared.entity.Entity.{Entity}
-use Rattle.st_net.specs.declared.entity.Prio.{Prio}
-use Rattle.st_net.specs.declared.entity.Prio.TheVariants.{Low, High}
 use Rattle.st_net.specs.declared.entity.Row.{Row}
 use Rattle.st_net.specs.declared.entity.Var.{Var}
 use Rattle.st_net.specs.declared.entity.Var.TheVariants.{Power, Firmware, Config, Routing, LinkPower, Iface}
@@ -21,44 +18,23 @@ use Rattle.st_wire.specs.declared.line.WireKind.{WireKind}
 use Rattle.st_wire.specs.declared.line.WireKind.TheVariants.{Command, Report}
 use Rattle.st_wire.specs.declared.line.WireLine.{WireLine}
 use Rattle.st_wire.specs.declared.line.WireLine.TheVariants.{Drop, Repeat, Hold}
+use Rattle.st_token.specs.Words.{prio_word, value_word, assignment_word, variable_word}
+use Rattle.st_token.specs.declared.health.TheConstants.{DEVICE_HEALTH, LINK_HEALTH}
 use Rattle.st_grammar.specs.declared.doc.Doc.{Doc}
 use Rattle.st_grammar.specs.declared.doc.Script.{Script}
-use Rattle.st_grammar.specs.declared.limits.TheConstants.{DEVICE_HEALTH, LINK_HEALTH}
 
 -- a line's words, and lines of words
 abbrev pub Words : Type 0
 Words = List (List ℕ)
 
--- the words for a device's kind, a variable, a lock and a message's kind
+-- the words for a device's kind and a message's kind
 abbrev pub tor_word : Bool → List ℕ
 tor_word true = codes "tor"
 tor_word false = codes "switch"
 
-abbrev pub var_word : Var → List ℕ
-var_word Power = codes "power"
-var_word Firmware = codes "firmware"
-var_word Config = codes "config"
-var_word Routing = codes "routing"
-var_word LinkPower = codes "power"
-var_word Iface = codes "iface"
-
-abbrev pub prio_word : Prio → List ℕ
-prio_word Low = codes "low"
-prio_word High = codes "high"
-
 abbrev pub wire_kind_word : WireKind → List ℕ
 wire_kind_word Command = codes "command"
 wire_kind_word Report = codes "report"
-
--- VAR=NUMBER, NAME.VAR=NUMBER and NAME.VAR
-abbrev pub value_word : Var → ℕ → List ℕ
-value_word var value = words.value_word (var_word var) value
-
-abbrev pub assignment_word : List ℕ → Var → ℕ → List ℕ
-assignment_word name var value = words.assignment_word name (var_word var) value
-
-abbrev pub variable_word : List ℕ → Var → List ℕ
-variable_word name var = words.variable_word name (var_word var)
 
 -- the lines of a group's parts: an end is printed without a group
 abbrev pub group_words : List ℕ → Words

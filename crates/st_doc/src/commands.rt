@@ -1,58 +1,21 @@
 //! The commands of applications, and the wire lines: what a line of each word asks for. The reader adds it.
 
-ghost use Rattle.std.specs.Prelude.{◌≡◌, ◌<◌, ◌^◌, [], length, map, All, IfOk};
+ghost use Rattle.std.specs.Prelude.{map, All};
 ghost use Rattle.st_text.specs.Tokens.{token_in, IsTokenOf};
-ghost use Rattle.st_grammar.specs.Steps.{Gives};
-ghost use Rattle.st_grammar.specs.Commands.{rows_in, values_in, group_entity_in, propose_of, await_of, settle_of, lock_of, unlock_of, read_of, readat_of, fail_of, poll_of, act_of, drop_of, repeat_of, hold_of, wire_of};
+ghost use Rattle.st_token.specs.Steps.{Gives};
+ghost use Rattle.st_grammar.specs.Commands.{group_entity_in, propose_of, await_of, settle_of, lock_of, unlock_of, read_of, readat_of, fail_of, poll_of, act_of, drop_of, repeat_of, hold_of, wire_of};
 
 use crate::reader::Reader;
-use st_draft::{
-    Group, RowSet, four_of, known_name_in, most_health, new_value_in, number_above, number_from,
-    number_in, number_within, one_of, prio_in, three_of, two_of, wire_kind_in,
-};
+use st_draft::wire_kind_in;
 use st_event::{Act, Rows};
-use st_grammar::{CommandWord, DocKind, LineError, MAX_ROUNDS, WireWord};
+use st_grammar::{CommandWord, MAX_ROUNDS, WireWord};
 use st_net::{Entity, MAX_ROWS};
 use st_text::Token;
+use st_token::{
+    FaultKind, LineError, NamedEntities, four_of, most_health, number_above, number_from,
+    number_in, number_within, one_of, prio_in, rows_in, three_of, two_of, values_in, variable_in,
+};
 use st_wire::WireLine;
-use std::alloc::Global;
-
-/// The rows of assignments on different variables of a group.
-#[tactic(auto, unfolding(st_grammar::specs::Commands::rows_in))]
-fn rows_in(alloc: Global, group: &Group, line: &[u8], tokens: &[Token]) -> Result<Rows, LineError>
-    requires { All (IsTokenOf line.now) tokens.now }
-    ensures { Gives (λ rows. rows) result (rows_in group.now [] (map (token_in line.now) tokens.now)) }
-{
-    let mut set = RowSet::new(alloc);
-    for token in tokens {
-        match group.new_assignment_in(&set, &line[token.start..token.end]) {
-            Ok(row) => set.add(row)?,
-            Err(error) => return Err(error),
-        }
-    }
-    Ok(set.into_rows())
-}
-
-/// The rows of values on different variables of an entity.
-#[tactic(auto, unfolding(st_grammar::specs::Commands::values_in))]
-fn values_in(
-    alloc: Global,
-    entity: Entity,
-    line: &[u8],
-    tokens: &[Token],
-) -> Result<Rows, LineError>
-    requires { All (IsTokenOf line.now) tokens.now }
-    ensures { Gives (λ rows. rows) result (values_in entity [] (map (token_in line.now) tokens.now)) }
-{
-    let mut set = RowSet::new(alloc);
-    for token in tokens {
-        match new_value_in(entity, &set, &line[token.start..token.end]) {
-            Ok(row) => set.add(row)?,
-            Err(error) => return Err(error),
-        }
-    }
-    Ok(set.into_rows())
-}
 
 impl Reader {
     /// The group of a name, with the entity of a name in it.
@@ -61,7 +24,7 @@ impl Reader {
         ensures { Gives (λ e. e) result (group_entity_in self.now group.now name.now) }
     {
         let (place, group) = self.group_in(group)?;
-        let entity = group.entity_in(name)?;
+        let entity = group.entity_in(self.memory(), name)?;
         Ok((place, entity))
     }
 
@@ -72,14 +35,17 @@ impl Reader {
         ensures { Gives (λ act. act) result (propose_of self.now (map (token_in line.now) tokens.now)) }
     {
         if tokens.len() < 2 {
-            return Err(LineError::Bad(DocKind::Count));
+            return Err(LineError::Bad(FaultKind::Count));
         }
         let (group, parts) = self.group_in(&line[tokens[0].start..tokens[0].end])?;
         let rows = rows_in(self.memory(), parts, line, &tokens[1..])?;
-        if rows.as_slice().len() > MAX_ROWS {
-            return Err(LineError::Bad(DocKind::Limit));
+        if rows.len() > MAX_ROWS {
+            return Err(LineError::Bad(FaultKind::Limit));
         }
-        Ok(Act::Propose { group, rows })
+        Ok(Act::Propose {
+            group,
+            rows: Rows::new(rows),
+        })
     }
 
     #[tactic(auto, unfolding(st_grammar::specs::Commands::await_of))]
@@ -140,7 +106,7 @@ impl Reader {
     {
         let (name, variable) = two_of(line, tokens)?;
         let (group, parts) = self.group_in(name)?;
-        let (entity, var) = parts.variable_in(variable)?;
+        let (entity, var) = variable_in(self.memory(), parts, variable)?;
         Ok(Act::Read { group, entity, var })
     }
 
@@ -152,7 +118,7 @@ impl Reader {
         let (name, version, variable) = three_of(line, tokens)?;
         let (group, parts) = self.group_in(name)?;
         let version = number_in(version)?;
-        let (entity, var) = parts.variable_in(variable)?;
+        let (entity, var) = variable_in(self.memory(), parts, variable)?;
         Ok(Act::ReadAt {
             group,
             version,
@@ -167,7 +133,7 @@ impl Reader {
         ensures { Gives (λ act. act) result (fail_of self.now (map (token_in line.now) tokens.now)) }
     {
         if tokens.len() < 3 {
-            return Err(LineError::Bad(DocKind::Count));
+            return Err(LineError::Bad(FaultKind::Count));
         }
         let (name, entity, health) = three_of(line, &tokens[..3])?;
         let (group, entity) = self.group_entity_in(name, entity)?;
@@ -177,7 +143,7 @@ impl Reader {
             group,
             entity,
             health,
-            rows,
+            rows: Rows::new(rows),
         })
     }
 

@@ -2,9 +2,9 @@
 
 ghost use Rattle.std.specs.Prelude.{◌≡◌, map, All, slice_get, option_copied};
 ghost use Rattle.st_text.specs.Tokens.{token_in, IsTokenOf};
-ghost use Rattle.st_grammar.specs.Steps.{Gives};
+ghost use Rattle.st_token.specs.Steps.{Gives};
+ghost use Rattle.st_token.specs.Spelling.{known_name_in};
 ghost use Rattle.st_grammar.specs.Draft.{nothing, groups_of, group_names};
-ghost use Rattle.st_grammar.specs.Spelling.{known_name_in};
 ghost use Rattle.st_grammar.specs.Commands.{group_in};
 ghost use Rattle.st_grammar.specs.Lines.{has_section, is_allowed, declared_by, phased_line, keyword_line, header_line, tokens_line, line_of};
 
@@ -12,9 +12,10 @@ mod adding;
 mod ending;
 mod sections;
 
-use st_draft::{Group, Names, known_name_in};
-use st_grammar::{DocKind, Keyword, LineError, Script, is_comment, keyword_of, phase_of};
+use st_draft::Group;
+use st_grammar::{Keyword, Script, keyword_of, phase_of};
 use st_text::{Token, has_allowed_bytes, tokens};
+use st_token::{FaultKind, LineError, Names, TakesLines, is_comment, known_name_in};
 use std::alloc::Global;
 use std::marker::Model;
 
@@ -119,7 +120,7 @@ impl Reader {
         let place = self.group_number(token)?;
         match self.group_at(place as usize) {
             Some(group) => Ok((place, group)),
-            None => Err(LineError::Bad(DocKind::Unknown)),
+            None => Err(LineError::Bad(FaultKind::Unknown)),
         }
     }
 
@@ -156,12 +157,12 @@ impl Reader {
         ensures { Gives (λ _. self.new) result (keyword_line self.old word.now (map (token_in line.now) tokens.now)) }
     {
         match keyword_of(word) {
-            None => Err(LineError::Bad(DocKind::Word)),
+            None => Err(LineError::Bad(FaultKind::Word)),
             Some(keyword) => {
                 if self.is_allowed(keyword) {
                     self.phased(keyword, line, tokens)
                 } else {
-                    Err(LineError::Bad(DocKind::Word))
+                    Err(LineError::Bad(FaultKind::Word))
                 }
             }
         }
@@ -179,7 +180,7 @@ impl Reader {
             self.begun = true;
             return Ok(());
         }
-        Err(LineError::Bad(DocKind::Header))
+        Err(LineError::Bad(FaultKind::Header))
     }
 
     /// Takes a line with these tokens.
@@ -201,22 +202,23 @@ impl Reader {
         }
     }
 
-    /// Takes a line, given without its end.
-    #[tactic(auto, unfolding(st_grammar::specs::Lines::line_of))]
-    pub fn line(&mut self, line: &[u8]) -> Result<(), LineError>
-        ensures { Gives (λ _. self.new) result (line_of self.old line.now) }
-    {
-        if !has_allowed_bytes(line) {
-            return Err(LineError::Bad(DocKind::Byte));
-        }
-        let words = tokens(self.alloc, line)?;
-        self.words(line, words.as_slice())
-    }
-
     /// Whether the header stood.
     pub fn has_begun(&self) -> bool
         ensures { result ≡ self.now.begun }
     {
         self.begun
+    }
+}
+
+impl TakesLines for Reader {
+    ghost line_of = { line_of };
+
+    #[tactic(auto, unfolding(st_grammar::specs::Lines::line_of))]
+    fn line(&mut self, line: &[u8]) -> Result<(), LineError> {
+        if !has_allowed_bytes(line) {
+            return Err(LineError::Bad(FaultKind::Byte));
+        }
+        let words = tokens(self.alloc, line)?;
+        self.words(line, words.as_slice())
     }
 }

@@ -7,9 +7,9 @@ use Rattle.st_net.specs.declared.parts.DevicePart.{DevicePart}
 use Rattle.st_net.specs.declared.parts.LinkPart.{LinkPart}
 use Rattle.st_net.specs.declared.parts.PromisePart.{PromisePart}
 use Rattle.st_net.specs.Faults.{device_names}
+use Rattle.st_token.specs.declared.pairs.Pair.{Pair}
 use Rattle.st_grammar.specs.Draft.{GroupDraft, IsEntityIn, with_health, device_told, link_told}
 use Rattle.st_grammar.proofs.HealthLemmas.{told_device_names, told_link_names, told_devices_count, told_links_count, told_tors}
-use Rattle.st_draft.specs.declared.pairs.Pair.{Pair}
 use Rattle.st_draft.specs.GroupInside.{HasIndexes, HasPairs, HasKnownEnds}
 
 pub device_health_set : (ds : List DevicePart) (i : ℕ) (d : DevicePart) (h : ℕ) → d ≡ get_or ds i d → i < length ds → set ds i (record d { health = h }) ≡ device_told ds i h

@@ -1,5 +1,4 @@
-mod PairLemmas
-mod RowLemmas
+mod NumberLemmas
 mod GroupLemmas
 mod PromiseLemmas
 mod OpenLemmas

@@ -9,9 +9,9 @@ use Rattle.st_net.specs.declared.parts.DevicePart.{DevicePart}
 use Rattle.st_net.specs.declared.parts.PromisePart.{PromisePart}
 use Rattle.st_net.specs.Names.{place_of, is_among}
 use Rattle.st_net.specs.Faults.{device_names, number_of, was_promised}
-use Rattle.st_grammar.proofs.NameLemmas.{place_kept, among_kept}
-use Rattle.st_draft.specs.declared.pairs.Pair.{Pair}
-use Rattle.st_draft.specs.Pairs.{has_pair, pair_of}
+use Rattle.st_token.proofs.NameLemmas.{place_kept, among_kept}
+use Rattle.st_token.specs.declared.pairs.Pair.{Pair}
+use Rattle.st_token.specs.Pairs.{has_pair, pair_of}
 use Rattle.st_draft.specs.GroupInside.{pair_by, HasKnownEnds, HasPairs}
 
 -- the first name is the one, or it stands further on

@@ -7,10 +7,10 @@ use Rattle.st_net.specs.declared.parts.PromisePart.{PromisePart}
 use Rattle.st_net.specs.declared.topo.TheConstants.{MAX_DEVICES, MAX_LINKS}
 use Rattle.st_net.specs.Names.{is_among}
 use Rattle.st_net.specs.Faults.{device_names, link_names, number_of}
+use Rattle.st_token.specs.declared.pairs.Pair.{Pair}
+use Rattle.st_token.specs.Pairs.{pair_of}
 use Rattle.st_grammar.specs.Draft.{GroupDraft, tors}
 use Rattle.st_draft.specs.declared.group.Group.TheInside.{Inside}
-use Rattle.st_draft.specs.declared.pairs.Pair.{Pair}
-use Rattle.st_draft.specs.Pairs.{pair_of}
 
 abbrev pub draft_of : Inside → GroupDraft
 draft_of g = record {

@@ -2,25 +2,21 @@
 
 ghost use Rattle.std.specs.Prelude.{◌≡◌, map, length, OnOk, IfOk, All};
 ghost use Rattle.st_text.specs.Tokens.{token_in, IsTokenOf};
-ghost use Rattle.st_grammar.specs.Steps.{Gives};
+ghost use Rattle.st_token.specs.Steps.{Gives};
 ghost use Rattle.st_grammar.specs.Draft.{empty_group, is_entity_name, IsEntityIn, parts_of, with_wire};
-ghost use Rattle.st_grammar.specs.Spelling.{device_in, entity_in};
+ghost use Rattle.st_grammar.specs.Spelling.{device_in, entity_named};
 ghost use Rattle.st_grammar.specs.Sections.{part_line};
 
 mod opening;
 mod parts;
-mod variables;
 
-use crate::names::Names;
 use crate::numbers::Numbers;
-use crate::pairs::Pairs;
-use crate::row_set::RowSet;
-use crate::spelling::name_in;
-use st_grammar::{DocKind, LineError, PartWord, WireLines};
+use st_grammar::{PartWord, WireLines};
 use st_net::{
     DevicePart, DeviceParts, Entity, LinkPart, LinkParts, Name, Parts, PromisePart, PromiseParts,
 };
 use st_text::Token;
+use st_token::{FaultKind, LineError, NamedEntities, Names, Pairs, RowSet, name_in};
 use st_wire::WireLine;
 use std::alloc::{AllocError, Global};
 use std::marker::Model;
@@ -108,24 +104,8 @@ impl Group {
         if self.device_names.find(name.bytes()).is_some() {
             Ok(name)
         } else {
-            Err(LineError::Bad(DocKind::Unknown))
+            Err(LineError::Bad(FaultKind::Unknown))
         }
-    }
-
-    /// The device or link of a name.
-    #[tactic(auto, unfolding(st_grammar::specs::Spelling::entity_in))]
-    pub fn entity_in(&self, token: &[u8]) -> Result<Entity, LineError>
-        ensures gives { Gives (λ entity. entity) result (entity_in self.now token.now) }
-        ensures within { IfOk result (IsEntityIn self.now) }
-    {
-        if let Some(place) = self.device_names.find(token) {
-            return Ok(Entity::Device(place as u32));
-        }
-        if let Some(place) = self.link_names.find(token) {
-            return Ok(Entity::Link(place as u32));
-        }
-        let _name = name_in(self.alloc, token)?;
-        Err(LineError::Bad(DocKind::Unknown))
     }
 
     /// Takes a line of the group's section.
@@ -156,5 +136,24 @@ impl Group {
         ensures name { self.new.name ≡ self.old.name }
     {
         self.wires.add(line)
+    }
+}
+
+impl NamedEntities for Group {
+    ghost find = { entity_named };
+
+    ghost IsWithin = { IsEntityIn };
+
+    // The draft's own indexes are asked first, and a name is copied only to say what is wrong with it.
+    #[tactic(auto, unfolding(st_token::specs::Spelling::entity_in))]
+    fn entity_in(&self, alloc: Global, token: &[u8]) -> Result<Entity, LineError> {
+        if let Some(place) = self.device_names.find(token) {
+            return Ok(Entity::Device(place as u32));
+        }
+        if let Some(place) = self.link_names.find(token) {
+            return Ok(Entity::Link(place as u32));
+        }
+        let _name = name_in(alloc, token)?;
+        Err(LineError::Bad(FaultKind::Unknown))
     }
 }

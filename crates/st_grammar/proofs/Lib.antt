@@ -1,4 +1,3 @@
-pub mod NameLemmas
 pub mod TorLemmas
 pub mod OpenLemmas
 pub mod HealthLemmas

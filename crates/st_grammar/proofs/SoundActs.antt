@@ -1,44 +1,45 @@
 -- What a good line of an application says of its command.
 use Rattle.std.proofs.Common.{◌≡◌, ℕ, zero, suc, ◌+◌, ◌<◌, ◌≤◌, List, [], ◌∷◌, ◌++◌, length, map, ap, sym, ◌∙◌, subst, refl, arith}
-use Rattle.std.specs.Prelude.{Bool, true, false, not, cond, ◌&&◌, ◌==◌, nat_le, Option, Some, None, slice_get, Ok, ok_or, bytes_eq, codes}
+use Rattle.std.specs.Prelude.{true, false, nat_le, Option, Some, None, slice_get, Ok, ok_or}
 use Rattle.std.specs.Option.{IsSomeAnd}
 use Rattle.std.specs.List.{AllByRecursion}
 use Rattle.std.proofs.lemmas.Bool.{leb-true}
-use Rattle.std.proofs.lemmas.Bool.Decides.{nat_tests}
 use Rattle.std.proofs.lemmas.List.{length-map, length_push}
 use Rattle.std.proofs.lemmas.List.Elements.{All-from_recursion}
 use Rattle.st_net.proofs.Tests.{both}
 use Rattle.st_net.specs.declared.entity.Entity.{Entity}
 use Rattle.st_net.specs.declared.entity.Entity.TheVariants.{Device, Link}
 use Rattle.st_net.specs.declared.entity.Var.{Var}
-use Rattle.st_net.specs.declared.entity.Var.TheVariants.{Power, Firmware, Config, Routing, LinkPower, Iface}
 use Rattle.st_net.specs.Names.{place_of as name_place}
 use Rattle.st_net.specs.declared.entity.Row.{Row}
 use Rattle.st_net.specs.declared.parts.Parts.{Parts}
 use Rattle.st_net.specs.declared.topo.TheConstants.{MAX_ROWS}
-use Rattle.st_net.specs.Entities.{is_same_entity, is_same_var, is_var_of, place_of}
 use Rattle.st_net.specs.Groups.{Group, IsEntityOf}
-use Rattle.st_net.specs.Ranges.{RowFits, RowsFit, is_health_of, is_free_of, are_apart}
+use Rattle.st_net.specs.Ranges.{RowFits, RowsFit, is_health_of, is_free_of, are_apart, IsVariableOf, IsOn, IsChangeOf}
 use Rattle.st_net.specs.Faults.{group_of, device_opening, link_opening, device_names}
 use Rattle.st_event.specs.declared.act.Act.{Act}
 use Rattle.st_event.specs.declared.act.Act.TheVariants as acts
 use Rattle.st_wire.specs.declared.line.WireLine.{WireLine}
 use Rattle.st_wire.specs.declared.line.WireLine.TheVariants as wires
+use Rattle.st_token.specs.declared.fault.FaultKind.TheVariants as kinds
+use Rattle.st_token.specs.Places.{cut_at}
+use Rattle.st_token.specs.Spelling.{name_in, known_name_in, entity_in, number_in, number_within, number_from, number_above, prio_in, most_health}
+use Rattle.st_token.specs.Variables.{new_assignment_in, var_named, var_in, assigned_in, variable_by, variable_in, dotted_variable_in, undotted_variable_in, new_value_in, rows_in, values_in}
+use Rattle.st_token.specs.Counts.{one_of, two_of, three_of, four_of, three_and_more_of, one_and_some_of}
+use Rattle.st_token.proofs.PrintedTokens.{each}
+use Rattle.st_token.proofs.ReadTokens.{came_from, chose, chosen, was_some, place_below, number_range, number_bound, number_from_is, number_above_is, IsRowOf, assigned_range, var_known}
+use Rattle.st_token.proofs.RowLemmas.{apart_last}
 use Rattle.st_grammar.specs.declared.limits.TheConstants.{MAX_ROUNDS}
-use Rattle.st_grammar.specs.declared.fault.DocKind.TheVariants as kinds
 use Rattle.st_grammar.specs.declared.keyword.CommandWord.{CommandWord}
 use Rattle.st_grammar.specs.declared.keyword.CommandWord.TheVariants as command_words
 use Rattle.st_grammar.specs.declared.keyword.WireWord.{WireWord}
 use Rattle.st_grammar.specs.declared.keyword.WireWord.TheVariants as wire_words
 use Rattle.st_grammar.specs.Draft.{GroupDraft, Draft, IsEntityIn, MaySet, groups_of, group_names, parts_of}
-use Rattle.st_grammar.specs.Places.{cut_at}
-use Rattle.st_grammar.specs.Spelling.{name_in, known_name_in, new_assignment_in, entity_in, number_in, number_within, number_from, number_above, prio_in, wire_kind_in, var_named, var_in, assigned_in, variable_by, variable_in, dotted_variable_in, undotted_variable_in, new_value_in, most_health}
-use Rattle.st_grammar.specs.Counts.{one_of, two_of, three_of, four_of, three_and_more_of, one_and_some_of}
-use Rattle.st_grammar.specs.Commands.{rows_in, values_in, group_in, group_entity_in, propose_of, await_of, settle_of, lock_of, unlock_of, read_of, readat_of, fail_of, poll_of, act_of, drop_of, repeat_of, hold_of, wire_of}
-use Rattle.st_grammar.specs.Sound.{IsSoundAct, IsGroupWith, IsVariableOf, IsOn, IsChangeOf, IsSoundWire}
-use Rattle.st_grammar.proofs.SoundGroups.{each}
+use Rattle.st_grammar.specs.Spelling.{entity_named, wire_kind_in}
+use Rattle.st_grammar.specs.Commands.{group_in, group_entity_in, propose_of, await_of, settle_of, lock_of, unlock_of, read_of, readat_of, fail_of, poll_of, act_of, drop_of, repeat_of, hold_of, wire_of}
+use Rattle.st_grammar.specs.Sound.{IsSoundAct, IsGroupWith, IsSoundWire}
 use Rattle.st_grammar.proofs.SoundSteps.{pushed_all}
-use Rattle.st_grammar.proofs.SoundLines.{came_from, chose, chosen, was_some, new_row_fits, place_below, number_range, number_bound, number_from_is, number_above_is, entity_within, IsRowOf, assigned_range}
+use Rattle.st_grammar.proofs.SoundLines.{new_row_fits, entity_within}
 
 -- an entity of a group's parts is one of the group that is built from them
 pub entity_of : (g : GroupDraft) (e : Entity) → IsEntityIn g e → IsEntityOf (group_of (parts_of g)) e
@@ -48,43 +49,19 @@ entity_of g (Link i) less = subst (λ (n : ℕ). i < n) (sym (length-map g.links
 pub row_fits : (g : GroupDraft) (set : List Row) (row : Row) → MaySet g set row → RowFits (group_of (parts_of g)) row
 row_fits g set row s = record { entity = entity_of g row.entity s.entity; range = s.range }
 
--- one more row on another variable
-pub flipped : (m n : ℕ) → (m == n) ≡ (n == m)
-flipped m n = grind (arith, nat_tests)
-
-pub same_flipped : (e f : Entity) → is_same_entity e f ≡ is_same_entity f e
-same_flipped (Device i) (Device j) = flipped i j
-same_flipped (Link i) (Link j) = flipped i j
-same_flipped (Device i) (Link j) = refl
-same_flipped (Link i) (Device j) = refl
-
-pub free_last : (e : Entity) (v : Var) (rows : List Row) (row : Row) → is_free_of e v rows ≡ true → not (is_same_entity row.entity e && is_same_var row.var v) ≡ true → is_free_of e v (rows ++ row ∷ []) ≡ true
-free_last e v [] row free apart = rw apart refl
-free_last e v (r ∷ rows) row free apart =
-    let parts = both (not (is_same_entity r.entity e && is_same_var r.var v)) (is_free_of e v rows) free in
-    rw (parts.0, free_last e v rows row parts.1 apart) refl
-
-pub apart_last : (rows : List Row) (row : Row) → are_apart rows ≡ true → is_free_of row.entity row.var rows ≡ true → are_apart (rows ++ row ∷ []) ≡ true
-apart_last [] row apart free = refl
-apart_last (r ∷ rows) row apart free =
-    let parts = both (is_free_of r.entity r.var rows) (are_apart rows) apart in
-    let first = both (not (is_same_entity r.entity row.entity && is_same_var r.var row.var)) (is_free_of row.entity row.var rows) free in
-    let other : not (is_same_entity row.entity r.entity && is_same_var row.var r.var) ≡ true = rw (same_flipped row.entity r.entity, flipped (place_of row.var) (place_of r.var)) first.0 in
-    rw (free_last r.entity r.var rows row parts.0 other, apart_last rows row parts.1 first.1) refl
-
 -- the rows of a line fit their group, and there are as many as tokens
 record AreRowsOf (g : GroupDraft) (count : ℕ) (rows : List Row) : Type 0 where
   each : AllByRecursion (RowFits (group_of (parts_of g))) rows
   apart : are_apart rows ≡ true
   count_is : length rows ≡ count
 
-rows_read : (g : GroupDraft) (tokens : List (List ℕ)) (set rows : List Row) (count : ℕ) → AreRowsOf g count set → rows_in g set tokens ≡ Ok rows → AreRowsOf g (count + length tokens) rows
+rows_read : (g : GroupDraft) (tokens : List (List ℕ)) (set rows : List Row) (count : ℕ) → AreRowsOf g count set → rows_in (entity_named g) set tokens ≡ Ok rows → AreRowsOf g (count + length tokens) rows
 unfolding rows_in
 rows_read g [] set rows count had is =
     let same : set ≡ rows = cc in
     subst (AreRowsOf g (count + 0)) same (record { each = had.each; apart = had.apart; count_is = let n : length set ≡ count = had.count_is in omega arith })
 rows_read g (token ∷ tokens) set rows count had is =
-    let row = came_from (new_assignment_in g set token) _ rows is in
+    let row = came_from (new_assignment_in (entity_named g) set token) _ rows is in
     let fits = new_row_fits g set token row.0 row.1 in
     let more : AreRowsOf g (count + 1) (set ++ row.0 ∷ []) = record { each = pushed_all (RowFits (group_of (parts_of g))) set row.0 had.each (row_fits g set row.0 fits); apart = apart_last set row.0 had.apart fits.fresh; count_is = let n : length set ≡ count = had.count_is in rw (length_push set row.0) (omega arith) } in
     let number : (count + 1) + length tokens ≡ count + suc (length tokens) = omega arith in
@@ -119,7 +96,7 @@ unfolding propose_of
 propose_good d args act is =
     let words = came_from (one_and_some_of args) _ act is in
     let g = came_from (group_in d words.0.0) _ act words.2 in
-    let rows = came_from (rows_in g.0.1 [] words.0.1) _ act g.2 in
+    let rows = came_from (rows_in (entity_named g.0.1) [] words.0.1) _ act g.2 in
     let few = chose (nat_le (length rows.0) MAX_ROWS) (acts.Propose g.0.0 rows.0) act kinds.Limit rows.2 in
     let none : AreRowsOf g.0.1 0 [] = record { each = tt; apart = refl; count_is = refl } in
     let read = rows_read g.0.1 words.0.1 [] rows.0 0 none rows.1 in
@@ -163,7 +140,7 @@ entity_found : (d : Draft) (group name : List ℕ) (e : ℕ × Entity) → group
 unfolding group_entity_in
 entity_found d group name e is =
     let g = came_from (group_in d group) _ e is in
-    let entity = came_from (entity_in g.0.1 name) _ e g.2 in
+    let entity = came_from (entity_in (entity_named g.0.1) name) _ e g.2 in
     let made : (g.0.0, entity.0) ≡ e = cc in
     subst (λ (e : ℕ × Entity). IsGroupWith (map parts_of (groups_of d)) e.0 (λ g. IsEntityOf g e.1)) made
     (on_group d g.0.0 g.0.1 (λ g. IsEntityOf g entity.0) (group_found d group g.0 g.1) (entity_of g.0.1 entity.0 (entity_within g.0.1 name entity.0 entity.1)))
@@ -195,29 +172,13 @@ poll_good d args act is =
     subst (IsSoundAct (map parts_of (groups_of d))) made (entity_found d words.0.0 words.0.1 e.0 e.1)
 
 -- a variable of an entity of the group
-device_var : (i : ℕ) (a b c d : Bool) (v : Var) → cond a (Some Power) (cond b (Some Firmware) (cond c (Some Config) (cond d (Some Routing) None))) ≡ Some v → is_var_of (Device i) v ≡ true
-device_var i true b c d v e = ap (is_var_of (Device i)) (let same : v ≡ Power = cc in same)
-device_var i false true c d v e = ap (is_var_of (Device i)) (let same : v ≡ Firmware = cc in same)
-device_var i false false true d v e = ap (is_var_of (Device i)) (let same : v ≡ Config = cc in same)
-device_var i false false false true v e = ap (is_var_of (Device i)) (let same : v ≡ Routing = cc in same)
-device_var i false false false false v e = absurd (cc)
-
-link_var : (i : ℕ) (a b : Bool) (v : Var) → cond a (Some LinkPower) (cond b (Some Iface) None) ≡ Some v → is_var_of (Link i) v ≡ true
-link_var i true b v e = ap (is_var_of (Link i)) (let same : v ≡ LinkPower = cc in same)
-link_var i false true v e = ap (is_var_of (Link i)) (let same : v ≡ Iface = cc in same)
-link_var i false false v e = absurd (cc)
-
-var_known : (e : Entity) (text : List ℕ) (v : Var) → var_named e text ≡ Some v → is_var_of e v ≡ true
-var_known (Device i) text v is = device_var i (bytes_eq text (codes "power")) (bytes_eq text (codes "firmware")) (bytes_eq text (codes "config")) (bytes_eq text (codes "routing")) v is
-var_known (Link i) text v is = link_var i (bytes_eq text (codes "power")) (bytes_eq text (codes "iface")) v is
-
-variable_fits : (g : GroupDraft) (token : List ℕ) (v : Entity × Var) (o : Option (List ℕ × List ℕ)) → variable_by g token o ≡ Ok v → IsVariableOf v.0 v.1 (group_of (parts_of g))
+variable_fits : (g : GroupDraft) (token : List ℕ) (v : Entity × Var) (o : Option (List ℕ × List ℕ)) → variable_by (entity_named g) token o ≡ Ok v → IsVariableOf v.0 v.1 (group_of (parts_of g))
 unfolding undotted_variable_in dotted_variable_in
 variable_fits g token v None is =
-    let e = came_from (entity_in g token) _ v is in
+    let e = came_from (entity_in (entity_named g) token) _ v is in
     absurd (let no = (chosen false (Ok v) v kinds.Value e.2).0 in cc)
 variable_fits g token v (Some parts) is =
-    let e = came_from (entity_in g parts.0) _ v is in
+    let e = came_from (entity_in (entity_named g) parts.0) _ v is in
     let var = came_from (var_in e.0 parts.1) _ v e.2 in
     let made : (e.0, var.0) ≡ v = cc in
     subst (λ (v : Entity × Var). IsVariableOf v.0 v.1 (group_of (parts_of g))) made
@@ -228,7 +189,7 @@ unfolding read_of
 read_good d args act is =
     let words = came_from (two_of args) _ act is in
     let g = came_from (group_in d words.0.0) _ act words.2 in
-    let v = came_from (variable_in g.0.1 words.0.1) _ act g.2 in
+    let v = came_from (variable_in (entity_named g.0.1) words.0.1) _ act g.2 in
     let made : acts.Read g.0.0 v.0.0 v.0.1 ≡ act = cc in
     subst (IsSoundAct (map parts_of (groups_of d))) made (on_group d g.0.0 g.0.1 (IsVariableOf v.0.0 v.0.1) (group_found d words.0.0 g.0 g.1) (variable_fits g.0.1 words.0.1 v.0 (cut_at 46 words.0.1) v.1))
 
@@ -238,7 +199,7 @@ readat_good d args act is =
     let words = came_from (three_of args) _ act is in
     let g = came_from (group_in d words.0.0) _ act words.2 in
     let version = came_from (number_in words.0.1) _ act g.2 in
-    let v = came_from (variable_in g.0.1 words.0.2) _ act version.2 in
+    let v = came_from (variable_in (entity_named g.0.1) words.0.2) _ act version.2 in
     let made : acts.ReadAt g.0.0 version.0 v.0.0 v.0.1 ≡ act = cc in
     subst (IsSoundAct (map parts_of (groups_of d))) made
     (number_bound words.0.1 version.0 version.1, on_group d g.0.0 g.0.1 (IsVariableOf v.0.0 v.0.1) (group_found d words.0.0 g.0 g.1) (variable_fits g.0.1 words.0.2 v.0 (cut_at 46 words.0.2) v.1))

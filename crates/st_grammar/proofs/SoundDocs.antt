@@ -8,30 +8,30 @@ use Rattle.st_text.specs.Lines.{lines_of}
 use Rattle.st_net.specs.declared.parts.Parts.{Parts}
 use Rattle.st_net.specs.declared.parts.LinkPart.{LinkPart}
 use Rattle.st_net.specs.Faults.{device_names}
-use Rattle.st_grammar.specs.declared.fault.DocKind.{DocKind}
-use Rattle.st_grammar.specs.declared.fault.DocKind.TheVariants as kinds
+use Rattle.st_token.specs.declared.fault.FaultKind.{FaultKind}
+use Rattle.st_token.specs.declared.fault.FaultKind.TheVariants as kinds
+use Rattle.st_token.specs.Reading.{on_line, read_on}
+use Rattle.st_token.proofs.PrintedTokens.{each}
+use Rattle.st_token.proofs.ReadTokens.{came_from, chose}
 use Rattle.st_grammar.specs.declared.doc.Doc.{Doc}
 use Rattle.st_grammar.specs.declared.doc.Script.{Script}
 use Rattle.st_grammar.specs.declared.doc.DocRead.{DocRead}
 use Rattle.st_grammar.specs.declared.doc.DocRead.TheVariants as reads
 use Rattle.st_grammar.specs.Draft.{GroupDraft, Draft, nothing, groups_of, apps_of, parts_of}
 use Rattle.st_grammar.specs.Lines.{line_of}
-use Rattle.st_grammar.specs.Reading.{on_line, read_on, doc_of, document_of, Reads}
+use Rattle.st_grammar.specs.Reading.{headed, declared_on, doc_of, document_of, Reads}
 use Rattle.st_grammar.specs.Sound.{HasOwnEnds, IsSoundGroup, IsSoundAct, IsSoundScript, IsSoundWire, AreSoundWires, IsSoundDoc, IsSoundRead}
-use Rattle.st_grammar.proofs.SoundGroups.{IsSoundLink, IsSoundDraftGroup, each, can_be_built}
-use Rattle.st_grammar.proofs.SoundLines.{came_from, chose}
+use Rattle.st_grammar.proofs.SoundGroups.{IsSoundLink, IsSoundDraftGroup, can_be_built}
 use Rattle.st_grammar.proofs.SoundDrafts.{HasSoundActs, IsSoundDraft, IsSoundSoFar, line_good, nothing_sound}
 
-line_was : (n : ℕ) (r : Result Draft DocKind) (next : Draft) → on_line n r ≡ Ok next → r ≡ Ok next
+line_was : (n : ℕ) (r : Result Draft FaultKind) (next : Draft) → on_line n r ≡ Ok next → r ≡ Ok next
 line_was n (Ok d) next e = ap Ok (let same : d ≡ next = cc in same)
 line_was n (Err kind) next e = absurd (cc)
 
-read_good : (lines : List (List ℕ)) (n : ℕ) (d last : Draft) → IsSoundSoFar d → read_on d n lines ≡ Ok last → IsSoundSoFar last
-read_good [] n d last s e =
-    let here = chose d.begun d last (record { line = n; kind = kinds.Header }) e in
-    subst IsSoundSoFar here.1 s
+read_good : (lines : List (List ℕ)) (n : ℕ) (d last : Draft) → IsSoundSoFar d → read_on line_of d n lines ≡ Ok last → IsSoundSoFar last
+read_good [] n d last s e = subst IsSoundSoFar (let same : d ≡ last = cc in same) s
 read_good (line ∷ lines) n d last s e =
-    let step = came_from (on_line n (line_of d line)) (λ next. read_on next (n + 1) lines) last e in
+    let step = came_from (on_line n (line_of d line)) (λ next. read_on line_of next (n + 1) lines) last e in
     read_good lines (n + 1) step.0 last (line_good d step.0 line (line_was n (line_of d line) step.0 step.1) s) step.2
 
 -- the names of groups are those of their parts
@@ -79,9 +79,12 @@ doc_good d s =
 -- what is read is sound
 pub document_sound : (bytes : List ℕ) (doc : Doc) → document_of bytes ≡ Ok doc → IsSoundDoc doc
 document_sound bytes doc e =
-    let d = came_from (read_on nothing 1 (lines_of bytes)) (λ d. Ok (doc_of d)) doc e in
+    let d = came_from (declared_on nothing (lines_of bytes)) (λ d. Ok (doc_of d)) doc e in
+    let last = came_from (read_on line_of nothing 1 (lines_of bytes)) (headed (length (lines_of bytes) + 1)) d.0 d.1 in
+    let begun = chose last.0.begun last.0 d.0 (record { line = length (lines_of bytes) + 1; kind = kinds.Header }) last.2 in
+    let sound : IsSoundSoFar d.0 = subst IsSoundSoFar begun.1 (read_good (lines_of bytes) 1 nothing last.0 nothing_sound last.1) in
     let made : doc_of d.0 ≡ doc = cc in
-    subst IsSoundDoc made (doc_good d.0 (read_good (lines_of bytes) 1 nothing d.0 nothing_sound d.1).sound)
+    subst IsSoundDoc made (doc_good d.0 sound.sound)
 
 pub read_sound : (bytes : List ℕ) (read : DocRead) → Reads read (document_of bytes) → IsSoundRead read
 read_sound bytes (reads.Doc doc) e = document_sound bytes doc e

@@ -12,23 +12,25 @@ use Rattle.st_net.specs.Names.{place_of, is_among, is_name}
 use Rattle.st_net.specs.Groups.{are_new}
 use Rattle.st_event.specs.declared.act.Act.{Act}
 use Rattle.st_wire.specs.declared.line.WireLine.{WireLine}
-use Rattle.st_grammar.specs.declared.fault.DocKind.{DocKind}
-use Rattle.st_grammar.specs.declared.fault.DocKind.TheVariants as kinds
+use Rattle.st_token.specs.declared.fault.FaultKind.{FaultKind}
+use Rattle.st_token.specs.declared.fault.FaultKind.TheVariants as kinds
+use Rattle.st_token.specs.Spelling.{name_in, new_name_in, known_name_in, is_comment}
+use Rattle.st_token.specs.Counts.{one_of, some_of}
+use Rattle.st_token.proofs.PrintedTokens.{each}
+use Rattle.st_token.proofs.ReadTokens.{came_from, chose, chosen, was_some, new_name, place_below}
 use Rattle.st_grammar.specs.declared.keyword.Keyword.{Keyword}
 use Rattle.st_grammar.specs.declared.keyword.Keyword.TheVariants as keywords
 use Rattle.st_grammar.specs.declared.limits.TheConstants.{MAX_GROUPS, MAX_APPS, MAX_ACTS, MAX_WIRE_LINES}
 use Rattle.st_grammar.specs.declared.doc.Script.{Script}
 use Rattle.st_grammar.specs.Draft.{GroupDraft, Draft, nothing, empty_group, empty_script, groups_of, apps_of, group_names, app_names, parts_of, with_wire, wired}
-use Rattle.st_grammar.specs.Spelling.{name_in, new_name_in, known_name_in}
-use Rattle.st_grammar.specs.Counts.{one_of, some_of}
 use Rattle.st_grammar.specs.Sections.{part_line}
 use Rattle.st_grammar.specs.Commands.{wire_of, act_of}
-use Rattle.st_grammar.specs.Keywords.{phase_of, keyword_of, is_comment}
+use Rattle.st_grammar.specs.Keywords.{phase_of, keyword_of}
 use Rattle.st_grammar.specs.Lines.{begun_name, group_line, app_line, known_names_in, order_line, has_section, is_allowed, into_group, wire_count_of, wire_count, with_wire_line, wire_line, with_act, act_added, act_line, declared_by, phased_line, keyword_line, is_header, header_line, tokens_line, line_of}
 use Rattle.st_grammar.specs.Sound.{IsSoundAct, IsSoundWire}
-use Rattle.st_grammar.proofs.SoundGroups.{IsSoundDraftGroup, each}
+use Rattle.st_grammar.proofs.SoundGroups.{IsSoundDraftGroup}
 use Rattle.st_grammar.proofs.SoundSteps.{pushed_all, begun_sound, new_last, wire_sound}
-use Rattle.st_grammar.proofs.SoundLines.{came_from, chose, chosen, was_some, new_name, MakesSound, part_good, place_below}
+use Rattle.st_grammar.proofs.SoundLines.{MakesSound, part_good}
 use Rattle.st_grammar.proofs.SoundActs.{command_good, wire_read}
 
 -- the name of an application, and its commands, each sound
@@ -76,7 +78,7 @@ allowed_phase : (d : Draft) (k : Keyword) → is_allowed d k ≡ true → nat_le
 allowed_phase d k e = (both (nat_le d.phase (phase_of k)) (has_section d k) e).0
 
 -- a line of a group's section
-group_changed : (d next : Draft) (line : GroupDraft → Result GroupDraft DocKind) → ((g h : GroupDraft) → line g ≡ Ok h → IsSoundDraftGroup g → MakesSound g h) → IsEarly d → into_group d line ≡ Ok next → IsSoundDraft d → Grows d next
+group_changed : (d next : Draft) (line : GroupDraft → Result GroupDraft FaultKind) → ((g h : GroupDraft) → line g ≡ Ok h → IsSoundDraftGroup g → MakesSound g h) → IsEarly d → into_group d line ≡ Ok next → IsSoundDraft d → Grows d next
 group_changed d next line good early e s =
     let g = came_from (ok_or d.group kinds.Word) _ next e in
     let h = came_from (line g.0) _ next g.2 in
@@ -186,7 +188,7 @@ act_good d next act e sound s =
       order = rw few s.order;
     })
 
-act_line_good : (d next : Draft) (read : Result Act DocKind) → ((act : Act) → read ≡ Ok act → IsSoundAct (map parts_of (groups_of d)) act) → act_line d read ≡ Ok next → IsSoundDraft d → IsSoundDraft next
+act_line_good : (d next : Draft) (read : Result Act FaultKind) → ((act : Act) → read ≡ Ok act → IsSoundAct (map parts_of (groups_of d)) act) → act_line d read ≡ Ok next → IsSoundDraft d → IsSoundDraft next
 unfolding act_line
 act_line_good d next read good e s =
     let act = came_from read _ next e in
@@ -295,7 +297,7 @@ wire_added d n line false room sound early s =
       };
     }
 
-wire_good : (d next : Draft) (read : Result (ℕ × WireLine) DocKind) → ((line : ℕ × WireLine) → read ≡ Ok line → IsSoundWire line.1) → IsEarly d → wire_line d read ≡ Ok next → IsSoundDraft d → Grows d next
+wire_good : (d next : Draft) (read : Result (ℕ × WireLine) FaultKind) → ((line : ℕ × WireLine) → read ≡ Ok line → IsSoundWire line.1) → IsEarly d → wire_line d read ≡ Ok next → IsSoundDraft d → Grows d next
 unfolding wire_line
 wire_good d next read good early e s =
     let line = came_from read _ next e in

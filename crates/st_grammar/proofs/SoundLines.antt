@@ -1,10 +1,7 @@
 -- What a line that is good says of what it declares.
-use Rattle.std.proofs.Common.{◌≡◌, ℕ, suc, ◌<◌, ◌≤◌, List, [], ◌∷◌, ◌++◌, length, ap, sym, ◌∙◌, subst, refl, arith}
-use Rattle.std.specs.Prelude.{Bool, true, false, not, cond, ◌&&◌, nat_le, nat_lt, Option, Some, None, option_map, bytes_eq, Result, Ok, Err, ok_or, ◌^◌}
-use Rattle.std.specs.Str.{all_ascii_digits}
-use Rattle.std.specs.Str.Parse.{digits_value}
-use Rattle.std.proofs.lemmas.Bool.{leb-true}
-use Rattle.st_net.proofs.Tests.{both, less_is}
+use Rattle.std.proofs.Common.{◌≡◌, ℕ, ◌<◌, List, [], ◌∷◌, ◌++◌, length, ap, sym, ◌∙◌, subst, refl}
+use Rattle.std.specs.Prelude.{true, false, cond, nat_le, nat_lt, Option, Some, None, option_map, bytes_eq, Ok, Err}
+use Rattle.st_net.proofs.Tests.{both}
 use Rattle.st_net.specs.declared.parts.DevicePart.{DevicePart}
 use Rattle.st_net.specs.declared.parts.LinkPart.{LinkPart}
 use Rattle.st_net.specs.declared.entity.Row.{Row}
@@ -13,60 +10,23 @@ use Rattle.st_net.specs.declared.entity.Entity.{Entity}
 use Rattle.st_net.specs.declared.entity.Entity.TheVariants.{Device, Link}
 use Rattle.st_net.specs.Groups.{entity_or}
 use Rattle.std.proofs.lemmas.List.{length-map}
-use Rattle.st_text.specs.Numbers.{number_of, is_number, has_leading_zero}
 use Rattle.st_net.specs.declared.topo.TheConstants.{MAX_LINKS, MAX_PROMISES, MAX_CAPACITY, MAX_PERCENT}
-use Rattle.st_net.specs.Names.{is_name, place_of, is_among}
+use Rattle.st_net.specs.Names.{place_of, is_among}
 use Rattle.st_net.specs.Ranges.{is_in_range, is_free_of}
 use Rattle.st_net.specs.Faults.{device_names, link_names, is_bad_pair}
-use Rattle.st_grammar.specs.declared.fault.DocKind.TheVariants as kinds
+use Rattle.st_token.specs.declared.fault.FaultKind.TheVariants as kinds
+use Rattle.st_token.specs.Places.{cut_at}
+use Rattle.st_token.specs.Spelling.{name_in, new_name_in, number_within, entity_in, most_health}
+use Rattle.st_token.specs.Variables.{dotted_in, undotted_in, assignment_by, assignment_in, new_assignment_in}
+use Rattle.st_token.specs.Counts.{one_of, two_of, three_of, four_of}
+use Rattle.st_token.proofs.ReadTokens.{came_from, chose, refused, chosen, was_some, new_name, number_range, place_below, assigned_range}
 use Rattle.st_grammar.specs.declared.keyword.PartWord.{PartWord}
 use Rattle.st_grammar.specs.declared.keyword.PartWord.TheVariants as part_words
-use Rattle.st_grammar.specs.Steps.{◌>>=◌}
-use Rattle.st_grammar.specs.Places.{cut_at}
 use Rattle.st_grammar.specs.Draft.{GroupDraft, is_entity_name, with_device, with_link, with_promise, with_open, opened, with_health, IsEntityIn, MaySet}
-use Rattle.st_grammar.specs.Spelling.{name_in, new_name_in, device_in, number_within, number_in, is_tor_word, cross_end_in, end_by, end_in, entity_named, entity_in, var_in, set_in, unset_in, assigned_by, dotted_in, undotted_in, assignment_by, assignment_in, new_assignment_in, untold_in, most_health, number_from, number_above}
-use Rattle.st_grammar.specs.Counts.{one_of, two_of, three_of, four_of}
+use Rattle.st_grammar.specs.Spelling.{device_in, is_tor_word, cross_end_in, end_by, end_in, entity_named, untold_in}
 use Rattle.st_grammar.specs.Sections.{has_device_room, new_device, device_of, device_line, new_link, link_of, link_line, new_promise, promise_of, promise_line, open_of, open_line, health_of, health_line, part_line}
 use Rattle.st_grammar.proofs.SoundGroups.{IsSoundDraftGroup}
 use Rattle.st_grammar.proofs.SoundSteps.{device_sound, link_sound, promise_sound, opened_sound, health_sound}
-
--- a step that came to a value came from one
-pub came_from : {A B E : Type 0} (r : Result A E) (f : A → Result B E) (y : B) → (r >>= f) ≡ Ok y → (x : A) × (r ≡ Ok x) × (f x ≡ Ok y)
-came_from (Ok x) f y e = (x, refl, e)
-came_from (Err x) f y e = absurd (cc)
-
--- a choice that came to a value
-pub chose : {A E : Type 0} (b : Bool) (x y : A) (bad : E) → cond b (Ok x) (Err bad) ≡ Ok y → (b ≡ true) × (x ≡ y)
-chose true x y bad e = (refl, (cc))
-chose false x y bad e = absurd (cc)
-
-pub refused : {A E : Type 0} (b : Bool) (r : Result A E) (y : A) (bad : E) → cond b (Err bad) r ≡ Ok y → (b ≡ false) × (r ≡ Ok y)
-refused true r y bad e = absurd (cc)
-refused false r y bad e = (refl, e)
-
-pub chosen : {A E : Type 0} (b : Bool) (r : Result A E) (y : A) (bad : E) → cond b r (Err bad) ≡ Ok y → (b ≡ true) × (r ≡ Ok y)
-chosen true r y bad e = (refl, e)
-chosen false r y bad e = absurd (cc)
-
--- an option that came to a value
-pub was_some : {A E : Type 0} (o : Option A) (y : A) (bad : E) → ok_or o bad ≡ Ok y → o ≡ Some y
-was_some None y bad e = absurd (cc)
-was_some (Some x) y bad e = ap Some (let same : x ≡ y = cc in same)
-
--- a new name
-pub record IsNewName (taken : Bool) (token name : List ℕ) : Type 0 where
-  pub spelled : is_name name ≡ true
-  pub same : name ≡ token
-  pub fresh : taken ≡ false
-
-pub new_name : (taken : Bool) (token name : List ℕ) → new_name_in taken token ≡ Ok name → IsNewName taken token name
-unfolding new_name_in
-new_name taken token name e =
-    let first = came_from (name_in token) _ name e in
-    let spelled = chose (is_name token) token first.0 kinds.Name first.1 in
-    let fresh = refused taken (Ok first.0) name kinds.Twice first.2 in
-    let same : first.0 ≡ name = cc in
-    record { spelled = subst (λ (n : List ℕ). is_name n ≡ true) (spelled.1 ∙ same) spelled.0; same = sym same ∙ sym spelled.1; fresh = fresh.0 }
 
 device_known : (g : GroupDraft) (token name : List ℕ) → device_in g token ≡ Ok name → is_among name (device_names g.devices) ≡ true
 unfolding device_in
@@ -83,39 +43,6 @@ end_known g token name (Some parts) e =
     let word = came_from (name_in parts.1) _ name own.2 in
     let here = chosen (bytes_eq own.0 g.name) (device_in g word.0) name kinds.Cross word.2 in
     device_known g word.0 name here.1
-
-pub number_range : (low high n : ℕ) (token : List ℕ) → number_within low high token ≡ Ok n → (nat_le low n && nat_le n high) ≡ true
-unfolding number_within
-number_range low high n token e =
-    let first = came_from (number_in token) _ n e in
-    let within = chose (nat_le low first.0 && nat_le first.0 high) first.0 n kinds.Number first.2 in
-    subst (λ (m : ℕ). (nat_le low m && nat_le m high) ≡ true) within.1 within.0
-
--- a NUMBER has 32 bits
-number_small : (token : List ℕ) (n : ℕ) (b : Bool) → is_number token ≡ b → cond b (Some (digits_value 10 token)) None ≡ Some n → n < 2 ^ 32
-number_small token n true e is =
-    let bound = both (nat_le 1 (length token) && nat_le (length token) 10 && all_ascii_digits token && not (has_leading_zero token)) (nat_le (digits_value 10 token) 4294967295) e in
-    let less : digits_value 10 token ≤ 4294967295 = leb-true (digits_value 10 token) 4294967295 bound.1 in
-    let same : digits_value 10 token ≡ n = cc in
-    subst (λ (m : ℕ). m < 2 ^ 32) same (omega arith)
-number_small token n false e is = absurd (cc)
-
-pub number_bound : (token : List ℕ) (n : ℕ) → number_in token ≡ Ok n → n < 2 ^ 32
-number_bound token n e = number_small token n (is_number token) refl (was_some (number_of token) n kinds.Number e)
-
-pub number_from_is : (low n : ℕ) (token : List ℕ) → number_from low token ≡ Ok n → (low ≤ n) × (n < 2 ^ 32)
-unfolding number_from
-number_from_is low n token e =
-    let first = came_from (number_in token) _ n e in
-    let within = chose (nat_le low first.0) first.0 n kinds.Number first.2 in
-    subst (λ (m : ℕ). (low ≤ m) × (m < 2 ^ 32)) within.1 (leb-true low first.0 within.0, number_bound token first.0 first.1)
-
-pub number_above_is : (low n : ℕ) (token : List ℕ) → number_above low token ≡ Ok n → (low < n) × (n < 2 ^ 32)
-unfolding number_above
-number_above_is low n token e =
-    let first = came_from (number_in token) _ n e in
-    let within = chose (nat_lt low first.0) first.0 n kinds.Number first.2 in
-    subst (λ (m : ℕ). (low < m) × (m < 2 ^ 32)) within.1 (less_is low first.0 within.0, number_bound token first.0 first.1)
 
 -- a line of a group's section makes a sound group of a sound one, and leaves its name
 pub record MakesSound (g h : GroupDraft) : Type 0 where
@@ -176,21 +103,12 @@ promise_good g h args e s =
     subst (MakesSound g) made (record { sound = promise_sound g (new_promise a.0 b.0 percent.0) s good.0 share.1 room.0; name = refl })
 
 -- the entity of a name is one of the group
-pub place_below : (name : List ℕ) (ns : List (List ℕ)) (k : ℕ) → place_of name ns ≡ Some k → k < length ns
-place_below name [] k e = absurd (cc)
-place_below name (n ∷ ns) k e = step (bytes_eq name n) (place_of name ns) e (place_below name ns)
-  where
-    step : (b : Bool) (o : Option ℕ) → cond b (Some 0) (option_map suc o) ≡ Some k → ((j : ℕ) → o ≡ Some j → j < length ns) → k < suc (length ns)
-    step true o e rest = let zero_is : k ≡ 0 = cc in omega arith
-    step false None e rest = absurd (cc)
-    step false (Some j) e rest = let suc_is : k ≡ suc j = cc in let less : j < length ns = rest j refl in omega arith
-
 entity_by : (g : GroupDraft) (e : Entity) (o p : Option ℕ) → ((k : ℕ) → o ≡ Some k → k < length g.devices) → ((k : ℕ) → p ≡ Some k → k < length g.links) → entity_or (option_map Device o) (option_map Link p) ≡ Some e → IsEntityIn g e
 entity_by g e (Some k) p low high is = subst (IsEntityIn g) (let same : Device k ≡ e = cc in same) (low k refl)
 entity_by g e None (Some k) low high is = subst (IsEntityIn g) (let same : Link k ≡ e = cc in same) (high k refl)
 entity_by g e None None low high is = absurd (cc)
 
-pub entity_within : (g : GroupDraft) (token : List ℕ) (e : Entity) → entity_in g token ≡ Ok e → IsEntityIn g e
+pub entity_within : (g : GroupDraft) (token : List ℕ) (e : Entity) → entity_in (entity_named g) token ≡ Ok e → IsEntityIn g e
 unfolding entity_in
 entity_within g token e is =
     let first = came_from (name_in token) _ e is in
@@ -201,39 +119,20 @@ entity_within g token e is =
     (λ k at. subst (λ (n : ℕ). k < n) devices (place_below first.0 (device_names g.devices) k at))
     (λ k at. subst (λ (n : ℕ). k < n) links (place_below first.0 (link_names g.links) k at)) found
 
-abbrev row_made : Entity → Var → ℕ → Row
-row_made e v x = record { entity = e; var = v; value = x }
-
--- a row of an assignment
-pub record IsRowOf (e : Entity) (row : Row) : Type 0 where
-  pub on : row.entity ≡ e
-  pub range : is_in_range row.entity row.var row.value ≡ true
-
-pub assigned_range : (e : Entity) (rest : List ℕ) (row : Row) (o : Option (List ℕ × List ℕ)) → assigned_by e rest o ≡ Ok row → IsRowOf e row
-unfolding unset_in set_in
-assigned_range e rest row None is =
-    let v = came_from (var_in e rest) _ row is in
-    absurd (let no = (chosen false (Ok row) row kinds.Value v.2).0 in cc)
-assigned_range e rest row (Some parts) is =
-    let v = came_from (var_in e parts.0) _ row is in
-    let n = came_from (number_in parts.1) _ row v.2 in
-    let within = chose (is_in_range e v.0 n.0) (row_made e v.0 n.0) row kinds.Value n.2 in
-    subst (IsRowOf e) within.1 (record { on = refl; range = within.0 })
-
-pub assignment_fits : (g : GroupDraft) (token : List ℕ) (row : Row) (o : Option (List ℕ × List ℕ)) → assignment_by g token o ≡ Ok row → IsEntityIn g row.entity × (is_in_range row.entity row.var row.value ≡ true)
+pub assignment_fits : (g : GroupDraft) (token : List ℕ) (row : Row) (o : Option (List ℕ × List ℕ)) → assignment_by (entity_named g) token o ≡ Ok row → IsEntityIn g row.entity × (is_in_range row.entity row.var row.value ≡ true)
 unfolding undotted_in dotted_in
 assignment_fits g token row None is =
-    let e = came_from (entity_in g token) _ row is in
+    let e = came_from (entity_in (entity_named g) token) _ row is in
     absurd (let no = (chosen false (Ok row) row kinds.Value e.2).0 in cc)
 assignment_fits g token row (Some parts) is =
-    let e = came_from (entity_in g parts.0) _ row is in
+    let e = came_from (entity_in (entity_named g) parts.0) _ row is in
     let range = assigned_range e.0 parts.1 row (cut_at 61 parts.1) e.2 in
     (subst (IsEntityIn g) (sym range.on) (entity_within g parts.0 e.0 e.1), range.range)
 
-pub new_row_fits : (g : GroupDraft) (set : List Row) (token : List ℕ) (row : Row) → new_assignment_in g set token ≡ Ok row → MaySet g set row
+pub new_row_fits : (g : GroupDraft) (set : List Row) (token : List ℕ) (row : Row) → new_assignment_in (entity_named g) set token ≡ Ok row → MaySet g set row
 unfolding new_assignment_in
 new_row_fits g set token row is =
-    let read = came_from (assignment_in g token) _ row is in
+    let read = came_from (assignment_in (entity_named g) token) _ row is in
     let free = chose (is_free_of read.0.entity read.0.var set) read.0 row kinds.Twice read.2 in
     let fits = assignment_fits g token read.0 (cut_at 46 token) read.1 in
     subst (MaySet g set) free.1 (record { entity = fits.0; range = fits.1; fresh = free.0 })

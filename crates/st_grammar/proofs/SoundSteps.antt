@@ -19,17 +19,18 @@ use Rattle.st_net.specs.Ranges.{is_device_value, is_link_value, is_in_range}
 use Rattle.st_net.specs.Names.{place_of, is_among, is_name}
 use Rattle.st_net.specs.Groups.{are_new, are_device_vals, are_link_vals}
 use Rattle.st_net.specs.Faults.{device_names, link_names, is_tor, is_tor_name, was_promised, is_bad_pair}
+use Rattle.st_token.specs.Spelling.{most_health}
+use Rattle.st_token.proofs.NameLemmas.{names_added, among_kept, place_kept}
+use Rattle.st_token.proofs.PrintedTokens.{each}
 use Rattle.st_grammar.specs.Draft.{GroupDraft, is_entity_name, empty_group, with_device, with_link, with_promise, opened, device_opened, link_opened, with_health, device_told, link_told, with_wire, tors}
 use Rattle.st_wire.specs.declared.line.WireLine.{WireLine}
 use Rattle.st_grammar.specs.declared.limits.TheConstants.{MAX_WIRE_LINES}
-use Rattle.st_grammar.specs.Spelling.{most_health}
 use Rattle.st_grammar.specs.Sections.{has_device_room}
 use Rattle.st_grammar.specs.Sound.{IsSoundWire}
 use Rattle.st_grammar.proofs.HealthLemmas.{told_device_names, told_link_names, told_devices_count, told_links_count, told_tors}
 use Rattle.st_grammar.proofs.TorLemmas.{tors_push}
-use Rattle.st_grammar.proofs.NameLemmas.{names_added, among_kept, place_kept}
 use Rattle.st_grammar.proofs.OpenLemmas.{device_names_kept, link_names_kept, devices_kept, links_kept, tors_kept}
-use Rattle.st_grammar.proofs.SoundGroups.{IsSoundDevice, IsSoundLink, IsSoundPromise, AreOtherPairs, IsSoundDraftGroup, each, tor_known}
+use Rattle.st_grammar.proofs.SoundGroups.{IsSoundDevice, IsSoundLink, IsSoundPromise, AreOtherPairs, IsSoundDraftGroup, tor_known}
 
 pub pushed_all : {X : Type 0} (P : X → Type 0) (xs : List X) (x : X) → AllByRecursion P xs → P x → AllByRecursion P (xs ++ x ∷ [])
 pushed_all P [] x all p = (p, tt)

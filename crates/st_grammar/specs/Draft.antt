@@ -72,11 +72,6 @@ abbrev pub IsEntityIn : GroupDraft → Entity → Type 0
 IsEntityIn g (Device i) = i < length g.devices
 IsEntityIn g (Link i) = i < length g.links
 
--- an entity's number among those of its kind
-abbrev pub number_of : Entity → ℕ
-number_of (Device i) = i
-number_of (Link i) = i
-
 -- the devices that are ToRs
 abbrev pub tors : List DevicePart → List DevicePart
 tors [] = []

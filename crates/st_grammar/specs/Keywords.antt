@@ -1,5 +1,5 @@
 -- The words that lines begin with, and the phases in which they stand.
-use Rattle.std.specs.Prelude.{ℕ, List, [], ◌∷◌, Bool, false, ◌==◌, if◌then◌else◌, Option, Some, None, bytes_eq, codes, option_map}
+use Rattle.std.specs.Prelude.{ℕ, List, if◌then◌else◌, Option, Some, None, bytes_eq, codes, option_map}
 use Rattle.st_grammar.specs.declared.keyword.Keyword.{Keyword}
 use Rattle.st_grammar.specs.declared.keyword.Keyword.TheVariants as keywords
 use Rattle.st_grammar.specs.declared.keyword.PartWord.{PartWord}
@@ -57,8 +57,3 @@ phase_of (keywords.Wire word) = 2
 phase_of keywords.App = 3
 phase_of (keywords.Command word) = 3
 phase_of keywords.Order = 4
-
--- the first token begins with `#`
-abbrev pub is_comment : List ℕ → Bool
-is_comment [] = false
-is_comment (b ∷ bs) = b == 35

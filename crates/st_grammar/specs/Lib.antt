@@ -1,8 +1,5 @@
-pub mod Steps
-pub mod Places
 pub mod Draft
 pub mod Spelling
-pub mod Counts
 pub mod Sections
 pub mod Commands
 pub mod Keywords

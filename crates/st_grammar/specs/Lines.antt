@@ -6,34 +6,34 @@ use Rattle.st_text.specs.Tokens.{tokens_of}
 use Rattle.st_net.specs.Names.{is_among}
 use Rattle.st_wire.specs.declared.line.WireLine.{WireLine}
 use Rattle.st_event.specs.declared.act.Act.{Act}
-use Rattle.st_grammar.specs.declared.fault.DocKind.{DocKind}
-use Rattle.st_grammar.specs.declared.fault.DocKind.TheVariants as kinds
+use Rattle.st_token.specs.declared.fault.FaultKind.{FaultKind}
+use Rattle.st_token.specs.declared.fault.FaultKind.TheVariants as kinds
+use Rattle.st_token.specs.Steps.{◌>>=◌}
+use Rattle.st_token.specs.Spelling.{new_name_in, known_name_in, is_comment}
+use Rattle.st_token.specs.Counts.{one_of, some_of}
 use Rattle.st_grammar.specs.declared.keyword.Keyword.{Keyword}
 use Rattle.st_grammar.specs.declared.keyword.Keyword.TheVariants as keywords
 use Rattle.st_grammar.specs.declared.limits.TheConstants.{MAX_GROUPS, MAX_APPS, MAX_ACTS, MAX_WIRE_LINES}
 use Rattle.st_grammar.specs.declared.doc.Script.{Script}
-use Rattle.st_grammar.specs.Steps.{◌>>=◌}
 use Rattle.st_grammar.specs.Draft.{GroupDraft, Draft, empty_group, empty_script, groups_of, apps_of, group_names, app_names, with_wire, wired}
-use Rattle.st_grammar.specs.Spelling.{new_name_in, known_name_in}
-use Rattle.st_grammar.specs.Counts.{one_of, some_of}
 use Rattle.st_grammar.specs.Sections.{part_line}
 use Rattle.st_grammar.specs.Commands.{act_of, wire_of}
-use Rattle.st_grammar.specs.Keywords.{keyword_of, phase_of, is_comment}
+use Rattle.st_grammar.specs.Keywords.{keyword_of, phase_of}
 
 -- the name of a new group or application, of which there are so many at most
-unfoldable pub begun_name : List (List ℕ) → ℕ → List (List ℕ) → Result (List ℕ) DocKind
+unfoldable pub begun_name : List (List ℕ) → ℕ → List (List ℕ) → Result (List ℕ) FaultKind
 begun_name names most args = do
   word ← one_of args
   name ← new_name_in (is_among word names) word
   if nat_lt (length names) most then Ok name else Err kinds.Limit
 
 -- `group NAME` and `app NAME`
-unfoldable pub group_line : Draft → List (List ℕ) → Result Draft DocKind
+unfoldable pub group_line : Draft → List (List ℕ) → Result Draft FaultKind
 group_line d args = do
   name ← begun_name (group_names d) MAX_GROUPS args
   Ok (record d { groups = groups_of d; group = Some (empty_group name) })
 
-unfoldable pub app_line : Draft → List (List ℕ) → Result Draft DocKind
+unfoldable pub app_line : Draft → List (List ℕ) → Result Draft FaultKind
 app_line d args = do
   name ← begun_name (app_names d) MAX_APPS args
   Ok (record d { apps = apps_of d; app = Some (empty_script name) })
@@ -51,20 +51,20 @@ abbrev pub with_wire_line : Draft → ℕ → WireLine → Draft
 with_wire_line d n line =
     if nat_lt n (length d.groups) then record d { groups = wired d.groups n line } else record d { group = option_map (λ g. with_wire g line) d.group }
 
-unfoldable pub wire_line : Draft → Result (ℕ × WireLine) DocKind → Result Draft DocKind
+unfoldable pub wire_line : Draft → Result (ℕ × WireLine) FaultKind → Result Draft FaultKind
 wire_line d read = do
   line ← read
   if nat_lt (wire_count d line.0) MAX_WIRE_LINES then Ok (with_wire_line d line.0 line.1) else Err kinds.Limit
 
 -- declared names, behind those that were read
-unfoldable pub known_names_in : List (List ℕ) → List ℕ → List (List ℕ) → Result (List ℕ) DocKind
+unfoldable pub known_names_in : List (List ℕ) → List ℕ → List (List ℕ) → Result (List ℕ) FaultKind
 known_names_in names front [] = Ok front
 known_names_in names front (token ∷ tokens) = do
   place ← known_name_in names token
   known_names_in names (front ++ place ∷ []) tokens
 
 -- `order NAME..`
-unfoldable pub order_line : Draft → List (List ℕ) → Result Draft DocKind
+unfoldable pub order_line : Draft → List (List ℕ) → Result Draft FaultKind
 order_line d args = do
   words ← some_of args
   apps ← known_names_in (app_names d) [] words
@@ -83,7 +83,7 @@ abbrev pub is_allowed : Draft → Keyword → Bool
 is_allowed d keyword = nat_le d.phase (phase_of keyword) && has_section d keyword
 
 -- what a line adds to its group
-abbrev pub into_group : Draft → (GroupDraft → Result GroupDraft DocKind) → Result Draft DocKind
+abbrev pub into_group : Draft → (GroupDraft → Result GroupDraft FaultKind) → Result Draft FaultKind
 into_group d line = do
   g ← ok_or d.group kinds.Word
   h ← line g
@@ -93,18 +93,18 @@ into_group d line = do
 abbrev pub with_act : Script → Act → Script
 with_act app act = record app { acts = app.acts ++ act ∷ [] }
 
-unfoldable pub act_added : Draft → Act → Result Draft DocKind
+unfoldable pub act_added : Draft → Act → Result Draft FaultKind
 act_added d act = do
   app ← ok_or d.app kinds.Word
   if nat_lt (length app.acts) MAX_ACTS then Ok (record d { app = Some (with_act app act) }) else Err kinds.Limit
 
-unfoldable pub act_line : Draft → Result Act DocKind → Result Draft DocKind
+unfoldable pub act_line : Draft → Result Act FaultKind → Result Draft FaultKind
 act_line d read = do
   act ← read
   act_added d act
 
 -- what the line of a keyword declares
-abbrev pub declared_by : Draft → Keyword → List (List ℕ) → Result Draft DocKind
+abbrev pub declared_by : Draft → Keyword → List (List ℕ) → Result Draft FaultKind
 declared_by d keywords.Group args = group_line d args
 declared_by d (keywords.Part word) args = into_group d (λ g. part_line g word args)
 declared_by d (keywords.Wire word) args = wire_line d (wire_of d word args)
@@ -112,12 +112,12 @@ declared_by d keywords.App args = app_line d args
 declared_by d (keywords.Command word) args = act_line d (act_of d word args)
 declared_by d keywords.Order args = order_line d args
 
-unfoldable pub phased_line : Draft → Keyword → List (List ℕ) → Result Draft DocKind
+unfoldable pub phased_line : Draft → Keyword → List (List ℕ) → Result Draft FaultKind
 phased_line d keyword args = do
   next ← declared_by d keyword args
   Ok (record next { phase = phase_of keyword })
 
-unfoldable pub keyword_line : Draft → List ℕ → List (List ℕ) → Result Draft DocKind
+unfoldable pub keyword_line : Draft → List ℕ → List (List ℕ) → Result Draft FaultKind
 keyword_line d word args = do
   keyword ← ok_or (keyword_of word) kinds.Word
   if is_allowed d keyword then phased_line d keyword args else Err kinds.Word
@@ -127,14 +127,14 @@ abbrev pub is_header : List (List ℕ) → Bool
 is_header (a ∷ b ∷ []) = bytes_eq a (codes "statesman") && bytes_eq b (codes "1")
 is_header _ = false
 
-abbrev pub header_line : Draft → List (List ℕ) → Result Draft DocKind
+abbrev pub header_line : Draft → List (List ℕ) → Result Draft FaultKind
 header_line d words = if is_header words then Ok (record d { begun = true }) else Err kinds.Header
 
 -- what is declared after a line with these tokens
-abbrev pub tokens_line : Draft → List (List ℕ) → Result Draft DocKind
+abbrev pub tokens_line : Draft → List (List ℕ) → Result Draft FaultKind
 tokens_line d [] = Ok d
 tokens_line d (word ∷ args) = if is_comment word then Ok d else (if d.begun then keyword_line d word args else header_line d (word ∷ args))
 
 -- what is declared after a line
-unfoldable pub line_of : Draft → List ℕ → Result Draft DocKind
+unfoldable pub line_of : Draft → List ℕ → Result Draft FaultKind
 line_of d line = if has_allowed_bytes line then tokens_line d (tokens_of line) else Err kinds.Byte

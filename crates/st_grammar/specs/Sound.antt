@@ -1,15 +1,11 @@
 -- Which documents are sound: what the text of a document can declare, and nothing else.
 use Rattle.std.specs.Prelude.{◌≡◌, ◌<◌, ◌≤◌, ◌^◌, ℕ, List, [], All, true, length, map, None, slice_get}
 use Rattle.std.specs.Option.{IsSomeAnd}
-use Rattle.st_net.specs.declared.entity.Entity.{Entity}
-use Rattle.st_net.specs.declared.entity.Row.{Row}
-use Rattle.st_net.specs.declared.entity.Var.{Var}
 use Rattle.st_net.specs.declared.parts.Parts.{Parts}
 use Rattle.st_net.specs.declared.parts.LinkPart.{LinkPart}
-use Rattle.st_net.specs.Entities.{is_var_of}
 use Rattle.st_net.specs.Names.{is_name}
 use Rattle.st_net.specs.Groups.{Group, IsEntityOf, are_new, are_names}
-use Rattle.st_net.specs.Ranges.{RowFits, RowsFit, is_health_of, are_apart}
+use Rattle.st_net.specs.Ranges.{RowsFit, IsVariableOf, IsChangeOf}
 use Rattle.st_net.specs.Faults.{fault_of, group_of, device_names, link_names}
 use Rattle.st_event.specs.declared.act.Act.{Act}
 use Rattle.st_event.specs.declared.act.Act.TheVariants.{Propose, Await, Settle, Lock, Unlock, Read, ReadAt, Fail, Poll}
@@ -37,22 +33,6 @@ pub record IsSoundGroup (parts : Parts) : Type 0 where
 -- the group of this number is one with this property
 abbrev pub IsGroupWith : List Parts → ℕ → (Group → Type 0) → Type 0
 IsGroupWith groups n P = IsSomeAnd (slice_get groups n) (λ parts. P (group_of parts))
-
--- a variable of an entity of the group
-pub record IsVariableOf (entity : Entity) (var : Var) (g : Group) : Type 0 where
-  pub entity_in : IsEntityOf g entity
-  pub variable : is_var_of entity var ≡ true
-
-abbrev pub IsOn : Entity → Row → Type 0
-IsOn entity row = row.entity ≡ entity
-
--- what an entity of the group may change to of itself: a health, and values of its own variables
-pub record IsChangeOf (entity : Entity) (health : ℕ) (rows : List Row) (g : Group) : Type 0 where
-  pub entity_in : IsEntityOf g entity
-  pub health_range : is_health_of entity health ≡ true
-  pub own : All (IsOn entity) rows
-  pub each : All (RowFits g) rows
-  pub apart : are_apart rows ≡ true
 
 -- a command names a group, entities and variables of it, and numbers within their ranges
 abbrev pub IsSoundAct : List Parts → Act → Type 0

@@ -1,8 +1,8 @@
 //! What a document declares. The reader makes it from text, and the runs and the printer take it.
 
-use crate::fault::DocFault;
 use crate::lists::{Acts, AppOrder, DocGroups, DocWires, Scripts};
 use st_net::Name;
+use st_token::LineFault;
 
 /// An application with its commands.
 #[derive(Drop)]
@@ -33,5 +33,5 @@ pub struct Doc {
 #[derive(Drop)]
 pub enum DocRead {
     Doc(Doc),
-    Fault(DocFault),
+    Fault(LineFault),
 }

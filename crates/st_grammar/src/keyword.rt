@@ -1,7 +1,7 @@
 //! The words that lines begin with, the sections that they need, and the phases in which they stand.
 
 ghost use Rattle.std.specs.Prelude.{◌≡◌};
-ghost use Rattle.st_grammar.specs.Keywords.{part_word_of, wire_word_of, command_word_of, keyword_of, phase_of, is_comment};
+ghost use Rattle.st_grammar.specs.Keywords.{part_word_of, wire_word_of, command_word_of, keyword_of, phase_of};
 
 /// The first token of a line that declares something.
 #[derive(Clone, Copy, Debug, PartialEq, Eq)]
@@ -147,11 +147,4 @@ pub fn phase_of(keyword: Keyword) -> u32
         Keyword::Command(_) => 3,
         Keyword::Order => 4,
     }
-}
-
-/// Whether a line that begins with this word is skipped.
-pub fn is_comment(word: &[u8]) -> bool
-    ensures { result ≡ is_comment word.now }
-{
-    !word.is_empty() && word[0] == b'#'
 }

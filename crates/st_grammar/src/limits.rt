@@ -12,8 +12,3 @@ pub const MAX_ROUNDS: u32 = 64;
 
 /// The most wire lines of one group.
 pub const MAX_WIRE_LINES: usize = 1_024;
-
-/// The greatest health of a device and of a link: all works. The least is 0.
-pub const DEVICE_HEALTH: u32 = 5;
-
-pub const LINK_HEALTH: u32 = 1;

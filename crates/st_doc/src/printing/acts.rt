@@ -5,12 +5,14 @@ ghost use Rattle.st_text.specs.Words.{text_of, spaced};
 ghost use Rattle.st_text.specs.Printed.{HoldsPart};
 ghost use Rattle.st_net.specs.Groups.{name_of};
 ghost use Rattle.st_net.specs.Faults.{group_of};
-ghost use Rattle.st_doc.specs.Printed.{prio_word as prio_word_lem, variable_word, group_at, entity_word, assignment_words, value_words, act_words};
+ghost use Rattle.st_token.specs.Words.{prio_word as prio_word_lem, variable_word};
+ghost use Rattle.st_doc.specs.Printed.{group_at, entity_word, assignment_words, value_words, act_words};
 
-use crate::printing::words::{print_line, prio_word, var_word};
+use crate::printing::words::print_line;
 use st_event::Act;
 use st_net::{Entity, Parts, Prio, Row, Var};
 use st_text::{Text, Word, begin_line, print_word};
+use st_token::{prio_word, var_word};
 use std::alloc::AllocError;
 
 /// The name of a group, by its number; no bytes where there are not so many.

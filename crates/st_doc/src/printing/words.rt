@@ -1,12 +1,11 @@
-//! The words of a document's lines, by what they are in a document, and the text of a line. The modules beside make lines of
+//! The words that documents alone have, by what they are in a document, and the text of a line. The modules beside make lines of
 //! them.
 
 ghost use Rattle.std.specs.Prelude.{◌≡◌, ◌++◌, ◌∷◌, [], OnOk, OnErr, map};
 ghost use Rattle.st_text.specs.Printed.{HoldsPart, bytes_of};
 ghost use Rattle.st_text.specs.Words.{text_of};
-ghost use Rattle.st_doc.specs.Printed.{tor_word as tor_word_lem, var_word as var_word_lem, prio_word as prio_word_lem, wire_kind_word as kind_word_lem};
+ghost use Rattle.st_doc.specs.Printed.{tor_word as tor_word_lem, wire_kind_word as kind_word_lem};
 
-use st_net::{Prio, Var};
 use st_text::{Text, Word};
 use st_wire::WireKind;
 use std::alloc::AllocError;
@@ -16,29 +15,6 @@ pub fn tor_word(tor: bool) -> &'static [u8]
     ensures { result.now ≡ tor_word_lem tor }
 {
     if tor { b"tor" } else { b"switch" }
-}
-
-/// The word for a variable.
-pub fn var_word(var: Var) -> &'static [u8]
-    ensures { result.now ≡ var_word_lem var }
-{
-    match var {
-        Var::Power | Var::LinkPower => b"power",
-        Var::Firmware => b"firmware",
-        Var::Config => b"config",
-        Var::Routing => b"routing",
-        Var::Iface => b"iface",
-    }
-}
-
-/// The word for a lock.
-pub fn prio_word(prio: Prio) -> &'static [u8]
-    ensures { result.now ≡ prio_word_lem prio }
-{
-    match prio {
-        Prio::Low => b"low",
-        Prio::High => b"high",
-    }
 }
 
 /// The word for a kind of messages.

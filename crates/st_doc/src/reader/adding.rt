@@ -2,14 +2,15 @@
 
 ghost use Rattle.std.specs.Prelude.{◌≡◌, map, OnOk, All};
 ghost use Rattle.st_text.specs.Tokens.{token_in, IsTokenOf};
-ghost use Rattle.st_grammar.specs.Steps.{Gives};
+ghost use Rattle.st_token.specs.Steps.{Gives};
 ghost use Rattle.st_grammar.specs.Commands.{wire_of, act_of};
 ghost use Rattle.st_grammar.specs.Lines.{wire_count, with_wire_line, wire_line, act_added, act_line};
 
 use crate::reader::Reader;
 use st_event::Act;
-use st_grammar::{CommandWord, DocKind, LineError, MAX_ACTS, MAX_WIRE_LINES, WireWord};
+use st_grammar::{CommandWord, MAX_ACTS, MAX_WIRE_LINES, WireWord};
 use st_text::Token;
+use st_token::{FaultKind, LineError};
 use st_wire::WireLine;
 use std::alloc::AllocError;
 
@@ -55,7 +56,7 @@ impl Reader {
     {
         let (place, wire) = self.wire_of(word, line, tokens)?;
         if self.wire_count(place) >= MAX_WIRE_LINES {
-            return Err(LineError::Bad(DocKind::Limit));
+            return Err(LineError::Bad(FaultKind::Limit));
         }
         self.add_wire(place, wire)?;
         Ok(())
@@ -67,10 +68,10 @@ impl Reader {
         ensures { Gives (λ _. self.new) result (act_added self.old act) }
     {
         match &mut self.app {
-            None => Err(LineError::Bad(DocKind::Word)),
+            None => Err(LineError::Bad(FaultKind::Word)),
             Some(app) => {
                 if app.acts.as_slice().len() >= MAX_ACTS {
-                    return Err(LineError::Bad(DocKind::Limit));
+                    return Err(LineError::Bad(FaultKind::Limit));
                 }
                 app.acts.add(act)?;
                 Ok(())

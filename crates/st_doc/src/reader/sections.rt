@@ -3,20 +3,21 @@
 ghost use Rattle.std.specs.Prelude.{◌≡◌, ◌<◌, ◌^◌, [], length, map, OnOk, IfOk, All, Some, false};
 ghost use Rattle.st_text.specs.Tokens.{token_in, IsTokenOf};
 ghost use Rattle.st_net.specs.Names.{is_among};
-ghost use Rattle.st_grammar.specs.Steps.{Gives};
+ghost use Rattle.st_token.specs.Steps.{Gives};
 ghost use Rattle.st_grammar.specs.Draft.{empty_group, empty_script, groups_of, apps_of, group_names, app_names};
 ghost use Rattle.st_grammar.specs.Sections.{part_line};
 ghost use Rattle.st_grammar.specs.Lines.{begun_name, into_group, group_line, app_line, known_names_in, order_line};
 
 use crate::reader::Reader;
-use st_draft::{Group, Names, known_name_in, new_name_in, one_of};
-use st_grammar::{Acts, DocKind, LineError, MAX_APPS, MAX_GROUPS, PartWord, Script};
+use st_draft::Group;
+use st_grammar::{Acts, MAX_APPS, MAX_GROUPS, PartWord, Script};
 use st_net::Name;
 use st_text::Token;
+use st_token::{FaultKind, LineError, Names, known_name_in, new_name_in, one_of};
 use std::alloc::{AllocError, Global};
 
 /// The name of a new section, where there are at most so many.
-#[tactic(auto, unfolding(st_grammar::specs::Lines::begun_name, st_grammar::specs::Spelling::new_name_in))]
+#[tactic(auto, unfolding(st_grammar::specs::Lines::begun_name, st_token::specs::Spelling::new_name_in))]
 fn begun_name(
     alloc: Global,
     names: &Names,
@@ -34,7 +35,7 @@ fn begun_name(
     if names.len() < most {
         Ok(name)
     } else {
-        Err(LineError::Bad(DocKind::Limit))
+        Err(LineError::Bad(FaultKind::Limit))
     }
 }
 
@@ -138,7 +139,7 @@ impl Reader {
         ensures { Gives (λ _. self.new) result (into_group self.old (λ g. part_line g word (map (token_in line.now) tokens.now))) }
     {
         match &mut self.group {
-            None => Err(LineError::Bad(DocKind::Word)),
+            None => Err(LineError::Bad(FaultKind::Word)),
             Some(group) => group.part(word, line, tokens),
         }
     }
@@ -150,7 +151,7 @@ impl Reader {
         ensures { Gives (λ _. self.new) result (order_line self.old (map (token_in line.now) tokens.now)) }
     {
         if tokens.is_empty() {
-            return Err(LineError::Bad(DocKind::Count));
+            return Err(LineError::Bad(FaultKind::Count));
         }
         let apps = known_names_in(self.alloc, &self.app_index, line, tokens)?;
         self.order.extend_from_slice(apps.as_slice())?;

@@ -4,14 +4,15 @@ mod faults;
 
 use crate::reading::read_doc;
 use faults::{FAULTS, OPENINGS, PLAIN};
-use st_grammar::DocKind::{self, Cross, Limit, Loop, Number, Pair, Twice, Unknown};
-use st_grammar::{DocFault, DocRead};
+use st_grammar::DocRead;
+use st_token::FaultKind::{self, Cross, Limit, Loop, Number, Pair, Twice, Unknown};
+use st_token::LineFault;
 use std::alloc::{AllocError, Global};
 use std::process::Abort;
 use std::test::Fail;
 
 /// Lines in place of one of `PLAIN`, with its number and their kind.
-const REPLACED: [(&str, u32, DocKind); 6] = [
+const REPLACED: [(&str, u32, FaultKind); 6] = [
     ("device t1 switch", 4, Twice),
     ("link l1 t1 t1 10", 7, Loop),
     ("link l1 t1 dc2/a1 10", 7, Cross),
@@ -51,7 +52,7 @@ const LIMITS: [(&str, &str, u32, u32); 17] = [
 ];
 
 /// The fault of a document, where it has one.
-fn fault_of(rt: &impl Abort, alloc: Global, bytes: &[u8]) -> Result<Option<DocFault>, AllocError> {
+fn fault_of(rt: &impl Abort, alloc: Global, bytes: &[u8]) -> Result<Option<LineFault>, AllocError> {
     assert!(rt; bytes.len() < 4294967295);
     match read_doc(alloc, bytes, false)? {
         DocRead::Doc(_) => Ok(None),
@@ -123,7 +124,7 @@ fn a_bad_line_amid_others_is_told(rt: HostRuntime) -> Result<(), Fail> {
     for (text, line, kind) in REPLACED {
         let bytes = with_line(alloc, line, text)?;
         let fault = fault_of(&rt, alloc, bytes.as_slice())?;
-        assert_eq!(&rt; fault, Some(DocFault { line, kind }), "{text}");
+        assert_eq!(&rt; fault, Some(LineFault { line, kind }), "{text}");
     }
     Ok(())
 }
@@ -134,7 +135,7 @@ fn the_line_that_passes_a_limit_is_told(rt: HostRuntime) -> Result<(), Fail> {
     for (opening, text, count, line) in LIMITS {
         let bytes = numbered(alloc, opening, text, count)?;
         let fault = fault_of(&rt, alloc, bytes.as_slice())?;
-        assert_eq!(&rt; fault, Some(DocFault { line, kind: Limit }), "{text}");
+        assert_eq!(&rt; fault, Some(LineFault { line, kind: Limit }), "{text}");
     }
     Ok(())
 }

@@ -3,17 +3,18 @@
 
 ghost use Rattle.std.specs.Prelude.{◌≡◌, map, OnOk, IfOk, All, false};
 ghost use Rattle.st_text.specs.Tokens.{token_in, IsTokenOf};
-ghost use Rattle.st_grammar.specs.Steps.{Gives};
+ghost use Rattle.st_token.specs.Steps.{Gives};
 ghost use Rattle.st_grammar.specs.Draft.{IsEntityIn, MaySet, with_open, opened, has_health, with_health};
 ghost use Rattle.st_grammar.specs.Spelling.{untold_in};
 ghost use Rattle.st_grammar.specs.Sections.{open_of, open_line, health_of, health_line};
 
-use crate::assignment::most_health;
 use crate::group::Group;
-use crate::spelling::{number_within, one_of, two_of};
-use st_grammar::{DocKind, LineError};
 use st_net::{Entity, Row};
 use st_text::Token;
+use st_token::{
+    FaultKind, LineError, NamedEntities, most_health, new_assignment_in, number_within, one_of,
+    two_of,
+};
 use std::alloc::AllocError;
 
 impl Group {
@@ -25,7 +26,7 @@ impl Group {
         ensures fits { IfOk result (MaySet self.now self.now.opens) }
     {
         let word = one_of(line, tokens)?;
-        self.new_assignment_in(&self.opens, word)
+        new_assignment_in(self.alloc, self, &self.opens, word)
     }
 
     /// Sets an opening value.
@@ -85,9 +86,9 @@ impl Group {
         ensures within { IfOk result (IsEntityIn self.now) }
         ensures fresh { IfOk result (λ entity. has_health self.now entity ≡ false) }
     {
-        let entity = self.entity_in(token)?;
+        let entity = self.entity_in(self.alloc, token)?;
         if self.has_health(entity) {
-            Err(LineError::Bad(DocKind::Twice))
+            Err(LineError::Bad(FaultKind::Twice))
         } else {
             Ok(entity)
         }

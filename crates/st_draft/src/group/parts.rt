@@ -5,21 +5,22 @@ ghost use Rattle.std.specs.Prelude.{◌≡◌, ◌≤◌, if◌then◌else◌, m
 ghost use Rattle.st_text.specs.Tokens.{token_in, IsTokenOf};
 ghost use Rattle.st_net.specs.Names.{is_among};
 ghost use Rattle.st_net.specs.Faults.{device_names, number_of as place_by, is_tor_name, was_promised, is_bad_pair};
-ghost use Rattle.st_grammar.specs.Steps.{Gives};
+ghost use Rattle.st_token.specs.Steps.{Gives};
 ghost use Rattle.st_grammar.specs.Draft.{MayAddDevice, MayAddLink, MayAddPromise, with_device, with_link, with_promise};
 ghost use Rattle.st_grammar.specs.Spelling.{end_in, cross_end_in};
 ghost use Rattle.st_grammar.specs.Sections.{device_of, device_line, has_device_room, link_of, link_line, own_end, promise_of, promise_line};
 
 use crate::group::Group;
-use crate::spelling::{
-    cut_at, four_of, is_tor_word, name_in, new_name_in, number_within, three_of, two_of,
-};
-use st_grammar::{DEVICE_HEALTH, DocKind, LINK_HEALTH, LineError};
+use crate::spelling::is_tor_word;
 use st_net::{
     DevicePart, EndPart, LinkPart, MAX_CAPACITY, MAX_DEVICES, MAX_LINKS, MAX_PERCENT, MAX_PROMISES,
     MAX_TORS, Name, PromisePart, Vals,
 };
 use st_text::Token;
+use st_token::{
+    DEVICE_HEALTH, FaultKind, LINK_HEALTH, LineError, cut_at, four_of, name_in, new_name_in,
+    number_within, three_of, two_of,
+};
 use std::alloc::AllocError;
 
 /// The values that a device opens with where no line says otherwise.
@@ -62,7 +63,7 @@ impl Group {
     }
 
     /// The device that a line declares.
-    #[tactic(auto, unfolding(st_grammar::specs::Sections::device_of, st_grammar::specs::Spelling::new_name_in))]
+    #[tactic(auto, unfolding(st_grammar::specs::Sections::device_of, st_token::specs::Spelling::new_name_in))]
     fn device_of(&self, line: &[u8], tokens: &[Token]) -> Result<DevicePart, LineError>
         requires { All (IsTokenOf line.now) tokens.now }
         ensures gives { Gives (λ device. device) result (device_of self.now (map (token_in line.now) tokens.now)) }
@@ -72,7 +73,7 @@ impl Group {
         let name = new_name_in(self.alloc, self.is_entity_name(name), name)?;
         let tor = is_tor_word(kind)?;
         if !self.has_device_room(tor) {
-            return Err(LineError::Bad(DocKind::Limit));
+            return Err(LineError::Bad(FaultKind::Limit));
         }
         Ok(DevicePart {
             name,
@@ -119,7 +120,7 @@ impl Group {
         if own.is_same(&self.name) {
             self.device_in(name.bytes())
         } else {
-            Err(LineError::Bad(DocKind::Cross))
+            Err(LineError::Bad(FaultKind::Cross))
         }
     }
 
@@ -134,7 +135,7 @@ impl Group {
     }
 
     /// The link that a line declares.
-    #[tactic(auto, unfolding(st_grammar::specs::Sections::link_of, st_grammar::specs::Spelling::new_name_in))]
+    #[tactic(auto, unfolding(st_grammar::specs::Sections::link_of, st_token::specs::Spelling::new_name_in))]
     fn link_of(&self, line: &[u8], tokens: &[Token]) -> Result<LinkPart, LineError>
         requires { All (IsTokenOf line.now) tokens.now }
         ensures gives { Gives (λ link. link) result (link_of self.now (map (token_in line.now) tokens.now)) }
@@ -146,10 +147,10 @@ impl Group {
         let b = self.end_in(b)?;
         let capacity = number_within(1, MAX_CAPACITY, capacity)?;
         if a.is_same(&b) {
-            return Err(LineError::Bad(DocKind::Loop));
+            return Err(LineError::Bad(FaultKind::Loop));
         }
         if self.links.len() >= MAX_LINKS {
-            return Err(LineError::Bad(DocKind::Limit));
+            return Err(LineError::Bad(FaultKind::Limit));
         }
         Ok(LinkPart {
             name,
@@ -230,10 +231,10 @@ impl Group {
         let percent = number_within(0, MAX_PERCENT, percent)?;
         let promise = PromisePart { a, b, percent };
         if self.is_bad_pair(&promise) {
-            return Err(LineError::Bad(DocKind::Pair));
+            return Err(LineError::Bad(FaultKind::Pair));
         }
         if self.promises.len() >= MAX_PROMISES {
-            return Err(LineError::Bad(DocKind::Limit));
+            return Err(LineError::Bad(FaultKind::Limit));
         }
         Ok(promise)
     }

@@ -1,6 +1,7 @@
 use Rattle.std.proofs.Common.{refl}
 use Rattle.st_text.proofs.PrintLemmas.{by_next, by_part, err_of, words_by}
-use Rattle.st_doc.specs.Printed.{assignment_word, entity_word}
+use Rattle.st_token.specs.Words.{assignment_word}
+use Rattle.st_doc.specs.Printed.{entity_word}
 use Rattle.st_doc.proofs.printing.acts.print_assignments.Goals as goal
 
 pub returns-in_err-print_word-clause-err : goal.returns-in_err-print_word-clause-err

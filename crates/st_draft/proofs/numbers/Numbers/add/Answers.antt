@@ -1,6 +1,6 @@
 use Rattle.std.proofs.Common.{◌≡◌, ℕ, List, false, subst, sym}
 use Rattle.st_grammar.specs.Draft.{is_told}
-use Rattle.st_draft.proofs.PairLemmas.{number_added}
+use Rattle.st_draft.proofs.NumberLemmas.{number_added}
 use Rattle.st_draft.proofs.numbers.Numbers.add.Goals as goal
 
 pub returns-clause-ok : goal.returns-clause-ok

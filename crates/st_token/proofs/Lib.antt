@@ -1,0 +1,9 @@
+mod PairLemmas
+pub mod RowLemmas
+pub mod NameLemmas
+pub mod PrintedTokens
+pub mod FirstBad
+pub mod FoundNames
+pub mod PrintedRows
+mod ReadingBackLemmas
+pub mod ReadTokens

@@ -1,0 +1,10 @@
+pub mod Steps
+pub mod Places
+pub mod Counts
+pub mod Spelling
+pub mod Variables
+pub mod Words
+pub mod Pairs
+pub mod RowsInside
+pub mod Reading
+pub mod ReadingBack
