@@ -1,0 +1,5 @@
+pub mod Keywords
+pub mod Words
+pub mod Causes
+pub mod Entries
+pub mod Saws
