@@ -1,0 +1,10 @@
+pub mod EntryWords
+pub mod EventReading
+pub mod ReplyReading
+pub mod EntryReading
+pub mod JournalLines
+pub mod JournalReading
+pub mod ReaderInside
+pub mod Replaying
+pub mod Printing
+pub mod ReadingBack

@@ -1,0 +1,151 @@
+//! Journals are read here: the bytes are cut into lines, the reader takes them one after another, and the first bad one
+//! ends the reading.
+
+ghost use Rattle.std.specs.Prelude.{◌≡◌, ◌+◌, ◌<◌, ◌^◌, All, length, map, IfOk, MatchOption, Ok, Err};
+ghost use Rattle.std.specs.List.{AllByRecursion};
+ghost use Rattle.st_text.specs.Lines.{lines_of, line_in, IsLineWithin};
+ghost use Rattle.st_net.specs.Groups.{IsSound};
+ghost use Rattle.st_token.specs.Reading.{read_on};
+ghost use Rattle.st_journal.specs.JournalLines.{filled, journals_of, line_of};
+ghost use Rattle.st_journal.specs.JournalReading.{journals_from, journals_in, Reads, Tells, HasOneOfEach};
+
+use crate::reader::JournalReader;
+use st_event::Journal;
+use st_net::{GroupTopo, Name};
+use st_text::{Line, lines};
+use st_token::{FaultKind, LineFault, take_lines};
+use std::alloc::{AllocError, Global};
+use std::marker::Model;
+
+/// A journal of each group, in the order of groups. Contracts see the list.
+#[derive(Drop)]
+pub struct Journals {
+    journals: Vec<Journal>,
+}
+
+/// What was read: a journal of each group, or the first bad line and its kind.
+#[derive(Drop)]
+pub enum JournalsRead {
+    Journals(Journals),
+    Fault { line: u32, kind: FaultKind },
+}
+
+impl Model for Journals {
+    ghost use Rattle.std.specs.Prelude.{List};
+    ghost use Rattle.st_event.specs.declared.journal.Journal.{Journal};
+
+    ghost Value = { List Journal };
+
+    ghost view = { λ j. j.journals.items };
+}
+
+impl Journals {
+    /// These journals, in order.
+    pub fn new(journals: Vec<Journal>) -> Journals
+        ensures { result ≡ journals.items }
+    {
+        Journals { journals }
+    }
+
+    /// The journals, in the order of groups.
+    pub fn as_slice(&self) -> &[Journal]
+        ensures { result.now ≡ self.now }
+    {
+        self.journals.as_slice()
+    }
+
+    /// The journals, given back without taking memory.
+    pub fn into_vec(self) -> Vec<Journal>
+        ensures { result.items ≡ self }
+    {
+        self.journals
+    }
+}
+
+/// Reads the journals of these groups, or names the first bad line and that line's kind. The first line has the number `line`.
+/// A group that the text has no journal of gets the empty one. Names of groups and of applications are looked up by their
+/// first place. Takes time and memory in the bytes, and `Err` is for want of memory alone.
+pub fn read_journals(
+    alloc: Global,
+    bytes: &[u8],
+    line: u32,
+    topos: &[GroupTopo],
+    apps: &[Name],
+) -> Result<JournalsRead, AllocError>
+    requires few { line + length bytes.now < 2 ^ 32 }
+    requires few_groups { length topos.now < 2 ^ 32 }
+    requires few_apps { length apps.now < 2 ^ 32 }
+    // The journals that the bytes give, or their fault.
+    ensures exact { IfOk result (λ read. Reads read (journals_in topos.now apps.now line bytes.now)) }
+    // The lines before the first bad one are good, one after another.
+    ensures tells { IfOk result (λ read. Tells topos.now apps.now line read (lines_of bytes.now)) }
+    // Each group has one journal, in order, whose events a world of that group may enter.
+    ensures each { IfOk result (HasOneOfEach topos.now) }
+{
+    are_sound(topos);
+    read_text(alloc, bytes, line, topos, apps)
+}
+
+/// Each group is sound.
+fn are_sound(topos: &[GroupTopo])
+    ensures { AllByRecursion IsSound topos.now }
+{
+    for topo in topos {
+        topo.is_sound();
+    }
+}
+
+/// Reads journals, as `read_journals` does.
+fn read_text(
+    alloc: Global,
+    bytes: &[u8],
+    line: u32,
+    topos: &[GroupTopo],
+    apps: &[Name],
+) -> Result<JournalsRead, AllocError>
+    requires few { line + length bytes.now < 2 ^ 32 }
+    requires few_groups { length topos.now < 2 ^ 32 }
+    requires few_apps { length apps.now < 2 ^ 32 }
+    ensures { IfOk result (λ read. Reads read (journals_in topos.now apps.now line bytes.now)) }
+{
+    let places = lines(alloc, bytes)?;
+    read_at(
+        JournalReader::new(alloc, topos, apps),
+        line,
+        bytes,
+        places.as_slice(),
+    )
+}
+
+/// Reads the lines at these places over what was read.
+fn read_at(
+    mut reader: JournalReader,
+    first: u32,
+    bytes: &[u8],
+    places: &[Line],
+) -> Result<JournalsRead, AllocError>
+    requires within { All (IsLineWithin bytes.now) places.now }
+    requires few { first + length places.now < 2 ^ 32 }
+    ensures { IfOk result (λ read. Reads read (journals_from reader.entry.groups (read_on line_of reader.entry first (map (line_in bytes.now) places.now)))) }
+{
+    match take_lines(&mut reader, first, bytes, places) {
+        Ok(end) => ended(reader, end),
+        Err(error) => Err(error),
+    }
+}
+
+/// The journals that were read, or the fault with which their reading ended.
+fn ended(reader: JournalReader, end: Option<LineFault>) -> Result<JournalsRead, AllocError>
+    ensures { IfOk result (λ read. MatchOption end (Reads read (Ok (filled (length reader.entry.groups) (journals_of reader.entry)))) (λ fault. Reads read (Err fault))) }
+{
+    match end {
+        Some(fault) => Ok(JournalsRead::Fault {
+            line: fault.line,
+            kind: fault.kind,
+        }),
+        None => Ok(JournalsRead::Journals(reader.finish()?)),
+    }
+}
+
+#[cfg(test)]
+mod tests;
