@@ -1,0 +1,4 @@
+pub mod TreeNames
+pub mod FatTrees
+pub mod Scripts
+pub mod Generated
