@@ -31,28 +31,6 @@ fn vars_of(entity: Entity) -> &'static [Var]
     }
 }
 
-/// How many entities a group has.
-fn entity_count(topo: &GroupTopo) -> u32
-    ensures { result ≡ length (entities_of topo.now) }
-{
-    topo.is_sound();
-    topo.device_count() + topo.link_count()
-}
-
-/// An entity, by its place from 0 in the order of entities.
-fn entity_at(topo: &GroupTopo, place: u32) -> Entity
-    requires { place < length (entities_of topo.now) }
-    ensures of { IsEntityOf topo.now result }
-    ensures at { result ≡ slice_index_or (entities_of topo.now) place result }
-{
-    let devices = topo.device_count();
-    if place < devices {
-        Entity::Device(place)
-    } else {
-        Entity::Link(place - devices)
-    }
-}
-
 /// Adds the line of a variable of a target whose value is not its opening's. After `Err` the text holds a part of it.
 fn print_change(
     topo: &GroupTopo,
@@ -114,8 +92,8 @@ pub fn target_lines(topo: &GroupTopo, target: &Table, out: &mut Text) -> Result<
     ensures ok { OnOk result (out.new ≡ out.old ++ target_lines_lem topo.now (value_in target.now) (entities_of topo.now)) }
     ensures err { OnErr result (HoldsPart out.old out.new (target_lines_lem topo.now (value_in target.now) (entities_of topo.now))) }
 {
-    for place in 0..entity_count(topo) {
-        let entity = entity_at(topo, place);
+    for place in 0..topo.entity_count() {
+        let entity = topo.entity_at(place);
         print_changes(topo, target, entity, out)?;
     }
     Ok(())
@@ -150,8 +128,8 @@ pub fn unsettled_lines(
     ensures ok { OnOk result (out.new ≡ out.old ++ unsettled_lines_lem topo.now (is_in settled.now) (entities_of topo.now)) }
     ensures err { OnErr result (HoldsPart out.old out.new (unsettled_lines_lem topo.now (is_in settled.now) (entities_of topo.now))) }
 {
-    for place in 0..entity_count(topo) {
-        let entity = entity_at(topo, place);
+    for place in 0..topo.entity_count() {
+        let entity = topo.entity_at(place);
         print_unsettled(topo, settled, entity, out)?;
     }
     Ok(())

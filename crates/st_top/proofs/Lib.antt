@@ -1,10 +1,7 @@
-pub mod Checks
-pub mod Courses
 pub mod Ups
-pub mod Histories
 pub mod Limits
 pub mod Lines
 pub mod Lists
-pub mod Ranges
 pub mod Runs
 pub mod Schedules
+pub mod Worlds

@@ -2,8 +2,8 @@
 use Rattle.std.proofs.Common.{◌≡◌, ℕ, zero, suc, ◌+◌, ◌<◌, List, [], ◌∷◌, ◌++◌, length, Bool, true, false, refl, ap, sym, ◌∙◌, subst, arith, set, take, drop}
 use Rattle.std.specs.Prelude.{All, codes, reverse, map, slice_get, slice_index_or, Option, Some, None, option_map, is_some, Ok as read_ok, if◌then◌else◌}
 use Rattle.std.specs.Option.{IsSomeAnd}
-use Rattle.std.proofs.Math.Seq.{drop-cons, take-suc}
-use Rattle.std.proofs.lemmas.List.{reverse-reverse, append-nil, append_assoc, length-map, set_split}
+use Rattle.std.proofs.Math.Seq.{drop-cons, take-suc, take-suc-set}
+use Rattle.std.proofs.lemmas.List.{reverse-reverse, append-nil, append_assoc, drop-set-lt, length-map, set_split}
 use Rattle.std.proofs.lemmas.List.Elements.{All-append}
 use Rattle.std.proofs.lemmas.Option.{slice_get-get_or}
 use Rattle.st_net.specs.declared.entity.AppId.{AppId}
@@ -19,19 +19,20 @@ use Rattle.st_event.specs.Legal.{IsLegal, AtEach}
 use Rattle.st_event.specs.Network.{KeepsPromises}
 use Rattle.st_grammar.specs.declared.doc.Doc.{Doc}
 use Rattle.st_grammar.specs.declared.doc.Script.{Script}
-use Rattle.st_grammar.specs.Sound.{IsGroupWith, IsVariableOf, IsChangeOf, IsSoundAct, IsSoundDoc}
+use Rattle.st_net.specs.Ranges.{IsVariableOf, IsChangeOf}
+use Rattle.st_grammar.specs.Sound.{IsGroupWith, IsSoundAct, IsSoundDoc}
 use Rattle.st_report.specs.GroupReport.{group_report}
 use Rattle.st_wire.specs.declared.line.WireLine.{WireLine}
 use Rattle.st_world.specs.declared.world.rounds.Going.{Going}
 use Rattle.st_world.specs.Rounds.{Run as Course, is_full}
+use Rattle.st_world.specs.Acts.{ActFits, group_number, seen_by}
 use Rattle.st_top.specs.declared.answer.Status.{Status}
 use Rattle.st_top.specs.declared.answer.Status.TheVariants as statuses
 use Rattle.st_top.specs.declared.schedule.Place.{Place}
 use Rattle.st_top.specs.declared.words.Command.TheVariants.{Serial}
 use Rattle.st_top.specs.Schedule.{schedule}
-use Rattle.st_top.specs.Site.{SiteView, site_at, Goes}
-use Rattle.st_top.specs.Serial.{Run, Checked, ActFits, FitsIn, AllFitIn, EntryFits, LogsFit, act_course, act_on, act_of, act_in, act_done, all_checked, all_decided, all_opened, asked_done, changed_at, decided, full_of, group_number, groups_in, journals_from, logged, logs_from, opened, opening_run, place_done, places_done, scripts_done, seen_by, seen_of, serial_end, serial_full, serial_run, with_checked, with_group}
-use Rattle.st_top.specs.Output.{app_names, groups_text, sites_text, logs_text, log_text, head_line, end_line, report_of, run_text}
+use Rattle.st_top.specs.Serial.{AllFitIn, Checked, EntryFits, FitsIn, GroupState, LogsFit, Run, act_done, act_in, act_of, act_on, all_decided, all_opened, asked_done, changed_at, checks_in, course_in, decided, full_of, groups_in, journals_from, logged, logs_from, opened, opening_run, place_done, places_done, scripts_done, seen_of, serial_end, serial_full, serial_run, state_at, with_checked, with_group}
+use Rattle.st_top.specs.Output.{app_names, groups_text, states_text, logs_text, log_text, head_line, end_line, report_of, run_text}
 use Rattle.st_top.specs.Answer.{Results, AreKept, AreOfScripts, EndsOn, IsKept, full_line, name_or_none}
 use Rattle.st_top.specs.Ending.{AreKeptSites, IsKeptHistory, IsToldOf}
 use Rattle.st_top.proofs.Lists.{OfSome, of_some, some_in, by_test, changed_count, one_fits, at_set, changed_same}
@@ -49,7 +50,7 @@ opened_one (parts ∷ groups) [] i d e low each = absurd (omega (arith, each))
 opened_one (parts ∷ groups) (lines ∷ wires) zero d e low each = refl
 opened_one (parts ∷ groups) (lines ∷ wires) (suc i) d e low each = ap (λ ss. opened parts lines ∷ ss) (opened_one groups wires i d e (omega (arith, low)) (omega (arith, each)))
 
-pub opened_next : (groups : List Parts) (wires : List (List WireLine)) (i : ℕ) (d : Parts) (e : List WireLine) (sites more : List SiteView) (s : SiteView) → i < length groups → length wires ≡ length groups → sites ≡ all_opened (take i groups) (take i wires) → more ≡ sites ++ s ∷ [] → s ≡ opened (slice_index_or groups i d) (slice_index_or wires i e) → more ≡ all_opened (take (i + 1) groups) (take (i + 1) wires)
+pub opened_next : (groups : List Parts) (wires : List (List WireLine)) (i : ℕ) (d : Parts) (e : List WireLine) (sites more : List GroupState) (s : GroupState) → i < length groups → length wires ≡ length groups → sites ≡ all_opened (take i groups) (take i wires) → more ≡ sites ++ s ∷ [] → s ≡ opened (slice_index_or groups i d) (slice_index_or wires i e) → more ≡ all_opened (take (i + 1) groups) (take (i + 1) wires)
 opened_next groups wires i d e sites more s low each was adds is =
     let one : i + 1 ≡ suc i = omega arith in
     adds ∙ ap (λ ss. ss ++ s ∷ []) was ∙ ap (λ x. all_opened (take i groups) (take i wires) ++ x ∷ []) is ∙ sym (opened_one groups wires i d e low each)
@@ -82,7 +83,7 @@ pub scripts_fit : (doc : Doc) → IsSoundDoc doc → AllFitIn doc.apps (map grou
 scripts_fit doc sound k d low j e lower = act_fits doc.groups (slice_index_or (slice_index_or doc.apps k d).acts j e) ((sound.apps k d low).acts j e lower)
 
 -- commands leave the groups as they are
-at_groups : (n : ℕ) (f : SiteView → SiteView) (ss : List SiteView) → ((s : SiteView) → (f s).history.group ≡ s.history.group) → groups_in (changed_at n f ss) ≡ groups_in ss
+at_groups : (n : ℕ) (f : GroupState → GroupState) (ss : List GroupState) → ((s : GroupState) → (f s).history.group ≡ s.history.group) → groups_in (changed_at n f ss) ≡ groups_in ss
 at_groups n f [] same = refl
 at_groups zero f (s ∷ ss) same = ap (λ g. g ∷ groups_in ss) (same s)
 at_groups (suc n) f (s ∷ ss) same = ap (λ gs. s.history.group ∷ gs) (at_groups n f ss same)
@@ -98,11 +99,11 @@ pub places_groups : (apps : List Script) (places : List Place) (run : Run) → g
 places_groups apps [] run = refl
 places_groups apps (place ∷ places) run = places_groups apps places (place_done apps place run) ∙ place_groups apps place run
 
-pub checked_groups : (n : ℕ) (ss : List SiteView) → groups_in (all_decided n ss).groups ≡ groups_in ss
+pub checked_groups : (n : ℕ) (ss : List GroupState) → groups_in (all_decided n ss).groups ≡ groups_in ss
 checked_groups n [] = refl
 checked_groups n (s ∷ ss) =
-    let course = all_checked s in
-    by_test (λ (c : Checked). groups_in c.groups ≡ groups_in (s ∷ ss)) course.stopped (record { groups = site_at s course ∷ ss; full = Some n }) (with_group (site_at s course) (all_decided (n + 1) ss))
+    let course = checks_in s in
+    by_test (λ (c : Checked). groups_in c.groups ≡ groups_in (s ∷ ss)) course.stopped (record { groups = state_at s course ∷ ss; full = Some n }) (with_group (state_at s course) (all_decided (n + 1) ss))
     refl (ap (λ gs. s.history.group ∷ gs) (checked_groups (n + 1) ss))
 
 decided_groups : (run : Run) → groups_in (decided run).groups ≡ groups_in run.groups
@@ -115,10 +116,10 @@ pub serial_groups : (doc : Doc) → IsSoundDoc doc → groups_in (serial_end doc
 serial_groups doc sound = decided_groups (scripts_done doc) ∙ scripts_groups doc sound
 
 -- so there are as many of them
-pub same_count : (ss more : List SiteView) → groups_in more ≡ groups_in ss → length more ≡ length ss
+pub same_count : (ss more : List GroupState) → groups_in more ≡ groups_in ss → length more ≡ length ss
 same_count ss more same = sym (length-map more (λ s. s.history.group)) ∙ ap length same ∙ length-map ss (λ s. s.history.group)
 
-as_many : (groups : List Parts) (ss : List SiteView) → groups_in ss ≡ map group_of groups → length ss ≡ length groups
+as_many : (groups : List Parts) (ss : List GroupState) → groups_in ss ≡ map group_of groups → length ss ≡ length groups
 as_many groups ss same = sym (length-map ss (λ s. s.history.group)) ∙ ap length same ∙ length-map groups group_of
 
 pub scripts_many : (doc : Doc) → IsSoundDoc doc → length (scripts_done doc).groups ≡ length doc.groups
@@ -158,12 +159,12 @@ in_app groups (Some app) k fits = some_in (λ act. FitsIn act groups) app.acts k
 act_of_fits : (apps : List Script) (groups : List Group) (place : Place) → AllFitIn apps groups → OfSome (λ act. FitsIn act groups) (act_of apps place)
 act_of_fits apps groups place all = in_app groups (slice_get apps place.app) place.act (some_in (λ script. All (λ act. FitsIn act groups) script.acts) apps place.app all)
 
-seen_fits : (groups : List Group) (act : Act) (s : SiteView) → FitsIn act groups → OfSome (EntryFits groups) (seen_by act s.history)
+seen_fits : (groups : List Group) (act : Act) (s : GroupState) → FitsIn act groups → OfSome (EntryFits groups) (seen_by act s.history)
 seen_fits groups (Read n entity var) s fits = fits
 seen_fits groups (ReadAt n version entity var) s fits = fits
 seen_fits groups _ s fits = tt
 
-of_fits : (groups : List Group) (act : Act) (s : Option SiteView) → FitsIn act groups → OfSome (EntryFits groups) (seen_of act s)
+of_fits : (groups : List Group) (act : Act) (s : Option GroupState) → FitsIn act groups → OfSome (EntryFits groups) (seen_of act s)
 of_fits groups act None fits = tt
 of_fits groups act (Some s) fits = seen_fits groups act s fits
 
@@ -203,7 +204,7 @@ serial_fits doc sound =
 abbrev StopsWithin : Run → Type 0
 StopsWithin run = OfSome (λ m. m < length run.groups) run.full
 
-full_within : (P : ℕ → Type 0) (m n : ℕ) (f : SiteView → Course) (ss : List SiteView) → (n < length ss → P m) → OfSome P (full_of m (option_map f (slice_get ss n)))
+full_within : (P : ℕ → Type 0) (m n : ℕ) (f : GroupState → Course) (ss : List GroupState) → (n < length ss → P m) → OfSome P (full_of m (option_map f (slice_get ss n)))
 full_within P m n f [] gives = tt
 full_within P m zero f (s ∷ ss) gives = by_test (OfSome P) (f s).stopped (Some m) None (gives (omega arith)) tt
 full_within P m (suc n) f (s ∷ ss) gives = full_within P m n f ss (λ low. gives (omega (arith, low)))
@@ -213,18 +214,18 @@ asked_within app None run within = within
 asked_within app (Some act) run within =
     let n = group_number act in
     let same = changed_count n (act_on (record { 0 = app }) act) run.groups in
-    full_within (λ m. m < length (changed_at n (act_on (record { 0 = app }) act) run.groups)) n n (act_course (record { 0 = app }) act) run.groups (λ low. omega (arith, low, same))
+    full_within (λ m. m < length (changed_at n (act_on (record { 0 = app }) act) run.groups)) n n (course_in (record { 0 = app }) act) run.groups (λ low. omega (arith, low, same))
 
 places_within : (apps : List Script) (places : List Place) (run : Run) → StopsWithin run → StopsWithin (places_done apps places run)
 places_within apps [] run within = within
 places_within apps (place ∷ places) run within =
     places_within apps places (place_done apps place run) (by_test StopsWithin (is_some run.full) run (asked_done place.app (act_of apps place) run) within (asked_within place.app (act_of apps place) run within))
 
-checked_within : (n : ℕ) (ss : List SiteView) → OfSome (λ m. m < n + length ss) (all_decided n ss).full
+checked_within : (n : ℕ) (ss : List GroupState) → OfSome (λ m. m < n + length ss) (all_decided n ss).full
 checked_within n [] = tt
 checked_within n (s ∷ ss) =
-    let course = all_checked s in
-    by_test (λ (c : Checked). OfSome (λ m. m < n + suc (length ss)) c.full) course.stopped (record { groups = site_at s course ∷ ss; full = Some n }) (with_group (site_at s course) (all_decided (n + 1) ss))
+    let course = checks_in s in
+    by_test (λ (c : Checked). OfSome (λ m. m < n + suc (length ss)) c.full) course.stopped (record { groups = state_at s course ∷ ss; full = Some n }) (with_group (state_at s course) (all_decided (n + 1) ss))
     (omega arith) (of_some (λ m. m < n + 1 + length ss) (λ m. m < n + suc (length ss)) (all_decided (n + 1) ss).full (λ m low. omega (arith, low)) (checked_within (n + 1) ss))
 
 decided_within : (run : Run) → StopsWithin run → StopsWithin (decided run)
@@ -258,12 +259,12 @@ none_full None is = refl
 none_full (Some n) is = cc
 
 -- a command that reads changes nothing, and meets no full journal
-seen_same : (app : AppId) (act : Act) (s : SiteView) (entry : LogEntry) → seen_by act s.history ≡ Some entry → act_on app act s ≡ s
+seen_same : (app : AppId) (act : Act) (s : GroupState) (entry : LogEntry) → seen_by act s.history ≡ Some entry → act_on app act s ≡ s
 seen_same app (Read n entity var) s entry is = refl
 seen_same app (ReadAt n version entity var) s entry is = refl
 seen_same app _ s entry is = cc
 
-seen_goes : (app : AppId) (act : Act) (s : SiteView) (entry : LogEntry) → seen_by act s.history ≡ Some entry → (act_course app act s).stopped ≡ false
+seen_goes : (app : AppId) (act : Act) (s : GroupState) (entry : LogEntry) → seen_by act s.history ≡ Some entry → (course_in app act s).stopped ≡ false
 seen_goes app (Read n entity var) s entry is = refl
 seen_goes app (ReadAt n version entity var) s entry is = refl
 seen_goes app _ s entry is = cc
@@ -272,19 +273,19 @@ seen_goes app _ s entry is = cc
 pub logged_one : (app : ℕ) (entry : LogEntry) (logs : List (List LogEntry)) (d : List LogEntry) → app < length logs → set logs app (slice_index_or logs app d ++ entry ∷ []) ≡ logged app (Some entry) logs
 logged_one app entry logs d low = at_set app (λ l. l ++ entry ∷ []) logs d low
 
-abbrev pub run_of : List SiteView → List (List LogEntry) → Option ℕ → Run
+abbrev pub run_of : List GroupState → List (List LogEntry) → Option ℕ → Run
 run_of ss logs full = record { groups = ss; logs = logs; full = full }
 
-pub run_same : (ss more : List SiteView) (logs longer : List (List LogEntry)) (full last : Option ℕ) → ss ≡ more → logs ≡ longer → full ≡ last → run_of ss logs full ≡ run_of more longer last
+pub run_same : (ss more : List GroupState) (logs longer : List (List LogEntry)) (full last : Option ℕ) → ss ≡ more → logs ≡ longer → full ≡ last → run_of ss logs full ≡ run_of more longer last
 run_same ss more logs longer full last p q r = rw (p, q, r) refl
 
 -- the number of a group of which a course met a full journal
-full_there : (app : AppId) (act : Act) (ss : List SiteView) (n : ℕ) (s : SiteView) (b : Bool) → n ≡ group_number act → slice_get ss n ≡ Some s → (act_course app act s).stopped ≡ b → (if b then Some n else None) ≡ full_of (group_number act) (option_map (act_course app act) (slice_get ss (group_number act)))
+full_there : (app : AppId) (act : Act) (ss : List GroupState) (n : ℕ) (s : GroupState) (b : Bool) → n ≡ group_number act → slice_get ss n ≡ Some s → (course_in app act s).stopped ≡ b → (if b then Some n else None) ≡ full_of (group_number act) (option_map (course_in app act) (slice_get ss (group_number act)))
 full_there app act ss n s b number there stops =
-    let here : full_of n (option_map (act_course app act) (slice_get ss n)) ≡ (if b then Some n else None) = ap (λ (o : Option SiteView). full_of n (option_map (act_course app act) o)) there ∙ ap (λ t. if t then Some n else None) stops in
-    sym here ∙ ap (λ m. full_of m (option_map (act_course app act) (slice_get ss m))) number
+    let here : full_of n (option_map (course_in app act) (slice_get ss n)) ≡ (if b then Some n else None) = ap (λ (o : Option GroupState). full_of n (option_map (course_in app act) o)) there ∙ ap (λ t. if t then Some n else None) stops in
+    sym here ∙ ap (λ m. full_of m (option_map (course_in app act) (slice_get ss m))) number
 
-pub read_done : (app : AppId) (act : Act) (ss : List SiteView) (logs longer : List (List LogEntry)) (n : ℕ) (d : SiteView) (entry : LogEntry) → n ≡ group_number act → n < length ss → Some entry ≡ seen_by act (slice_index_or ss n d).history → longer ≡ logged app.0 (Some entry) logs → run_of (set ss n (slice_index_or ss n d)) longer None ≡ act_done app act (run_of ss logs None)
+pub read_done : (app : AppId) (act : Act) (ss : List GroupState) (logs longer : List (List LogEntry)) (n : ℕ) (d : GroupState) (entry : LogEntry) → n ≡ group_number act → n < length ss → Some entry ≡ seen_by act (slice_index_or ss n d).history → longer ≡ logged app.0 (Some entry) logs → run_of (set ss n (slice_index_or ss n d)) longer None ≡ act_done app act (run_of ss logs None)
 read_done app act ss logs longer n d entry number low seen adds =
     let s = slice_index_or ss n d in
     let there : slice_get ss n ≡ Some s = slice_get-get_or ss n d low in
@@ -294,57 +295,73 @@ read_done app act ss logs longer n d entry number low seen adds =
     (adds ∙ ap (λ o. logged app.0 o logs) (sym at_number))
     (full_there app act ss n s false number there (seen_goes app act s entry (sym seen)))
 
-pub other_done : (app : AppId) (act : Act) (ss : List SiteView) (logs : List (List LogEntry)) (n : ℕ) (d new : SiteView) (going : Going) (full : Option ℕ) → n ≡ group_number act → n < length ss → None ≡ seen_by act (slice_index_or ss n d).history → Goes (slice_index_or ss n d) new (act_course app act (slice_index_or ss n d)) going → full ≡ (if is_full going then Some n else None) → run_of (set ss n new) logs full ≡ act_done app act (run_of ss logs None)
-other_done app act ss logs n d new going full number low seen goes full_is =
+pub other_done : (app : AppId) (act : Act) (ss : List GroupState) (logs : List (List LogEntry)) (n : ℕ) (d new : GroupState) (going : Going) (full : Option ℕ) → n ≡ group_number act → n < length ss → None ≡ seen_by act (slice_index_or ss n d).history → new ≡ state_at (slice_index_or ss n d) (course_in app act (slice_index_or ss n d)) → is_full going ≡ (course_in app act (slice_index_or ss n d)).stopped → full ≡ (if is_full going then Some n else None) → run_of (set ss n new) logs full ≡ act_done app act (run_of ss logs None)
+other_done app act ss logs n d new going full number low seen goes stops full_is =
     let s = slice_index_or ss n d in
     let there : slice_get ss n ≡ Some s = slice_get-get_or ss n d low in
     let at_number : seen_of act (slice_get ss (group_number act)) ≡ None = ap (λ m. seen_of act (slice_get ss m)) (sym number) ∙ ap (seen_of act) there ∙ sym seen in
     run_same (set ss n new) (changed_at (group_number act) (act_on app act) ss) logs (logged app.0 (seen_of act (slice_get ss (group_number act))) logs) full _
-    (ap (set ss n) goes.site ∙ at_set n (act_on app act) ss d low ∙ ap (λ m. changed_at m (act_on app act) ss) number)
+    (ap (set ss n) goes ∙ at_set n (act_on app act) ss d low ∙ ap (λ m. changed_at m (act_on app act) ss) number)
     (ap (λ o. logged app.0 o logs) (sym at_number))
-    (full_is ∙ full_there app act ss n s (is_full going) number there (sym goes.full))
+    (full_is ∙ full_there app act ss n s (is_full going) number there (sym stops))
 
 -- a group that a command names is there, and the command fits it
-in_range : (ss : List SiteView) (n : ℕ) (P : Group → Type 0) → IsSomeAnd (slice_get (groups_in ss) n) P → n < length ss
+in_range : (ss : List GroupState) (n : ℕ) (P : Group → Type 0) → IsSomeAnd (slice_get (groups_in ss) n) P → n < length ss
 in_range [] n P is = absurd is
 in_range (s ∷ ss) zero P is = omega arith
 in_range (s ∷ ss) (suc n) P is = let low = in_range ss n P is in omega (arith, low)
 
-fits_there : (ss : List SiteView) (n : ℕ) (P : Group → Type 0) (d : SiteView) → IsSomeAnd (slice_get (groups_in ss) n) P → P (slice_index_or ss n d).history.group
+fits_there : (ss : List GroupState) (n : ℕ) (P : Group → Type 0) (d : GroupState) → IsSomeAnd (slice_get (groups_in ss) n) P → P (slice_index_or ss n d).history.group
 fits_there [] n P d is = absurd is
 fits_there (s ∷ ss) zero P d is = is
 fits_there (s ∷ ss) (suc n) P d is = fits_there ss n P d is
 
-fits_in : (act : Act) (ss : List SiteView) (n : ℕ) → n ≡ group_number act → FitsIn act (groups_in ss) → IsSomeAnd (slice_get (groups_in ss) n) (ActFits act)
+fits_in : (act : Act) (ss : List GroupState) (n : ℕ) → n ≡ group_number act → FitsIn act (groups_in ss) → IsSomeAnd (slice_get (groups_in ss) n) (ActFits act)
 fits_in act ss n number fits = subst (λ m. IsSomeAnd (slice_get (groups_in ss) m) (ActFits act)) (sym number) fits
 
-pub group_in : (act : Act) (ss : List SiteView) (n : ℕ) → n ≡ group_number act → FitsIn act (groups_in ss) → n < length ss
+pub group_in : (act : Act) (ss : List GroupState) (n : ℕ) → n ≡ group_number act → FitsIn act (groups_in ss) → n < length ss
 group_in act ss n number fits = in_range ss n (ActFits act) (fits_in act ss n number fits)
 
-pub fits_group : (act : Act) (ss : List SiteView) (n : ℕ) (d : SiteView) → n ≡ group_number act → FitsIn act (groups_in ss) → ActFits act (slice_index_or ss n d).history.group
+pub fits_group : (act : Act) (ss : List GroupState) (n : ℕ) (d : GroupState) → n ≡ group_number act → FitsIn act (groups_in ss) → ActFits act (slice_index_or ss n d).history.group
 fits_group act ss n d number fits = fits_there ss n (ActFits act) d (fits_in act ss n number fits)
 
 -- groups that are decided, before what comes of those that are left
-abbrev pub with_groups : List SiteView → Checked → Checked
+abbrev pub with_groups : List GroupState → Checked → Checked
 with_groups done later = record { groups = done ++ later.groups; full = later.full }
 
-abbrev pub decided_from : ℕ → List SiteView → Checked
+abbrev pub decided_from : ℕ → List GroupState → Checked
 decided_from i ss = with_groups (take i ss) (all_decided i (drop i ss))
 
 -- where a group meets its full journal those behind it stay as they are
-pub decide_full : (i : ℕ) (ss : List SiteView) (d new : SiteView) (going : Going) → i < length ss → Goes (slice_index_or ss i d) new (all_checked (slice_index_or ss i d)) going → is_full going ≡ true → record { groups = set ss i new; full = Some i } ≡ decided_from i ss
-decide_full i ss d new going low goes full =
+pub decide_full : (i : ℕ) (ss : List GroupState) (d new : GroupState) (going : Going) → i < length ss → new ≡ state_at (slice_index_or ss i d) (checks_in (slice_index_or ss i d)) → is_full going ≡ (checks_in (slice_index_or ss i d)).stopped → is_full going ≡ true → record { groups = set ss i new; full = Some i } ≡ decided_from i ss
+decide_full i ss d new going low goes stopped full =
     let s = slice_index_or ss i d in
     let rest = drop (suc i) ss in
-    let stops : (all_checked s).stopped ≡ true = sym goes.full ∙ full in
+    let stops : (checks_in s).stopped ≡ true = sym stopped ∙ full in
     let first : all_decided i (drop i ss) ≡ record { groups = new ∷ rest; full = Some i } =
     ap (all_decided i) (drop-cons ss i d low)
-    ∙ ap (λ b. if b then record { groups = site_at s (all_checked s) ∷ rest; full = Some i } else with_group (site_at s (all_checked s)) (all_decided (i + 1) rest)) stops
-    ∙ ap (λ x. record { groups = x ∷ rest; full = Some i }) (sym goes.site) in
+    ∙ ap (λ b. if b then record { groups = state_at s (checks_in s) ∷ rest; full = Some i } else with_group (state_at s (checks_in s)) (all_decided (i + 1) rest)) stops
+    ∙ ap (λ x. record { groups = x ∷ rest; full = Some i }) (sym goes) in
     ap (λ gs. record { groups = gs; full = Some i }) (set_split ss i new low) ∙ sym (ap (with_groups (take i ss)) first)
 
+-- where one is decided the others are left
+pub decide_next : (i : ℕ) (ss : List GroupState) (d new : GroupState) → i < length ss → new ≡ state_at (slice_index_or ss i d) (checks_in (slice_index_or ss i d)) → (checks_in (slice_index_or ss i d)).stopped ≡ false → decided_from (i + 1) (set ss i new) ≡ decided_from i ss
+decide_next i ss d new low goes on =
+    let s = slice_index_or ss i d in
+    let rest = drop (suc i) ss in
+    let one : i + 1 ≡ suc i = omega arith in
+    let first : all_decided i (drop i ss) ≡ with_group new (all_decided (i + 1) rest) =
+    ap (all_decided i) (drop-cons ss i d low)
+    ∙ ap (λ b. if b then record { groups = state_at s (checks_in s) ∷ rest; full = Some i } else with_group (state_at s (checks_in s)) (all_decided (i + 1) rest)) on
+    ∙ ap (λ x. with_group x (all_decided (i + 1) rest)) (sym goes) in
+    ap (λ m. with_groups (take m (set ss i new)) (all_decided (i + 1) (drop m (set ss i new)))) one
+    ∙ ap (λ gs. with_groups gs (all_decided (i + 1) (drop (suc i) (set ss i new)))) (take-suc-set ss i new low)
+    ∙ ap (λ gs. with_groups (take i ss ++ new ∷ []) (all_decided (i + 1) gs)) (drop-set-lt (suc i) ss i new (omega arith))
+    ∙ ap (λ gs. record { groups = gs; full = (all_decided (i + 1) rest).full }) (append_assoc (take i ss) (new ∷ []) (all_decided (i + 1) rest).groups)
+    ∙ sym (ap (with_groups (take i ss)) first)
+
 -- journals of groups that are kept
-kept_all : (groups : List Parts) (n : ℕ) (ss : List SiteView) → groups_in ss ≡ map group_of groups → AreKeptSites ss → AreKept groups (journals_from n ss)
+kept_all : (groups : List Parts) (n : ℕ) (ss : List GroupState) → groups_in ss ≡ map group_of groups → AreKeptSites ss → AreKept groups (journals_from n ss)
 kept_all [] n [] same kept = tt
 kept_all [] n (s ∷ ss) same kept = cc
 kept_all (parts ∷ groups) n [] same kept = cc
@@ -360,7 +377,7 @@ kept_all (parts ∷ groups) n (s ∷ ss) same kept =
     } in
     (here, kept_all groups (n + 1) ss rest kept.1)
 
-texts_same : (apps : List (List ℕ)) (groups : List Parts) (n : ℕ) (ss : List SiteView) → groups_in ss ≡ map group_of groups → sites_text apps ss ≡ groups_text apps groups (journals_from n ss)
+texts_same : (apps : List (List ℕ)) (groups : List Parts) (n : ℕ) (ss : List GroupState) → groups_in ss ≡ map group_of groups → states_text apps ss ≡ groups_text apps groups (journals_from n ss)
 texts_same apps [] n [] same = refl
 texts_same apps [] n (s ∷ ss) same = cc
 texts_same apps (parts ∷ groups) n [] same = cc
@@ -369,7 +386,7 @@ texts_same apps (parts ∷ groups) n (s ∷ ss) same =
     let first : s.history.group ≡ group_of parts = cc in
     let rest : groups_in ss ≡ map group_of groups = cc in
     let here : group_report s.history.group apps past ≡ group_report (group_of parts) apps (reverse (reverse past)) = ap (λ g. group_report g apps past) first ∙ ap (λ p. group_report (group_of parts) apps p) (sym (reverse-reverse past)) in
-    ap (λ text. text ++ sites_text apps ss) here ∙ ap (λ text. group_report (group_of parts) apps (reverse (reverse past)) ++ text) (texts_same apps groups (n + 1) ss rest)
+    ap (λ text. text ++ states_text apps ss) here ∙ ap (λ text. group_report (group_of parts) apps (reverse (reverse past)) ++ text) (texts_same apps groups (n + 1) ss rest)
 
 entries_same : (n : ℕ) (logs : List (List LogEntry)) → map (λ (log : Log). log.entries) (logs_from n logs) ≡ logs
 entries_same n [] = refl
@@ -409,15 +426,15 @@ told_full doc groups n d text are low told =
     told ∙ ap (λ (o : Option Parts). codes "fault full " ++ name_or_none o ++ 10 ∷ []) (sym there)
 
 -- one group more at the end
-pub kept_more : (ss : List SiteView) (s : SiteView) → AreKeptSites ss → IsKeptHistory s.history → AreKeptSites (ss ++ s ∷ [])
+pub kept_more : (ss : List GroupState) (s : GroupState) → AreKeptSites ss → IsKeptHistory s.history → AreKeptSites (ss ++ s ∷ [])
 kept_more [] s kept here = (here, tt)
 kept_more (first ∷ ss) s kept here = (kept.0, kept_more ss s kept.1 here)
 
-journals_more : (n : ℕ) (ss : List SiteView) (s : SiteView) → journals_from n (ss ++ s ∷ []) ≡ journals_from n ss ++ record { group = n + length ss; entries = reverse s.history.past } ∷ []
+journals_more : (n : ℕ) (ss : List GroupState) (s : GroupState) → journals_from n (ss ++ s ∷ []) ≡ journals_from n ss ++ record { group = n + length ss; entries = reverse s.history.past } ∷ []
 journals_more n [] s = ap (λ m. record { group = m; entries = reverse s.history.past } ∷ []) (omega arith)
 journals_more n (first ∷ ss) s = ap (λ js. record { group = n; entries = reverse first.history.past } ∷ js) (journals_more (n + 1) ss s ∙ ap (λ m. journals_from (n + 1) ss ++ record { group = m; entries = reverse s.history.past } ∷ []) (omega arith))
 
-pub journals_long : (n : ℕ) (ss : List SiteView) → length (journals_from n ss) ≡ length ss
+pub journals_long : (n : ℕ) (ss : List GroupState) → length (journals_from n ss) ≡ length ss
 journals_long n [] = refl
 journals_long n (s ∷ ss) = ap suc (journals_long (n + 1) ss)
 
@@ -429,17 +446,17 @@ pub logs_long : (n : ℕ) (logs : List (List LogEntry)) → length (logs_from n 
 logs_long n [] = refl
 logs_long n (log ∷ logs) = ap suc (logs_long (n + 1) logs)
 
-texts_more : (apps : List (List ℕ)) (ss : List SiteView) (s : SiteView) → sites_text apps (ss ++ s ∷ []) ≡ sites_text apps ss ++ group_report s.history.group apps s.history.past
+texts_more : (apps : List (List ℕ)) (ss : List GroupState) (s : GroupState) → states_text apps (ss ++ s ∷ []) ≡ states_text apps ss ++ group_report s.history.group apps s.history.past
 texts_more apps [] s = append-nil (group_report s.history.group apps s.history.past)
-texts_more apps (first ∷ ss) s = ap (λ text. group_report first.history.group apps first.history.past ++ text) (texts_more apps ss s) ∙ sym (append_assoc (group_report first.history.group apps first.history.past) (sites_text apps ss) (group_report s.history.group apps s.history.past))
+texts_more apps (first ∷ ss) s = ap (λ text. group_report first.history.group apps first.history.past ++ text) (texts_more apps ss s) ∙ sym (append_assoc (group_report first.history.group apps first.history.past) (states_text apps ss) (group_report s.history.group apps s.history.past))
 
 -- the lines of one group more, and of one log more
-pub sites_next : (apps : List (List ℕ)) (sites : List SiteView) (i : ℕ) (d : SiteView) (start out new : List ℕ) → i < length sites → out ≡ start ++ sites_text apps (take i sites) → new ≡ out ++ group_report (slice_index_or sites i d).history.group apps (slice_index_or sites i d).history.past → new ≡ start ++ sites_text apps (take (i + 1) sites)
-sites_next apps sites i d start out new low was adds =
+pub states_next : (apps : List (List ℕ)) (sites : List GroupState) (i : ℕ) (d : GroupState) (start out new : List ℕ) → i < length sites → out ≡ start ++ states_text apps (take i sites) → new ≡ out ++ group_report (slice_index_or sites i d).history.group apps (slice_index_or sites i d).history.past → new ≡ start ++ states_text apps (take (i + 1) sites)
+states_next apps sites i d start out new low was adds =
     let s = slice_index_or sites i d in
     let one : i + 1 ≡ suc i = omega arith in
-    adds ∙ ap (λ text. text ++ group_report s.history.group apps s.history.past) was ∙ append_assoc start (sites_text apps (take i sites)) (group_report s.history.group apps s.history.past)
-    ∙ ap (λ text. start ++ text) (sym (texts_more apps (take i sites) s) ∙ ap (sites_text apps) (sym (take-suc sites i d low) ∙ ap (λ n. take n sites) (sym one)))
+    adds ∙ ap (λ text. text ++ group_report s.history.group apps s.history.past) was ∙ append_assoc start (states_text apps (take i sites)) (group_report s.history.group apps s.history.past)
+    ∙ ap (λ text. start ++ text) (sym (texts_more apps (take i sites) s) ∙ ap (states_text apps) (sym (take-suc sites i d low) ∙ ap (λ n. take n sites) (sym one)))
 
 logs_one : (groups : List Group) (apps : List (List ℕ)) (logs : List (List LogEntry)) (i : ℕ) (d : List ℕ) (e : List LogEntry) → i < length apps → i < length logs → logs_text groups (take (suc i) apps) logs ≡ logs_text groups (take i apps) logs ++ log_text groups (slice_index_or apps i d) (slice_index_or logs i e)
 logs_one groups [] logs i d e low lower = absurd (omega (arith, low))
@@ -455,15 +472,15 @@ logs_next groups apps logs i d e start out new low lower was adds =
     ∙ ap (λ text. start ++ text) (sym (logs_one groups apps logs i d e low lower) ∙ ap (λ n. logs_text groups (take n apps) logs) (sym one))
 
 -- the text of a report, part by part
-pub report_is : (run : Run) (names apps : List (List ℕ)) (ss : List SiteView) (logs : List (List LogEntry)) (start first second third text : List ℕ) → start ≡ [] → first ≡ start ++ head_line → second ≡ first ++ sites_text apps ss → third ≡ second ++ logs_text (groups_in ss) apps logs → text ≡ third ++ end_line → ss ≡ run.groups → logs ≡ run.logs → apps ≡ names → text ≡ run_text names run
+pub report_is : (run : Run) (names apps : List (List ℕ)) (ss : List GroupState) (logs : List (List LogEntry)) (start first second third text : List ℕ) → start ≡ [] → first ≡ start ++ head_line → second ≡ first ++ states_text apps ss → third ≡ second ++ logs_text (groups_in ss) apps logs → text ≡ third ++ end_line → ss ≡ run.groups → logs ≡ run.logs → apps ≡ names → text ≡ run_text names run
 report_is run names apps ss logs start first second third text none one two three four groups_are logs_are names_are =
-    four ∙ ap (λ t. t ++ end_line) (three ∙ ap (λ t. t ++ logs_text (groups_in ss) apps logs) (two ∙ ap (λ t. t ++ sites_text apps ss) (one ∙ ap (λ t. t ++ head_line) none)))
-    ∙ ap (λ gs. head_line ++ sites_text apps gs ++ logs_text (groups_in gs) apps logs ++ end_line) groups_are
-    ∙ ap (λ ls. head_line ++ sites_text apps run.groups ++ logs_text (groups_in run.groups) apps ls ++ end_line) logs_are
+    four ∙ ap (λ t. t ++ end_line) (three ∙ ap (λ t. t ++ logs_text (groups_in ss) apps logs) (two ∙ ap (λ t. t ++ states_text apps ss) (one ∙ ap (λ t. t ++ head_line) none)))
+    ∙ ap (λ gs. head_line ++ states_text apps gs ++ logs_text (groups_in gs) apps logs ++ end_line) groups_are
+    ∙ ap (λ ls. head_line ++ states_text apps run.groups ++ logs_text (groups_in run.groups) apps ls ++ end_line) logs_are
     ∙ ap (λ ns. run_text ns run) names_are
 
 -- one journal, and one log, more
-pub journal_next : (ss : List SiteView) (s : SiteView) (n : ℕ) (journal : Journal) (journals more : List Journal) → n ≡ length journals → journal.group ≡ n → reverse journal.entries ≡ s.history.past → journals ≡ journals_from 0 ss → more ≡ journals ++ journal ∷ [] → more ≡ journals_from 0 (ss ++ s ∷ [])
+pub journal_next : (ss : List GroupState) (s : GroupState) (n : ℕ) (journal : Journal) (journals more : List Journal) → n ≡ length journals → journal.group ≡ n → reverse journal.entries ≡ s.history.past → journals ≡ journals_from 0 ss → more ≡ journals ++ journal ∷ [] → more ≡ journals_from 0 (ss ++ s ∷ [])
 journal_next ss s n journal journals more number numbered turned was adds =
     let long : n ≡ length ss = number ∙ ap length was ∙ journals_long 0 ss in
     let count : journal.group ≡ 0 + length ss = omega (arith, long, numbered) in

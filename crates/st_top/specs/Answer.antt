@@ -11,10 +11,10 @@ use Rattle.st_event.specs.declared.act.Log.{Log}
 use Rattle.st_event.specs.declared.journal.Journal.{Journal}
 use Rattle.st_event.specs.Legal.{IsLegal, AtEach}
 use Rattle.st_event.specs.Network.{KeepsPromises}
+use Rattle.st_token.specs.declared.fault.LineFault.{LineFault as DocFault}
+use Rattle.st_token.specs.declared.fault.FaultKind.{FaultKind as DocKind}
+use Rattle.st_token.specs.declared.fault.FaultKind.TheVariants as kinds
 use Rattle.st_grammar.specs.declared.doc.Doc.{Doc}
-use Rattle.st_grammar.specs.declared.fault.DocFault.{DocFault}
-use Rattle.st_grammar.specs.declared.fault.DocKind.{DocKind}
-use Rattle.st_grammar.specs.declared.fault.DocKind.TheVariants as kinds
 use Rattle.st_grammar.specs.Reading.{document_of}
 use Rattle.st_top.specs.declared.answer.Status.{Status}
 use Rattle.st_top.specs.declared.answer.Status.TheVariants.{Ok, Usage, ReadFault, TooLong, BadInput, JournalFull, WriteFault, OutOfMemory}

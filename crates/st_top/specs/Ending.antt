@@ -7,16 +7,15 @@ use Rattle.st_net.specs.Groups.{IsSound}
 use Rattle.st_event.specs.History.{History}
 use Rattle.st_event.specs.Legal.{IsLegal, AtEach}
 use Rattle.st_event.specs.Network.{KeepsPromises}
+use Rattle.st_token.specs.declared.fault.LineFault.{LineFault as DocFault}
 use Rattle.st_grammar.specs.declared.doc.Doc.{Doc}
-use Rattle.st_grammar.specs.declared.fault.DocFault.{DocFault}
 use Rattle.st_top.specs.declared.answer.Outcome.{Outcome}
 use Rattle.st_top.specs.declared.answer.Status.{Status}
 use Rattle.st_top.specs.declared.answer.Status.TheVariants as statuses
 use Rattle.st_top.specs.declared.top.Ending.{Ending}
 use Rattle.st_top.specs.declared.top.Ran.{Ran}
 use Rattle.st_top.specs.declared.words.Command.{Command}
-use Rattle.st_top.specs.Site.{SiteView}
-use Rattle.st_top.specs.Serial.{Run, serial_end, serial_full}
+use Rattle.st_top.specs.Serial.{Run, GroupState, states_of, serial_end, serial_full}
 use Rattle.st_top.specs.Output.{app_names, run_text}
 use Rattle.st_top.specs.Answer.{Results, SourceState, SinkState, EndsOn, ComesOf, no_results, fault_text, full_line}
 
@@ -50,13 +49,13 @@ pub record IsKeptHistory (h : History) : Type 0 where
   pub legal : IsLegal h.group h.past
   pub promises : AtEach (KeepsPromises h.group) h.past
 
-abbrev pub AreKeptSites : List SiteView → Type 0
+abbrev pub AreKeptSites : List GroupState → Type 0
 AreKeptSites [] = Unit {0}
 AreKeptSites (s ∷ ss) = IsKeptHistory s.history × AreKeptSites ss
 
 -- the groups with their journals, and the logs, that a run has come to
 abbrev pub run_in : Ran → Run
-run_in ran = record { groups = ran.sites.items; logs = ran.logs.items; full = ran.full }
+run_in ran = record { groups = states_of ran.sites.items; logs = ran.logs.items; full = ran.full }
 
 -- the status that is told once writing ended so
 abbrev pub told : Written → Status → Status

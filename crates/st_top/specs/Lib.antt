@@ -1,6 +1,5 @@
 pub mod Words
 pub mod Schedule
-pub mod Site
 pub mod Serial
 pub mod Output
 pub mod Exit

@@ -8,8 +8,7 @@ use Rattle.st_event.specs.declared.act.LogEntry.{LogEntry}
 use Rattle.st_event.specs.declared.journal.Journal.{Journal}
 use Rattle.st_grammar.specs.declared.doc.Doc.{Doc}
 use Rattle.st_report.specs.Words.{line}
-use Rattle.st_top.specs.Site.{SiteView}
-use Rattle.st_top.specs.Serial.{Run, groups_in}
+use Rattle.st_top.specs.Serial.{Run, GroupState, groups_in}
 use Rattle.st_report.specs.GroupReport.{group_report}
 use Rattle.st_report.specs.Logs.{read_line}
 
@@ -19,10 +18,10 @@ groups_text apps [] journals = []
 groups_text apps (parts ∷ more) [] = []
 groups_text apps (parts ∷ more) (journal ∷ journals) = group_report (group_of parts) apps (reverse journal.entries) ++ groups_text apps more journals
 
--- the lines of sites with their journals
-abbrev pub sites_text : List (List ℕ) → List SiteView → List ℕ
-sites_text apps [] = []
-sites_text apps (s ∷ ss) = group_report s.history.group apps s.history.past ++ sites_text apps ss
+-- the lines of these with their journals
+abbrev pub states_text : List (List ℕ) → List GroupState → List ℕ
+states_text apps [] = []
+states_text apps (s ∷ ss) = group_report s.history.group apps s.history.past ++ states_text apps ss
 
 abbrev pub app_names : Doc → List (List ℕ)
 app_names doc = map (λ script. script.name) doc.apps
@@ -52,7 +51,7 @@ abbrev pub end_line : List ℕ
 end_line = line (codes "end") []
 
 abbrev pub run_text : List (List ℕ) → Run → List ℕ
-run_text apps run = head_line ++ sites_text apps run.groups ++ logs_text (groups_in run.groups) apps run.logs ++ end_line
+run_text apps run = head_line ++ states_text apps run.groups ++ logs_text (groups_in run.groups) apps run.logs ++ end_line
 
 -- the report of the journals of a document's groups and of the logs of its applications
 abbrev pub report_of : Doc → List Journal → List Log → List ℕ

@@ -6,7 +6,6 @@ mod output;
 mod program;
 mod schedule;
 mod serial;
-mod site;
 mod top;
 mod up;
 mod words;

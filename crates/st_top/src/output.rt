@@ -3,16 +3,16 @@
 ghost use Rattle.std.specs.Prelude.{◌≡◌, ◌∷◌, ◌++◌, ◌<◌, ◌^◌, All, length, sum_by, OnOk, IfOk, decimal};
 ghost use Rattle.st_grammar.specs.Sound.{IsSoundDoc};
 ghost use Rattle.st_report.specs.GroupReport.{group_report};
-ghost use Rattle.st_top.specs.Output.{app_names as app_names_lem, sites_text, entry_text, log_text, logs_text, check_text as check_text_lem};
-ghost use Rattle.st_top.specs.Serial.{groups_in, EntryFits, LogsFit};
+ghost use Rattle.st_top.specs.Output.{app_names as app_names_lem, states_text, entry_text, log_text, logs_text, check_text as check_text_lem};
+ghost use Rattle.st_top.specs.Serial.{groups_in, states_of, EntryFits, LogsFit};
 
-use crate::site::Site;
 use crate::up::{up_at_opening, up_now};
 use st_doc::{Doc, Script};
 use st_event::{LogEntries, LogEntry};
 use st_net::{Name, Parts};
 use st_report::{Standing, group_text, read_line};
 use st_text::Text;
+use st_world::World;
 use std::alloc::{AllocError, Global};
 
 /// The names of a document's applications, in order.
@@ -28,76 +28,86 @@ pub fn app_names(alloc: Global, doc: &Doc) -> Result<Vec<Name>, AllocError>
 }
 
 /// Adds the lines of a group.
-fn print_group(alloc: Global, site: &Site, apps: &[Name], out: &mut Text) -> Result<(), AllocError>
-    ensures { OnOk result (out.new ≡ out.old ++ group_report site.now.history.group apps.now site.now.history.past) }
+fn print_group(
+    alloc: Global,
+    world: &World,
+    apps: &[Name],
+    out: &mut Text,
+) -> Result<(), AllocError>
+    ensures { OnOk result (out.new ≡ out.old ++ group_report world.now.history.group apps.now world.now.history.past) }
 {
-    let control = site.control();
+    let control = world.control();
     let topo = control.topo();
     let settled = control.settled()?;
     let start = up_at_opening(alloc, topo)?;
-    let now = up_now(alloc, site)?;
+    let now = up_now(alloc, world)?;
     let standing = Standing {
         target: control.store().target(),
         settled: &settled,
         start: &start,
         now: &now,
     };
-    group_text(alloc, topo, apps, site.journal(), standing, out)
+    group_text(alloc, topo, apps, world.journal(), standing, out)
 }
 
 /// Adds the lines of each group, in order.
 pub fn print_groups(
     alloc: Global,
-    sites: &[Site],
+    worlds: &[World],
     apps: &[Name],
     out: &mut Text,
 ) -> Result<(), AllocError>
-    ensures { OnOk result (out.new ≡ out.old ++ sites_text apps.now sites.now) }
+    ensures { OnOk result (out.new ≡ out.old ++ states_text apps.now (states_of worlds.now)) }
 {
-    for site in sites {
-        print_group(alloc, site, apps, out)?;
+    for world in worlds {
+        print_group(alloc, world, apps, out)?;
     }
     Ok(())
 }
 
 /// Adds the line of a log's entry.
 fn print_entry(
-    sites: &[Site],
+    worlds: &[World],
     app: &Name,
     entry: &LogEntry,
     out: &mut Text,
 ) -> Result<(), AllocError>
-    requires { EntryFits (groups_in sites.now) entry.now }
-    ensures { OnOk result (out.new ≡ out.old ++ entry_text (groups_in sites.now) app.now entry.now) }
+    requires { EntryFits (groups_in (states_of worlds.now)) entry.now }
+    ensures { OnOk result (out.new ≡ out.old ++ entry_text (groups_in (states_of worlds.now)) app.now entry.now) }
 {
-    let topo = sites[entry.group as usize].control().topo();
+    let topo = worlds[entry.group as usize].control().topo();
     read_line(topo, app, entry, out)
 }
 
 /// Adds the lines of an application's log.
-fn print_log(sites: &[Site], app: &Name, log: &[LogEntry], out: &mut Text) -> Result<(), AllocError>
-    requires { All (EntryFits (groups_in sites.now)) log.now }
-    ensures { OnOk result (out.new ≡ out.old ++ log_text (groups_in sites.now) app.now log.now) }
+fn print_log(
+    worlds: &[World],
+    app: &Name,
+    log: &[LogEntry],
+    out: &mut Text,
+) -> Result<(), AllocError>
+    requires { All (EntryFits (groups_in (states_of worlds.now))) log.now }
+    ensures { OnOk result (out.new ≡ out.old ++ log_text (groups_in (states_of worlds.now)) app.now log.now) }
 {
     for entry in log {
-        print_entry(sites, app, entry, out)?;
+        print_entry(worlds, app, entry, out)?;
     }
     Ok(())
 }
 
 /// Adds the lines of each log, in the order of applications.
 pub fn print_logs(
-    sites: &[Site],
+    worlds: &[World],
     apps: &[Name],
     logs: &[LogEntries],
     out: &mut Text,
 ) -> Result<(), AllocError>
     requires each { length apps.now ≡ length logs.now }
-    requires fits { LogsFit (groups_in sites.now) logs.now }
-    ensures { OnOk result (out.new ≡ out.old ++ logs_text (groups_in sites.now) apps.now logs.now) }
+    requires fits { LogsFit (groups_in (states_of worlds.now)) logs.now }
+    ensures { OnOk result (out.new ≡ out.old ++ logs_text (groups_in (states_of worlds.now)) apps.now logs.now) }
 {
     for (i, app) in apps.iter().enumerate() {
-        print_log(sites, app, logs[i].as_slice(), out)?;
+        print_log(worlds, app, logs[i].as_slice(), out)?;
     }
     Ok(())
 }

@@ -8,7 +8,7 @@ ghost use Rattle.st_grammar.specs.Sound.{IsSoundGroup, IsSoundDoc};
 ghost use Rattle.st_top.specs.declared.words.Command.TheVariants.{Serial as serial_command, Check as check_command};
 ghost use Rattle.st_top.specs.Words.{command_of as command_of_lem};
 ghost use Rattle.st_top.specs.Output.{app_names as app_names_lem, run_text};
-ghost use Rattle.st_top.specs.Serial.{all_opened, scripts_done as scripts_done_lem, decided as decided_lem, serial_end, groups_in, journals_from, logs_from, LogsFit};
+ghost use Rattle.st_top.specs.Serial.{all_opened, scripts_done as scripts_done_lem, decided as decided_lem, serial_end, groups_in, states_of, journals_from, logs_from, LogsFit};
 ghost use Rattle.st_top.specs.Answer.{EndsWith, IsUnread};
 ghost use Rattle.st_top.specs.Completeness.{CanBeDone, IsAfterReadFault, IsFaultless};
 ghost use Rattle.st_top.specs.Ending.{TellsFault, IsToldOf, IsEndOn, IsCalledFor, AreKeptSites, run_in, WritesEnding, told as told_lem};
@@ -17,7 +17,6 @@ use crate::answer::{Journals, Logs, Outcome, Status, fault_text};
 use crate::output::{app_names, check_text, print_groups, print_logs};
 use crate::schedule::schedule;
 use crate::serial::{decide_all, places_done};
-use crate::site::Site;
 use crate::words::{Command, command_of};
 use st_doc::{Doc, DocRead, WireLines, read_doc};
 use st_event::{Log, LogEntries};
@@ -25,6 +24,7 @@ use st_io::{ReadEnd, Sink, Source, Written, read_all, write_all};
 use st_net::{AppId, Built, GroupTopo, Name, Parts};
 use st_text::Text;
 use st_wire::{LossPlan, WireLine};
+use st_world::World;
 use std::alloc::{AllocError, Global};
 
 /// How a call is to end, before anything is written.
@@ -67,15 +67,15 @@ fn plan_of(alloc: Global, lines: &[WireLine]) -> Result<LossPlan, AllocError>
 }
 
 /// The groups of a document at their opening, in order, each with the plan of its wire lines.
-fn sites_of(alloc: Global, groups: &[Parts], wires: &[WireLines]) -> Result<Vec<Site>, AllocError>
+fn sites_of(alloc: Global, groups: &[Parts], wires: &[WireLines]) -> Result<Vec<World>, AllocError>
     requires sound { All IsSoundGroup groups.now }
     requires each { length wires.now ≡ length groups.now }
-    ensures { IfOk result (λ sites. sites.items ≡ all_opened groups.now wires.now) }
+    ensures { IfOk result (λ sites. states_of sites.items ≡ all_opened groups.now wires.now) }
 {
     let mut sites = Vec::new(alloc);
     for (i, parts) in groups.iter().enumerate() {
         let plan = plan_of(alloc, wires[i].as_slice())?;
-        sites.push(Site::start(alloc, topo_of(alloc, parts)?, plan)?)?;
+        sites.push(World::start(alloc, topo_of(alloc, parts)?, plan)?)?;
     }
     Ok(sites)
 }
@@ -95,7 +95,7 @@ fn empty_logs(alloc: Global, count: usize) -> Result<Vec<LogEntries>, AllocError
 /// stopped, if it did.
 #[derive(Drop)]
 struct Ran {
-    sites: Vec<Site>,
+    sites: Vec<World>,
     logs: Vec<LogEntries>,
     full: Option<u32>,
 }
@@ -110,7 +110,6 @@ fn scripts_done(alloc: Global, doc: &Doc) -> Result<Ran, AllocError>
     let mut sites = sites_of(alloc, doc.groups.as_slice(), doc.wires.as_slice())?;
     let mut logs = empty_logs(alloc, apps.len())?;
     let full = places_done(
-        alloc,
         sites.as_mut_slice(),
         logs.as_mut_slice(),
         apps,
@@ -120,13 +119,14 @@ fn scripts_done(alloc: Global, doc: &Doc) -> Result<Ran, AllocError>
 }
 
 /// The journals of groups, in order.
-fn journals_of(alloc: Global, sites: Vec<Site>) -> Result<Journals, AllocError>
+fn journals_of(alloc: Global, sites: Vec<World>) -> Result<Journals, AllocError>
     requires { length sites.items < 2 ^ 32 }
-    ensures journals { IfOk result (λ journals. journals ≡ journals_from 0 sites.items) }
-    ensures kept { IfOk result (λ journals. AreKeptSites sites.items) }
+    ensures journals { IfOk result (λ journals. journals ≡ journals_from 0 (states_of sites.items)) }
+    ensures kept { IfOk result (λ journals. AreKeptSites (states_of sites.items)) }
 {
     let mut journals = Vec::new(alloc);
     for site in sites {
+        site.is_legal();
         site.keeps_promises();
         let group = journals.len() as u32;
         journals.push(site.into_journal(group))?;

@@ -5,8 +5,8 @@ ghost use Rattle.st_net.specs.Groups.{IsEntityOf};
 ghost use Rattle.st_net.specs.Sets.{MarksOf, is_in};
 ghost use Rattle.st_event.specs.Observed.{actual};
 
-use crate::site::Site;
 use st_net::{Entity, EntitySet, GroupTopo, carries, level_of};
+use st_world::World;
 use std::alloc::{AllocError, Global};
 
 /// Whether an entity carries traffic at the opening of its group.
@@ -42,28 +42,28 @@ pub fn up_at_opening(alloc: Global, topo: &GroupTopo) -> Result<EntitySet, Alloc
 }
 
 /// Whether an entity of a group carries traffic now, whether that was heard or not.
-fn is_up_now(site: &Site, entity: Entity) -> bool
-    requires { IsEntityOf site.now.history.group entity }
-    ensures { result ≡ actual site.now.history.group site.now.history.past entity }
+fn is_up_now(world: &World, entity: Entity) -> bool
+    requires { IsEntityOf world.now.history.group entity }
+    ensures { result ≡ actual world.now.history.group world.now.history.past entity }
 {
-    site.agent(entity).up()
+    world.agent(entity).up()
 }
 
 /// The entities of a group that carry traffic now.
-pub fn up_now(alloc: Global, site: &Site) -> Result<EntitySet, AllocError>
-    ensures of { IfOk result (MarksOf site.now.history.group) }
-    ensures up { IfOk result (λ set. is_in set ≡ actual site.now.history.group site.now.history.past) }
+pub fn up_now(alloc: Global, world: &World) -> Result<EntitySet, AllocError>
+    ensures of { IfOk result (MarksOf world.now.history.group) }
+    ensures up { IfOk result (λ set. is_in set ≡ actual world.now.history.group world.now.history.past) }
 {
-    site.keeps_promises();
-    let topo = site.control().topo();
+    world.is_legal();
+    let topo = world.control().topo();
     let mut set = EntitySet::none(alloc, topo)?;
     'devices: for i in 0..topo.device_count() {
-        if is_up_now(site, Entity::Device(i)) {
+        if is_up_now(world, Entity::Device(i)) {
             set.put(Entity::Device(i));
         }
     }
     'links: for i in 0..topo.link_count() {
-        if is_up_now(site, Entity::Link(i)) {
+        if is_up_now(world, Entity::Link(i)) {
             set.put(Entity::Link(i));
         }
     }

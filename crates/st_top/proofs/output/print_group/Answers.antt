@@ -16,7 +16,7 @@ pub group_text-requires : goal.group_text-requires
 group_text-requires c =
     let k = c.control-control.result.now in
     let g = c.topo-topo.result.now in
-    let past = c.args.site.now.history.past in
+    let past = c.args.world.now.history.past in
     let start = c.in_ok-start.start in
     let now = c.in_ok-now.now in
     let same = sym c.control-control.ensures.group ∙ sym c.topo-topo.ensures.topo in
@@ -31,4 +31,4 @@ group_text-requires c =
 pub returns : goal.returns
 returns c =
     let at_past = subst (λ (past : List Entry). OnOk c.group_text.result (c.group_text.new.out ≡ c.args.out.now ++ group_report c.topo-topo.result.now c.args.apps.now past)) c.journal.ensures c.group_text.ensures.ok in
-    subst (λ (g : Group). OnOk c.group_text.result (c.group_text.new.out ≡ c.args.out.now ++ group_report g c.args.apps.now c.args.site.now.history.past)) (c.topo-topo.ensures.topo ∙ c.control-control.ensures.group) at_past
+    subst (λ (g : Group). OnOk c.group_text.result (c.group_text.new.out ≡ c.args.out.now ++ group_report g c.args.apps.now c.args.world.now.history.past)) (c.topo-topo.ensures.topo ∙ c.control-control.ensures.group) at_past

@@ -7,7 +7,7 @@ use Rattle.st_control.specs.Sure.{is_device_before, is_before_link}
 use Rattle.st_top.proofs.up.up_now.Given as goal
 
 abbrev pub invariant-devices : goal.invariant-devices
-invariant-devices l = MarksOf l.site.history.group l.set × ((e : Entity) → is_in l.set e ≡ (is_device_before l.i e && actual l.site.history.group l.site.history.past e))
+invariant-devices l = MarksOf l.world.history.group l.set × ((e : Entity) → is_in l.set e ≡ (is_device_before l.i e && actual l.world.history.group l.world.history.past e))
 
 abbrev pub invariant-links : goal.invariant-links
-invariant-links l = MarksOf l.site.history.group l.set × ((e : Entity) → is_in l.set e ≡ (is_before_link l.site.history.group l.i e && actual l.site.history.group l.site.history.past e))
+invariant-links l = MarksOf l.world.history.group l.set × ((e : Entity) → is_in l.set e ≡ (is_before_link l.world.history.group l.i e && actual l.world.history.group l.world.history.past e))
