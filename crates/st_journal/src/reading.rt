@@ -146,6 +146,3 @@ fn ended(reader: JournalReader, end: Option<LineFault>) -> Result<JournalsRead, 
         None => Ok(JournalsRead::Journals(reader.finish()?)),
     }
 }
-
-#[cfg(test)]
-mod tests;

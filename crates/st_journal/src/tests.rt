@@ -1,134 +1,90 @@
-//! Journals that are printed, byte by byte, and what comes of them when they are replayed, worked out by hand on the two-path group.
+//! Journals as texts, worked out by hand on the two-path group and two groups of one device: each is read, and printed or replayed.
 
-ghost use Rattle.std.specs.Prelude.{◌≡◌, ◌↔◌, All, IsTrue};
-ghost use Rattle.std.specs.List.Sorted.{IsStrictlyIncreasing};
+ghost use Rattle.std.specs.Prelude.{◌≡◌, ◌↔◌, All, IfOk, IsTrue};
 ghost use Rattle.st_journal.specs.Replaying.{EventFits};
 
-pub mod two_path;
+mod faults;
+mod groups;
+mod texts;
 
-use crate::{Replayed, print_journal, replay};
-use st_event::{Cause, Entries, Entry, Event, Journal, MAX_ENTRIES, Receipt, Reply, Rows, Verdict};
-use st_net::{AppId, Broken, BrokenKind, Entity, Row, Side, Vals, Var};
+use crate::{JournalsRead, Replayed, print_journal, read_journals, replay};
+use faults::{ENTRIES, LINES};
+use groups::{Setting, three_groups};
+use st_event::{Entry, Journal, MAX_ENTRIES};
+use st_net::GroupTopo;
 use st_text::Text;
 use st_wire::LossPlan;
 use st_world::World;
 use std::alloc::Global;
+use std::process::Abort;
 use std::test::Fail;
-use two_path::{name, topo};
+use texts::{ALL, ALTERED, OTHER_SPELLING, SECOND_BROKEN, SIXTEEN, UNTOLD_FAILURE};
 
-const A1: Entity = Entity::Device(2);
-
-const A2: Entity = Entity::Device(3);
-
-/// Two proposals, of which the second would cut off t1.
-const SECOND_BROKEN: &str = "journal dc1
-1 submit up a1.firmware=2 : queued 1
-2 submit up a2.firmware=2 : queued 2
-3 check : receipt 1 accepted 1
-4 check : receipt 2 refused broken t1 t2 cutoff need 10 has 0 side t1
-";
-
-/// A failure that no report has told, and a proposal that is accepted and carried out.
-const UNTOLD_FAILURE: &str = "journal dc1
-1 fail a2 0 power=1 firmware=1 config=1 routing=1 : changed
-2 submit up a1.routing=0 : queued 1
-3 check : receipt 1 accepted 1
-4 send a1 : sent 1
-5 deliver 1 : begun
-6 finish a1 : done
-7 report a1 : reported 1
-8 hear 1 : taken
-";
-
-/// The group at its opening.
-fn opening(alloc: Global) -> Result<World, Fail> {
-    let plan = LossPlan::from_lines(alloc, Vec::new(alloc));
-    Ok(World::start(alloc, topo(alloc)?, plan)?)
+/// What the bytes read as, whose first line has this number.
+fn read(rt: &impl Abort, given: &Setting, bytes: &[u8], line: u32) -> Result<JournalsRead, Fail> {
+    let topos = given.topos.as_slice();
+    let apps = given.apps.as_slice();
+    assert!(rt; bytes.len() < 100_000 && line < 100_000);
+    assert!(rt; topos.len() == 3 && apps.len() == 2);
+    Ok(read_journals(given.alloc, bytes, line, topos, apps)?)
 }
 
-/// Enters an event that fits.
-fn enter(world: &mut World, event: Event) -> Result<(), Fail> {
-    if !world.fits(&event) {
-        return Err(Fail::new("an event does not fit"));
+/// The fault of a text whose first line has this number, or that there is none.
+fn told(rt: &impl Abort, given: &Setting, bytes: &[u8], line: u32) -> Result<String, Fail> {
+    match read(rt, given, bytes, line)? {
+        JournalsRead::Fault { line, kind } => Ok(format!(in given.alloc; "{line} {kind:?}")?),
+        JournalsRead::Journals(_) => Ok(String::from_str(given.alloc, "journals")?),
     }
-    world.step(event)?;
+}
+
+/// A text with LF in place of `;`, behind another.
+fn behind(alloc: Global, opening: &str, text: &str) -> Result<Vec<u8>, Fail> {
+    let mut bytes = opening.as_bytes().to_vec(alloc)?;
+    for byte in text.as_bytes() {
+        bytes.push(if *byte == b';' { b'\n' } else { *byte })?;
+    }
+    Ok(bytes)
+}
+
+/// Each row of a table, behind a text, has the fault that the row tells.
+fn tells(rt: &impl Abort, given: &Setting, opening: &str, table: &str) -> Result<(), Fail> {
+    for row in table.lines() {
+        let (want, text) = row.split_once(':').unwrap_or(("", row));
+        let bytes = behind(given.alloc, opening, text)?;
+        let got = told(rt, given, bytes.as_slice(), 1)?;
+        assert_eq!(rt; got.as_str(), want, "{text}");
+    }
     Ok(())
 }
 
-fn submit(alloc: Global, entity: Entity, var: Var, value: u32) -> Result<Event, Fail> {
-    let row = Row { entity, var, value };
-    Ok(Event::Submit {
-        app: AppId(0),
-        rows: Rows::from_slice(alloc, [row].as_slice())?,
-    })
-}
-
-fn second_broken(alloc: Global) -> Result<Journal, Fail> {
-    let mut world = opening(alloc)?;
-    enter(&mut world, submit(alloc, A1, Var::Firmware, 2)?)?;
-    enter(&mut world, submit(alloc, A2, Var::Firmware, 2)?)?;
-    enter(&mut world, Event::Check)?;
-    enter(&mut world, Event::Check)?;
-    Ok(world.into_journal(0))
-}
-
-fn fail(entity: Entity) -> Event {
-    Event::Fail {
-        entity,
-        vals: Vals {
-            v0: 1,
-            v1: 1,
-            v2: 1,
-            v3: 1,
-        },
-        health: 0,
+/// Adds a journal as it is printed.
+fn print(rt: &impl Abort, given: &Setting, journal: &Journal, out: &mut Text) -> Result<(), Fail> {
+    let apps = given.apps.as_slice();
+    assert!(rt; journal.entries.as_slice().len() <= MAX_ENTRIES);
+    if let Some(topo) = given.topos.get(journal.group as usize) {
+        print_journal(given.alloc, topo, apps, journal, out)?;
     }
+    Ok(())
 }
 
-fn untold_failure(alloc: Global) -> Result<Journal, Fail> {
-    let mut world = opening(alloc)?;
-    enter(&mut world, fail(A2))?;
-    enter(&mut world, submit(alloc, A1, Var::Routing, 0)?)?;
-    enter(&mut world, Event::Check)?;
-    enter(&mut world, Event::Send { entity: A1 })?;
-    enter(&mut world, Event::Deliver { command: 1 })?;
-    enter(&mut world, Event::Finish { entity: A1 })?;
-    enter(&mut world, Event::Report { entity: A1 })?;
-    enter(&mut world, Event::Hear { report: 1 })?;
-    Ok(world.into_journal(0))
-}
-
-/// A journal is to be printed so.
-fn is_printed(alloc: Global, journal: &Journal, text: &str) -> Result<(), Fail> {
-    if journal.entries.as_slice().len() > MAX_ENTRIES {
-        return Err(Fail::new("a journal is too long"));
+/// What is read of a text is printed so.
+fn is_printed(rt: &impl Abort, given: &Setting, text: &str, printed: &str) -> Result<(), Fail> {
+    let mut out = Text::new(given.alloc);
+    if let JournalsRead::Journals(journals) = read(rt, given, text.as_bytes(), 1)? {
+        for journal in journals.as_slice() {
+            print(rt, given, journal, &mut out)?;
+        }
     }
-    let mut apps = Vec::new(alloc);
-    apps.push(name(alloc, "up")?)?;
-    let mut out = Text::new(alloc);
-    print_journal(alloc, &topo(alloc)?, apps.as_slice(), journal, &mut out)?;
-    if out.bytes() == text.as_bytes() {
-        Ok(())
-    } else {
-        Err(Fail::new("another text"))
-    }
+    assert!(rt; out.bytes() == printed.as_bytes(), "{text}");
+    Ok(())
 }
 
-#[test]
-fn journals_are_printed_line_by_line(rt: HostRuntime) -> Result<(), Fail> {
-    let alloc = rt.alloc();
-    is_printed(alloc, &second_broken(alloc)?, SECOND_BROKEN)?;
-    is_printed(alloc, &untold_failure(alloc)?, UNTOLD_FAILURE)
-}
-
-#[test]
-fn a_journal_without_an_entry_is_its_first_line(rt: HostRuntime) -> Result<(), Fail> {
-    let alloc = rt.alloc();
-    let journal = Journal {
-        group: 3,
-        entries: Entries::new(Vec::new(alloc)),
-    };
-    is_printed(alloc, &journal, "journal dc1\n")
+/// A group at its opening.
+fn opened(alloc: Global, topo: &GroupTopo) -> Result<World, Fail>
+    ensures { IfOk result (λ world. world.history.group ≡ topo.now) }
+{
+    let plan = LossPlan::from_lines(alloc, Vec::new(alloc));
+    Ok(World::start(alloc, topo.copy(alloc)?, plan)?)
 }
 
 /// Whether each event may be entered.
@@ -138,103 +94,119 @@ fn fit(world: &World, entries: &[Entry]) -> bool
     entries.iter().all(|entry| world.fits(&entry.event))
 }
 
-fn replayed(alloc: Global, entries: &[Entry]) -> Result<Replayed, Fail> {
-    let world = opening(alloc)?;
-    if entries.len() > MAX_ENTRIES || !fit(&world, entries) {
-        return Err(Fail::new("an event does not fit"));
-    }
-    Ok(replay(alloc, world.control().topo().copy(alloc)?, entries)?)
+/// The same of a world that is not needed any more.
+fn fit_once(world: World, entries: &[Entry]) -> bool
+    ensures { IsTrue result ↔ All (EventFits world.history.group) entries.now }
+{
+    fit(&world, entries)
 }
 
-/// A journal is legal: the world has as many entries.
-fn is_legal(alloc: Global, journal: &Journal) -> Result<(), Fail> {
-    let entries = journal.entries.as_slice();
-    match replayed(alloc, entries)? {
-        Replayed::Legal(world) if world.journal().len() == entries.len() => Ok(()),
-        _ => Err(Fail::new("not legal")),
+/// How many entries a world has.
+fn entry_count(world: World) -> u32 {
+    world.entries()
+}
+
+/// How many entries the world of a legal journal has, or the number of the first entry that is not legal, behind the word for it.
+fn came_of(replayed: Replayed) -> (&'static str, u32) {
+    match replayed {
+        Replayed::Legal(world) => ("legal", entry_count(world)),
+        Replayed::Illegal { entry } => ("illegal", entry),
     }
 }
 
-/// The journal with another reply in the entry of a number is illegal from that entry on.
-fn is_found(alloc: Global, journal: &Journal, number: u32, reply: Reply) -> Result<(), Fail> {
-    let mut entries = Vec::new(alloc);
-    for (i, entry) in journal.entries.as_slice().iter().enumerate() {
-        let same = i + 1 != number as usize;
-        entries.push(Entry {
-            event: entry.event.copy(alloc)?,
-            reply: if same {
-                entry.reply.copy(alloc)?
-            } else {
-                reply.copy(alloc)?
-            },
-        })?;
+/// What comes of a group's journal that is replayed.
+fn replayed(
+    rt: &impl Abort,
+    alloc: Global,
+    topo: &GroupTopo,
+    entries: &[Entry],
+) -> Result<String, Fail> {
+    assert!(rt; entries.len() <= MAX_ENTRIES);
+    if fit_once(opened(alloc, topo)?, entries) {
+        let (word, number) = came_of(replay(alloc, topo.copy(alloc)?, entries)?);
+        Ok(format!(in alloc; "{word} {number}")?)
+    } else {
+        Err(Fail::new("an event does not fit"))
     }
-    match replayed(alloc, entries.as_slice())? {
-        Replayed::Illegal { entry } if entry == number => Ok(()),
-        _ => Err(Fail::new("another reply is not found")),
+}
+
+/// What comes of the first group's journal in a text.
+fn comes(rt: &impl Abort, given: &Setting, text: &str) -> Result<String, Fail> {
+    match read(rt, given, text.as_bytes(), 1)? {
+        JournalsRead::Journals(journals) => {
+            let journal = journals.as_slice().first().ok_or("no journal")?;
+            let topo = given.topos.first().ok_or("no group")?;
+            replayed(rt, given.alloc, topo, journal.entries.as_slice())
+        }
+        JournalsRead::Fault { .. } => Err(Fail::new("a fault")),
     }
+}
+
+/// A text in which a line stands in place of the one with the same first word.
+fn altered(alloc: Global, text: &str, line: &str) -> Result<String, Fail> {
+    let number = line.split(' ').next();
+    let mut out = String::new(alloc);
+    for old in text.lines() {
+        let is_same = old.split(' ').next() == number;
+        out.push_str(if is_same { line } else { old })?;
+        out.push_str("\n")?;
+    }
+    Ok(out)
+}
+
+#[test]
+fn each_kind_of_fault_is_told(rt: HostRuntime) -> Result<(), Fail> {
+    let given = three_groups(rt.alloc())?;
+    tells(&rt, &given, "", LINES)?;
+    tells(&rt, &given, "journal dc1\n", ENTRIES)
+}
+
+#[test]
+fn lines_are_counted_from_the_first(rt: HostRuntime) -> Result<(), Fail> {
+    let given = three_groups(rt.alloc())?;
+    let got = told(&rt, &given, b"journal dc2\n\n2 check : idle\n", 40)?;
+    assert_eq!(rt; got.as_str(), "42 Number");
+    Ok(())
+}
+
+#[test]
+fn a_proposal_has_at_most_16_rows(rt: HostRuntime) -> Result<(), Fail> {
+    let given = three_groups(rt.alloc())?;
+    tells(&rt, &given, SIXTEEN, texts::BEHIND_SIXTEEN)
+}
+
+#[test]
+fn what_is_read_is_printed(rt: HostRuntime) -> Result<(), Fail> {
+    let given = three_groups(rt.alloc())?;
+    is_printed(&rt, &given, ALL, ALL)?;
+    is_printed(&rt, &given, OTHER_SPELLING, SECOND_BROKEN)?;
+    is_printed(&rt, &given, "", "journal dc1\njournal dc2\njournal dc3\n")
 }
 
 #[test]
 fn legal_journals_are_replayed_whole(rt: HostRuntime) -> Result<(), Fail> {
-    let alloc = rt.alloc();
-    is_legal(alloc, &second_broken(alloc)?)?;
-    is_legal(alloc, &untold_failure(alloc)?)
-}
-
-fn decided(ticket: u32, entry: u32, verdict: Verdict) -> Reply {
-    Reply::Decided(Receipt {
-        ticket,
-        entry,
-        verdict,
-    })
-}
-
-/// The last reply of the second broken journal, with another need or side.
-fn broken(alloc: Global, kind: BrokenKind, need: u64, side: &[u32]) -> Result<Reply, Fail>
-    requires { IsStrictlyIncreasing side.now }
-{
-    let broken = Broken {
-        promise: 0,
-        kind,
-        need,
-        has: 0,
-        side: Side::from_slice(alloc, side)?,
-    };
-    Ok(decided(2, 4, Verdict::Refused(Cause::Broken(broken))))
+    let given = three_groups(rt.alloc())?;
+    for (text, want) in [(SECOND_BROKEN, "legal 4"), (UNTOLD_FAILURE, "legal 8")] {
+        let got = comes(&rt, &given, text)?;
+        assert_eq!(rt; got.as_str(), want);
+    }
+    Ok(())
 }
 
 #[test]
 fn another_reply_is_found_at_its_entry(rt: HostRuntime) -> Result<(), Fail> {
-    let alloc = rt.alloc();
-    let journal = second_broken(alloc)?;
-    is_found(alloc, &journal, 1, Reply::Queued { ticket: 2 })?;
-    is_found(alloc, &journal, 2, Reply::Full { pending: 64 })?;
-    is_found(alloc, &journal, 3, Reply::Idle)?;
-    let another = decided(2, 3, Verdict::Accepted { version: 1 });
-    is_found(alloc, &journal, 3, another)?;
-    let later = decided(1, 4, Verdict::Accepted { version: 1 });
-    is_found(alloc, &journal, 3, later)?;
-    let accepted = decided(2, 4, Verdict::Accepted { version: 2 });
-    is_found(alloc, &journal, 4, accepted)
-}
-
-#[test]
-fn another_cause_is_found(rt: HostRuntime) -> Result<(), Fail> {
-    let alloc = rt.alloc();
-    let journal = second_broken(alloc)?;
-    let short = broken(alloc, BrokenKind::Short, 10, [0].as_slice())?;
-    is_found(alloc, &journal, 4, short)?;
-    let more = broken(alloc, BrokenKind::CutOff, 11, [0].as_slice())?;
-    is_found(alloc, &journal, 4, more)?;
-    let wider = broken(alloc, BrokenKind::CutOff, 10, [0, 2].as_slice())?;
-    is_found(alloc, &journal, 4, wider)
-}
-
-#[test]
-fn another_last_reply_is_found(rt: HostRuntime) -> Result<(), Fail> {
-    let alloc = rt.alloc();
-    let journal = untold_failure(alloc)?;
-    is_found(alloc, &journal, 7, Reply::Reported { report: 2 })?;
-    is_found(alloc, &journal, 8, Reply::Old { kept: 1 })
+    let given = three_groups(rt.alloc())?;
+    for (text, lines) in [
+        (SECOND_BROKEN, ALTERED),
+        (UNTOLD_FAILURE, texts::ALTERED_REPORTS),
+    ] {
+        for line in lines.lines() {
+            let text = altered(rt.alloc(), text, line)?;
+            let got = comes(&rt, &given, text.as_str())?;
+            let number = line.split(' ').next().unwrap_or("");
+            let want = format!(in rt.alloc(); "illegal {number}")?;
+            assert_eq!(rt; got.as_str(), want.as_str(), "{line}");
+        }
+    }
+    Ok(())
 }

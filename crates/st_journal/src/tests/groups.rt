@@ -1,5 +1,5 @@
-//! The two-path group, at its opening: two ToRs, t1 and t2, joined by way of two switches, a1 and a2, with a promise of half the capacity
-//! between them.
+//! Three groups at their openings. The first is the two-path group: two ToRs, t1 and t2, joined by way of two switches, a1 and a2, with a
+//! promise of half the capacity between them. The others have one switch, b1.
 
 ghost use Rattle.std.specs.Prelude.{◌≡◌, ◌+◌, ◌<◌, IfOk, length};
 
@@ -10,7 +10,7 @@ use st_net::{
 use std::alloc::Global;
 use std::test::Fail;
 
-pub fn name(alloc: Global, text: &str) -> Result<Name, Fail> {
+fn name(alloc: Global, text: &str) -> Result<Name, Fail> {
     Ok(Name::read(alloc, text.as_bytes())?.ok_or("no name")?)
 }
 
@@ -78,10 +78,44 @@ fn parts(alloc: Global) -> Result<Parts, Fail>
     })
 }
 
-pub fn topo(alloc: Global) -> Result<GroupTopo, Fail> {
-    let parts = parts(alloc)?;
-    match GroupTopo::build(alloc, &parts)? {
+fn built(alloc: Global, parts: &Parts) -> Result<GroupTopo, Fail>
+    requires { length parts.now.devices + length parts.now.links + length parts.now.promises < 4294967295 }
+{
+    match GroupTopo::build(alloc, parts)? {
         Built::Topo(topo) => Ok(topo),
         Built::Fault(_) => Err(Fail::new("a fault")),
     }
+}
+
+/// A group of one switch.
+fn lone(alloc: Global, text: &str) -> Result<GroupTopo, Fail> {
+    let mut devices = Vec::new(alloc);
+    devices.push(device(alloc, "b1", false)?)?;
+    let parts = Parts {
+        name: name(alloc, text)?,
+        devices: DeviceParts::new(devices),
+        links: LinkParts::new(Vec::new(alloc)),
+        promises: PromiseParts::new(Vec::new(alloc)),
+    };
+    built(alloc, &parts)
+}
+
+/// Three groups, and the names of two applications.
+#[derive(Drop)]
+pub struct Setting {
+    pub alloc: Global,
+    pub topos: Vec<GroupTopo>,
+    pub apps: Vec<Name>,
+}
+
+pub fn three_groups(alloc: Global) -> Result<Setting, Fail> {
+    let two_path = parts(alloc)?;
+    let mut topos = Vec::new(alloc);
+    topos.push(built(alloc, &two_path)?)?;
+    topos.push(lone(alloc, "dc2")?)?;
+    topos.push(lone(alloc, "dc3")?)?;
+    let mut apps = Vec::new(alloc);
+    apps.push(name(alloc, "te")?)?;
+    apps.push(name(alloc, "up")?)?;
+    Ok(Setting { alloc, topos, apps })
 }
