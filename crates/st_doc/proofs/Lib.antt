@@ -1,3 +1,4 @@
+pub mod JournalPlaces
 mod WireLemmas
 mod PrintSteps
 mod PrintedTokens

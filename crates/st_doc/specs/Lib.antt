@@ -1,3 +1,4 @@
 pub mod ReaderInside
 pub mod Printed
 pub mod ReadingBack
+pub mod Counted

@@ -1,10 +1,9 @@
 -- A document that is read is sound.
 use Rattle.std.proofs.Common.{◌≡◌, ℕ, ◌+◌, ◌<◌, List, [], ◌∷◌, length, map, ap, subst, refl}
-use Rattle.std.specs.Prelude.{Result, Ok, Err}
+use Rattle.std.specs.Prelude.{Bool, Option, Result, Ok, Err}
 use Rattle.std.specs.List.{AllByRecursion}
 use Rattle.std.proofs.lemmas.List.{length-map}
 use Rattle.std.proofs.lemmas.List.Elements.{All-from_recursion}
-use Rattle.st_text.specs.Lines.{lines_of}
 use Rattle.st_net.specs.declared.parts.Parts.{Parts}
 use Rattle.st_net.specs.declared.parts.LinkPart.{LinkPart}
 use Rattle.st_net.specs.Faults.{device_names}
@@ -16,10 +15,11 @@ use Rattle.st_token.proofs.ReadTokens.{came_from, chose}
 use Rattle.st_grammar.specs.declared.doc.Doc.{Doc}
 use Rattle.st_grammar.specs.declared.doc.Script.{Script}
 use Rattle.st_grammar.specs.declared.doc.DocRead.{DocRead}
+use Rattle.st_grammar.specs.declared.doc.JournalAt.{JournalAt}
 use Rattle.st_grammar.specs.declared.doc.DocRead.TheVariants as reads
 use Rattle.st_grammar.specs.Draft.{GroupDraft, Draft, nothing, groups_of, apps_of, parts_of}
 use Rattle.st_grammar.specs.Lines.{line_of}
-use Rattle.st_grammar.specs.Reading.{headed, declared_on, doc_of, document_of, Reads}
+use Rattle.st_grammar.specs.Reading.{headed, declared_on, doc_of, doc_at, lines_read, journals_at, read_of, Reads}
 use Rattle.st_grammar.specs.Sound.{HasOwnEnds, IsSoundGroup, IsSoundAct, IsSoundScript, IsSoundWire, AreSoundWires, IsSoundDoc, IsSoundRead}
 use Rattle.st_grammar.proofs.SoundGroups.{IsSoundLink, IsSoundDraftGroup, can_be_built}
 use Rattle.st_grammar.proofs.SoundDrafts.{HasSoundActs, IsSoundDraft, IsSoundSoFar, line_good, nothing_sound}
@@ -76,16 +76,32 @@ doc_good d s =
       order = All-from_recursion (λ n. n < length (apps_of d)) d.order s.order;
     }
 
--- what is read is sound
-pub document_sound : (bytes : List ℕ) (doc : Doc) → document_of bytes ≡ Ok doc → IsSoundDoc doc
-document_sound bytes doc e =
-    let d = came_from (declared_on nothing (lines_of bytes)) (λ d. Ok (doc_of d)) doc e in
-    let last = came_from (read_on line_of nothing 1 (lines_of bytes)) (headed (length (lines_of bytes) + 1)) d.0 d.1 in
-    let begun = chose last.0.begun last.0 d.0 (record { line = length (lines_of bytes) + 1; kind = kinds.Header }) last.2 in
-    let sound : IsSoundSoFar d.0 = subst IsSoundSoFar begun.1 (read_good (lines_of bytes) 1 nothing last.0 nothing_sound last.1) in
-    let made : doc_of d.0 ≡ doc = cc in
-    subst IsSoundDoc made (doc_good d.0 sound.sound)
+-- the place of journals is nothing that makes a document sound
+placed_good : (at : Option JournalAt) (d : Draft) → IsSoundDoc (doc_of d) → IsSoundDoc (doc_at at d)
+placed_good at d s = record {
+  few_groups = s.few_groups;
+  few_apps = s.few_apps;
+  group_names = s.group_names;
+  app_names = s.app_names;
+  groups = s.groups;
+  wires = s.wires;
+  wire_lines = s.wire_lines;
+  apps = s.apps;
+  order = s.order;
+}
 
-pub read_sound : (bytes : List ℕ) (read : DocRead) → Reads read (document_of bytes) → IsSoundRead read
-read_sound bytes (reads.Doc doc) e = document_sound bytes doc e
-read_sound bytes (reads.Fault fault) e = tt
+-- what is read is sound
+pub document_sound : (journals : Bool) (bytes : List ℕ) (doc : Doc) → read_of journals bytes ≡ Ok doc → IsSoundDoc doc
+document_sound journals bytes doc e =
+    let ls = lines_read journals bytes in
+    let at = journals_at journals bytes in
+    let d = came_from (declared_on nothing ls) (λ d. Ok (doc_at at d)) doc e in
+    let last = came_from (read_on line_of nothing 1 ls) (headed (length ls + 1)) d.0 d.1 in
+    let begun = chose last.0.begun last.0 d.0 (record { line = length ls + 1; kind = kinds.Header }) last.2 in
+    let sound : IsSoundSoFar d.0 = subst IsSoundSoFar begun.1 (read_good ls 1 nothing last.0 nothing_sound last.1) in
+    let made : doc_at at d.0 ≡ doc = cc in
+    subst IsSoundDoc made (placed_good at d.0 (doc_good d.0 sound.sound))
+
+pub read_sound : (journals : Bool) (bytes : List ℕ) (read : DocRead) → Reads read (read_of journals bytes) → IsSoundRead read
+read_sound journals bytes (reads.Doc doc) e = document_sound journals bytes doc e
+read_sound journals bytes (reads.Fault fault) e = tt

@@ -2,11 +2,11 @@
 
 ghost use Rattle.std.specs.Prelude.{◌≡◌, ◌++◌, map, IfOk, option_to_list};
 ghost use Rattle.st_grammar.specs.Draft.{parts_of};
-ghost use Rattle.st_grammar.specs.Reading.{doc_of};
+ghost use Rattle.st_grammar.specs.Reading.{doc_at};
 
 use crate::reader::Reader;
 use st_draft::Group;
-use st_grammar::{AppOrder, Doc, DocGroups, DocWires, Scripts};
+use st_grammar::{AppOrder, Doc, DocGroups, DocWires, JournalAt, Scripts};
 use std::alloc::{AllocError, Global};
 
 /// The items with one more behind them, if there is one.
@@ -35,9 +35,9 @@ fn ended(alloc: Global, groups: Vec<Group>) -> Result<(DocGroups, DocWires), All
 }
 
 impl Reader {
-    /// The document that the lines declare.
-    pub fn finish(self) -> Result<Doc, AllocError>
-        ensures { IfOk result (λ doc. doc ≡ doc_of self) }
+    /// The document that the lines declare, with the place of its journals.
+    pub fn finish(self, at: Option<JournalAt>) -> Result<Doc, AllocError>
+        ensures { IfOk result (λ doc. doc ≡ doc_at at self) }
     {
         let groups = with_last(self.groups, self.group)?;
         let apps = with_last(self.apps, self.app)?;
@@ -47,7 +47,7 @@ impl Reader {
             wires,
             apps: Scripts::new(apps),
             order: AppOrder::new(self.order),
-            journal_at: None,
+            journal_at: at,
         })
     }
 }

@@ -1,9 +1,11 @@
-//! First bad lines and their kinds. What is expected is worked by hand from the grammar.
+//! First bad lines and their kinds, and where journals begin. What is expected is worked by hand from the grammar.
 
 mod faults;
+mod places;
 
 use crate::reading::read_doc;
 use faults::{FAULTS, OPENINGS, PLAIN};
+use places::JOURNALS;
 use st_grammar::DocRead;
 use st_token::FaultKind::{self, Cross, Limit, Loop, Number, Pair, Twice, Unknown};
 use st_token::LineFault;
@@ -83,6 +85,18 @@ fn tells(rt: &impl Abort, alloc: Global, opening: &str, table: &str) -> Result<(
     Ok(())
 }
 
+/// What is told of a text that is read with journals: the byte and the line where these begin, `none`, or its fault.
+fn told_of(rt: &impl Abort, alloc: Global, bytes: &[u8]) -> Result<String, AllocError> {
+    assert!(rt; bytes.len() < 4294967295);
+    match read_doc(alloc, bytes, true)? {
+        DocRead::Doc(doc) => match doc.journal_at {
+            Some(at) => format!(in alloc; "{} {}", at.byte, at.line),
+            None => format!(in alloc; "none"),
+        },
+        DocRead::Fault(fault) => format!(in alloc; "{} {:?}", fault.line, fault.kind),
+    }
+}
+
 /// `PLAIN` with a line in place of one of its own.
 fn with_line(alloc: Global, line: u32, text: &str) -> Result<Vec<u8>, AllocError> {
     let mut bytes = Vec::new(alloc);
@@ -136,6 +150,18 @@ fn the_line_that_passes_a_limit_is_told(rt: HostRuntime) -> Result<(), Fail> {
         let bytes = numbered(alloc, opening, text, count)?;
         let fault = fault_of(&rt, alloc, bytes.as_slice())?;
         assert_eq!(&rt; fault, Some(LineFault { line, kind: Limit }), "{text}");
+    }
+    Ok(())
+}
+
+#[test]
+fn journals_begin_at_the_first_line_of_one(rt: HostRuntime) -> Result<(), Fail> {
+    let alloc = rt.alloc();
+    for row in JOURNALS.lines() {
+        let (want, text) = row.split_once(':').unwrap_or(("", row));
+        let bytes = behind(alloc, "", text)?;
+        let told = told_of(&rt, alloc, bytes.as_slice())?;
+        assert_eq!(&rt; told.as_str(), want, "{text}");
     }
     Ok(())
 }

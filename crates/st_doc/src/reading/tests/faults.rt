@@ -45,12 +45,14 @@ pub const OPENINGS: &str = "\
 1 Header: poll dc1 a1
 1 Header: order up
 1 Header: no keyword
+1 Header: journal dc1
 2 Word: statesman 1;device a3 switch
 2 Word: statesman 1;link l5 t1 a1 10
 2 Word: statesman 1;promise t1 t2 50
 2 Word: statesman 1;open a1.power=0
 2 Word: statesman 1;health a1 4
 2 Word: statesman 1;statesman 1
+2 Word: statesman 1;journal dc1
 ";
 
 /// Texts behind `PLAIN`: for each keyword every kind that its lines can have there.
