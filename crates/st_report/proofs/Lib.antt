@@ -1,5 +1,9 @@
-pub mod PrintLemmas
-pub mod JournalLemmas
-pub mod EntityLemmas
-pub mod PromiseLemmas
-pub mod GroupLemmas
+pub mod Adding
+pub mod Plain
+pub mod Gathered
+pub mod Counting
+pub mod DecidedTickets
+pub mod TextLines
+pub mod JsonTexts
+pub mod Ups
+pub mod SummedUp

@@ -1,5 +1,8 @@
-pub mod Words
-pub mod GroupReport
-pub mod Counted
-pub mod Standing
-pub mod Logs
+pub mod Lines
+pub mod Counts
+pub mod Text
+pub mod Json
+pub mod Sums
+pub mod Plain
+pub mod Inside
+pub mod JsonInside

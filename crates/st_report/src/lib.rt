@@ -1,21 +1,25 @@
-//! The lines of one group in a report: what it decided and how it stands, by its journal.
+//! Reports of worlds: what was decided in each group and how it stands, and what applications read, as a text of lines and as JSON; and
+//! four lines that sum up one world.
 #![tactic(auto)]
 
-mod causes;
-mod counts;
-mod group;
-mod head;
+mod json_report;
+mod lines;
 mod locks;
 mod logs;
+mod names;
 mod promises;
 mod receipts;
+mod report;
 mod state;
-mod words;
+mod summary;
+mod sums;
+mod text_report;
+mod up;
+mod wire;
 
-pub use group::{Standing, group_text};
-pub use head::{head_lines, wire_line};
-pub use locks::lock_lines;
-pub use logs::read_line;
-pub use promises::promise_lines;
-pub use receipts::receipt_lines;
-pub use state::{target_lines, unsettled_lines};
+pub use json_report::report_json;
+pub use sums::print_sums;
+pub use text_report::report_text;
+
+#[cfg(test)]
+mod tests;

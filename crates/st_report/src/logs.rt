@@ -1,85 +1,107 @@
-//! The lines of logs: what the commands of an application that read saw. They stand behind the lines of all groups.
+//! What applications read: each entry of each log, with the names of its application, its group and its variable.
 
-ghost use Rattle.std.specs.Prelude.{◌≡◌, ◌++◌, ◌∷◌, [], OnOk, OnErr, codes, decimal, true};
-ghost use Rattle.st_text.specs.Printed.{HoldsPart};
+ghost use Rattle.std.specs.Prelude.{◌≡◌, ◌++◌, ◌∷◌, [], IfOk, OnOk, map, true};
 ghost use Rattle.st_text.specs.Words.{spaced};
-ghost use Rattle.st_net.specs.Entities.{is_var_of};
-ghost use Rattle.st_net.specs.Groups.{IsEntityOf};
-ghost use Rattle.st_report.specs.Logs.{saw_words, read_line as read_line_lem};
+ghost use Rattle.st_net.specs.Groups.{are_names as are_names_lem, name_of};
+ghost use Rattle.st_report.specs.Plain.{is_plain};
+ghost use Rattle.st_report.specs.Lines.{group_at, histories, read_words, seen_words};
 
-use crate::words::var_word;
-use st_event::{LogEntry, LogSaw};
-use st_net::{GroupTopo, Name};
-use st_text::{Text, Word, begin_line, print_words};
-use std::alloc::AllocError;
+use crate::lines::Lines;
+use crate::names::are_names;
+use st_entry::{app_name, entity_name, print_saw};
+use st_event::{Log, LogEntry};
+use st_net::{AppId, Entity, Name};
+use st_text::{Text, Word, print_words};
+use st_token::var_word;
+use st_world::World;
+use std::alloc::{AllocError, Global};
 
-/// Adds a version, behind the word that says which it is, and the value at it. After `Err` the text holds a part of them.
-fn print_value(which: &[u8], version: u32, value: u32, out: &mut Text) -> Result<(), AllocError>
-    ensures ok { OnOk result (out.new ≡ out.old ++ spaced (which.now ∷ decimal version ∷ codes "value" ∷ decimal value ∷ [])) }
-    ensures err { OnErr result (HoldsPart out.old out.new (spaced (which.now ∷ decimal version ∷ codes "value" ∷ decimal value ∷ []))) }
+/// The name of the group of a number; no bytes where there are not so many.
+fn group_name(worlds: &[World], group: u32) -> &[u8]
+    ensures name { result.now ≡ (group_at (histories worlds.now) group).name }
+    ensures plain { is_plain result.now ≡ true }
 {
-    print_words(
-        &[
-            Word::Plain(which),
-            Word::Number(u64::from(version)),
-            Word::Plain(b"value"),
-            Word::Number(u64::from(value)),
-        ],
-        out,
-    )
-}
-
-/// Adds what a command saw. After `Err` the text holds a part of it.
-fn print_saw(saw: LogSaw, out: &mut Text) -> Result<(), AllocError>
-    ensures ok { OnOk result (out.new ≡ out.old ++ spaced (saw_words saw)) }
-    ensures err { OnErr result (HoldsPart out.old out.new (spaced (saw_words saw))) }
-{
-    match saw {
-        LogSaw::Seen { version, value } => print_value(b"version", version, value, out),
-        LogSaw::At { version, value } => print_value(b"at", version, value, out),
-        LogSaw::NoVersion { asked, latest } => print_words(
-            &[
-                Word::Plain(b"at"),
-                Word::Number(u64::from(asked)),
-                Word::Plain(b"none"),
-                Word::Plain(b"latest"),
-                Word::Number(u64::from(latest)),
-            ],
-            out,
-        ),
+    match worlds.get(group as usize) {
+        Some(world) => world.control().topo().name().bytes(),
+        None => b"",
     }
 }
 
-/// Adds the line of one entry of an application's log: the application's name, the group, the variable, and what was seen of
-/// it. The topology is that of the entry's group. After `Err`, which is for want of memory alone, the text holds a part of
-/// the line behind what it held.
-pub fn read_line(
-    topo: &GroupTopo,
-    app: &Name,
-    entry: &LogEntry,
-    out: &mut Text,
-) -> Result<(), AllocError>
-    requires entity { IsEntityOf topo.now entry.now.entity }
-    requires var { is_var_of entry.now.entity entry.now.var ≡ true }
-    ensures ok { OnOk result (out.new ≡ out.old ++ read_line_lem topo.now app.now entry.now) }
-    ensures err { OnErr result (HoldsPart out.old out.new (read_line_lem topo.now app.now entry.now)) }
+/// The name of an entity of that group; no bytes where it has none.
+fn name_in(worlds: &[World], group: u32, entity: Entity) -> &[u8]
+    ensures name { result.now ≡ name_of (group_at (histories worlds.now) group) entity }
+    ensures plain { is_plain result.now ≡ true }
 {
-    let variable = Word::Variable {
-        name: topo.name_of(entry.entity).bytes(),
-        var: var_word(entry.var),
-    };
-    begin_line(
-        b"read",
-        &[
-            Word::Plain(app.bytes()),
-            Word::Plain(topo.name().bytes()),
-            variable,
-        ],
-        out,
-    )?;
-    print_saw(entry.saw, out)?;
-    out.word(b"\n")
+    match worlds.get(group as usize) {
+        Some(world) => {
+            let topo = world.control().topo();
+            topo.is_sound();
+            entity_name(topo, entity)
+        }
+        None => b"",
+    }
 }
 
-#[cfg(test)]
-mod tests;
+/// Adds an entry of an application's log.
+fn add_seen(
+    alloc: Global,
+    worlds: &[World],
+    apps: &[Name],
+    app: AppId,
+    entry: &LogEntry,
+    lines: &mut Lines,
+) -> Result<(), AllocError>
+    requires { are_names_lem apps.now ≡ true }
+    ensures { OnOk result (lines.new ≡ lines.old ++ spaced (seen_words (histories worlds.now) apps.now app entry.now) ∷ []) }
+{
+    let variable = Word::Variable {
+        name: name_in(worlds, entry.group, entry.entity),
+        var: var_word(entry.var),
+    };
+    let group = group_name(worlds, entry.group);
+    let mut text = Text::new(alloc);
+    print_words(
+        &[
+            Word::Plain(app_name(apps, app)),
+            Word::Plain(group),
+            variable,
+        ],
+        &mut text,
+    )?;
+    print_saw(entry.saw, &mut text)?;
+    lines.add(text)
+}
+
+/// Adds the entries of an application's log.
+fn add_log(
+    alloc: Global,
+    worlds: &[World],
+    apps: &[Name],
+    log: &Log,
+    lines: &mut Lines,
+) -> Result<(), AllocError>
+    requires { are_names_lem apps.now ≡ true }
+    ensures { OnOk result (lines.new ≡ lines.old ++ map spaced (map (seen_words (histories worlds.now) apps.now log.now.app) log.now.entries)) }
+{
+    for entry in log.entries.as_slice() {
+        add_seen(alloc, worlds, apps, log.app, entry, lines)?;
+    }
+    Ok(())
+}
+
+/// Each entry of each log, in order.
+pub(crate) fn read_lines(
+    alloc: Global,
+    worlds: &[World],
+    apps: &[Name],
+    logs: &[Log],
+) -> Result<Lines, AllocError>
+    ensures { IfOk result (λ lines. lines ≡ map spaced (read_words (histories worlds.now) apps.now logs.now)) }
+{
+    are_names(apps);
+    let mut lines = Lines::new(alloc);
+    for log in logs {
+        add_log(alloc, worlds, apps, log, &mut lines)?;
+    }
+    Ok(lines)
+}

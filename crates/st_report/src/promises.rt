@@ -1,77 +1,87 @@
-//! The promises of a group: how many held at the opening, how many hold now, and which were lost.
+//! The promises of a group: which held at the opening and which hold now, both in the simulated network.
 
-ghost use Rattle.std.specs.Prelude.{◌≡◌, ◌++◌, ◌<◌, [], OnOk, OnErr, length, count_by, not, ◌&&◌, if◌then◌else◌};
-ghost use Rattle.st_text.specs.Printed.{HoldsPart};
-ghost use Rattle.st_net.specs.Groups.{promise_of};
-ghost use Rattle.st_net.specs.Sets.{MarksOf, is_in};
-ghost use Rattle.st_report.specs.Counted.{lost_line, promise_lines as promise_lines_lem};
+ghost use Rattle.std.specs.Prelude.{◌≡◌, ◌++◌, ◌∷◌, ◌<◌, [], IfOk, OnOk, length, count_by, map, not, ◌&&◌, if◌then◌else◌};
+ghost use Rattle.std.specs.List.{filter};
+ghost use Rattle.st_text.specs.Words.{spaced};
+ghost use Rattle.st_net.specs.declared.entity.Entity.TheVariants.{Device};
+ghost use Rattle.st_net.specs.Groups.{name_of, promise_of};
+ghost use Rattle.st_net.specs.Promises.{is_kept};
+ghost use Rattle.st_event.specs.Observed.{actual};
+ghost use Rattle.st_report.specs.Inside.{lost_text};
+ghost use Rattle.st_report.specs.Lines.{lost_words};
 
-use crate::words::entity_name;
-use st_net::{Entity, EntitySet, GroupTopo};
-use st_promise::Book;
-use st_text::{Text, Word, print_line};
+use crate::lines::Lines;
+use crate::up::{up_at_opening, up_now};
+use st_entry::entity_name;
+use st_net::{Entity, GroupTopo};
+use st_text::{Text, Word, print_words};
+use st_world::World;
 use std::alloc::{AllocError, Global};
 
-/// How many marks are set.
-fn mark_count(kept: &[bool]) -> usize
-    ensures { result ≡ count_by (λ held. held) kept.now }
-{
-    kept.iter().filter(|held| **held).count()
+/// Whether each promise, in order, held at the opening, and whether it holds now.
+#[derive(Drop)]
+pub(crate) struct Held {
+    pub(crate) at_start: Vec<bool>,
+    pub(crate) at_end: Vec<bool>,
 }
 
-/// Adds the line of a promise that was lost. After `Err` the text holds a part of it.
-fn print_lost(
+/// The promises of a world's group that held and that hold.
+pub(crate) fn judge_promises(alloc: Global, world: &World) -> Result<Held, AllocError>
+    ensures start { IfOk result (λ held. held.at_start.items ≡ map (is_kept world.now.history.group (actual world.now.history.group [])) world.now.history.group.promises) }
+    ensures end { IfOk result (λ held. held.at_end.items ≡ map (is_kept world.now.history.group (actual world.now.history.group world.now.history.past)) world.now.history.group.promises) }
+{
+    let control = world.control();
+    let opening = up_at_opening(alloc, control.topo())?;
+    let now = up_now(alloc, world)?;
+    Ok(Held {
+        at_start: control.held_in(&opening)?,
+        at_end: control.held_in(&now)?,
+    })
+}
+
+/// How many marks are set.
+pub(crate) fn mark_count(marks: &[bool]) -> usize
+    ensures { result ≡ count_by (λ mark. mark) marks.now }
+{
+    marks.iter().filter(|mark| **mark).count()
+}
+
+/// Adds the ends of promise number `i`, where it held and does not hold now.
+fn add_lost(
+    alloc: Global,
     topo: &GroupTopo,
     i: u32,
-    start: bool,
-    now: bool,
-    out: &mut Text,
+    held: bool,
+    holds: bool,
+    lines: &mut Lines,
 ) -> Result<(), AllocError>
     requires { i < length topo.now.promises }
-    ensures ok { OnOk result (out.new ≡ out.old ++ (if start && not now then lost_line topo.now (promise_of topo.now i) else [])) }
-    ensures err { OnErr result (HoldsPart out.old out.new (if start && not now then lost_line topo.now (promise_of topo.now i) else [])) }
+    ensures { OnOk result (lines.new ≡ lines.old ++ (if held && not holds then lost_text topo.now (promise_of topo.now i) ∷ [] else [])) }
 {
-    if !start || now {
+    if !held || holds {
         return Ok(());
     }
+    topo.is_sound();
     let promise = topo.promise(i);
     let a = entity_name(topo, Entity::Device(promise.a));
     let b = entity_name(topo, Entity::Device(promise.b));
-    print_line(b"lost", &[Word::Plain(a), Word::Plain(b)], out)
+    let mut text = Text::new(alloc);
+    print_words(&[Word::Plain(a), Word::Plain(b)], &mut text)?;
+    lines.add(text)
 }
 
-/// Adds the line `promises`: how many there are, how many held at the opening and how many hold now; and then a line for each
-/// that held and does not hold, in order. It computes what each promise needs and a flow that shows it, and judges each once for
-/// each set: where these flows show all, no network is built. After `Err`, which is for want of memory alone, the text holds a
-/// part of these lines behind what it held.
-pub fn promise_lines(
-    alloc: Global,
-    topo: &GroupTopo,
-    start: &EntitySet,
-    now: &EntitySet,
-    out: &mut Text,
-) -> Result<(), AllocError>
-    requires start { MarksOf topo.now start.now }
-    requires now { MarksOf topo.now now.now }
-    ensures ok { OnOk result (out.new ≡ out.old ++ promise_lines_lem topo.now (is_in start.now) (is_in now.now)) }
-    ensures err { OnErr result (HoldsPart out.old out.new (promise_lines_lem topo.now (is_in start.now) (is_in now.now))) }
+/// The promises that held and do not hold now, in order: the two ends of each.
+pub(crate) fn lost_lines(alloc: Global, world: &World, held: &Held) -> Result<Lines, AllocError>
+    requires start { held.now.at_start.items ≡ map (is_kept world.now.history.group (actual world.now.history.group [])) world.now.history.group.promises }
+    requires end { held.now.at_end.items ≡ map (is_kept world.now.history.group (actual world.now.history.group world.now.history.past)) world.now.history.group.promises }
+    ensures { IfOk result (λ lines. lines ≡ map spaced (lost_words world.now.history.group world.now.history.past)) }
 {
-    let book = Book::start(alloc, topo)?;
-    let held = book.held_in(topo, start)?;
-    let holding = book.held_in(topo, now)?;
-    print_line(
-        b"promises",
-        &[
-            Word::Number(u64::from(topo.promise_count())),
-            Word::Plain(b"start"),
-            Word::Number(mark_count(held.as_slice()) as u64),
-            Word::Plain(b"now"),
-            Word::Number(mark_count(holding.as_slice()) as u64),
-        ],
-        out,
-    )?;
+    let topo = world.control().topo();
+    let mut lines = Lines::new(alloc);
     for i in 0..topo.promise_count() {
-        print_lost(topo, i, held[i as usize], holding[i as usize], out)?;
+        let before = held.at_start[i as usize];
+        let after = held.at_end[i as usize];
+        add_lost(alloc, topo, i, before, after, &mut lines)?;
     }
-    Ok(())
+    Ok(lines)
 }

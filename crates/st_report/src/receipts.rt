@@ -1,74 +1,115 @@
-//! The lines of a group's receipts, from its journal: the verdict on each ticket, with the application that proposed it.
+//! The receipts in a group's journal: the verdict on each ticket, with the application that proposed it.
 
-ghost use Rattle.std.specs.Prelude.{◌≡◌, ◌++◌, ◌+◌, ◌<◌, ◌^◌, OnOk, OnErr, reverse, slice_get};
-ghost use Rattle.st_text.specs.Printed.{HoldsPart};
-ghost use Rattle.st_event.specs.Proposals.{proposals, verdicts};
-ghost use Rattle.st_report.specs.Counted.{receipt_line, line_where};
-ghost use Rattle.st_report.specs.GroupReport.{receipt_lines as receipt_lines_lem};
+ghost use Rattle.std.specs.Prelude.{◌≡◌, ◌++◌, ◌∷◌, ◌+◌, ◌<◌, ◌^◌, IfOk, OnOk, decimal, map, reverse, slice_get, true};
+ghost use Rattle.std.specs.List.{filter_map};
+ghost use Rattle.std.specs.Option.{option_copied};
+ghost use Rattle.st_text.specs.Words.{spaced};
+ghost use Rattle.st_net.specs.Groups.{are_names};
+ghost use Rattle.st_entry.specs.Causes.{verdict_words};
+ghost use Rattle.st_entry.specs.Words.{app_word};
+ghost use Rattle.st_report.specs.Inside.{proposer_of as proposer_of_lem, verdict_of as verdict_of_lem, texts_where};
+ghost use Rattle.st_report.specs.Lines.{receipt_words};
 
-use crate::causes::print_verdict;
-use crate::counts::{proposers, verdict_of};
-use crate::words::app_name;
-use st_event::{Entry, Verdict};
+use crate::lines::Lines;
+use st_entry::{app_name, print_verdict};
+use st_event::{Entry, Event, Reply, Verdict};
 use st_net::{AppId, GroupTopo, Name};
-use st_text::{Text, Word, begin_line};
+use st_text::{Text, Word, print_words};
 use std::alloc::{AllocError, Global};
 
-/// Adds the line of one receipt. After `Err` the text holds a part of it.
-fn print_receipt<'a>(
-    topo: &'a GroupTopo,
-    apps: &'a [Name],
+/// The application whose proposal an entry queues.
+fn proposer_of(entry: &Entry) -> Option<AppId>
+    ensures { result ≡ proposer_of_lem entry.now }
+{
+    match (&entry.event, &entry.reply) {
+        (Event::Submit { app, .. }, Reply::Queued { .. }) => Some(*app),
+        _ => None,
+    }
+}
+
+/// The verdict that an entry gives.
+fn verdict_of(entry: &Entry) -> Option<&Verdict>
+    ensures { option_copied result ≡ verdict_of_lem entry.now }
+{
+    match (&entry.event, &entry.reply) {
+        (Event::Check, Reply::Decided(receipt)) => Some(&receipt.verdict),
+        _ => None,
+    }
+}
+
+/// The applications of the queued proposals, the oldest first.
+fn proposers(alloc: Global, entries: &[Entry]) -> Result<Vec<AppId>, AllocError>
+    ensures { IfOk result (λ apps. apps.items ≡ filter_map proposer_of_lem entries.now) }
+{
+    entries.iter().filter_map(proposer_of).collect(alloc)
+}
+
+/// The words of one receipt.
+fn receipt_text(
+    alloc: Global,
+    topo: &GroupTopo,
+    apps: &[Name],
     ticket: u64,
     app: AppId,
     verdict: &Verdict,
-    out: &mut Text,
-) -> Result<(), AllocError>
-    ensures ok { OnOk result (out.new ≡ out.old ++ receipt_line topo.now apps.now ticket app verdict.now) }
-    ensures err { OnErr result (HoldsPart out.old out.new (receipt_line topo.now apps.now ticket app verdict.now)) }
+) -> Result<Text, AllocError>
+    ensures { IfOk result (λ text. text ≡ spaced (decimal ticket ∷ app_word apps.now app ∷ verdict_words topo.now apps.now verdict.now)) }
 {
+    let mut text = Text::new(alloc);
     let name = app_name(apps, app);
-    begin_line(b"receipt", &[Word::Number(ticket), Word::Plain(name)], out)?;
-    print_verdict(topo, apps, verdict, out)?;
-    out.word(b"\n")
+    print_words(&[Word::Number(ticket), Word::Plain(name)], &mut text)?;
+    print_verdict(topo, apps, verdict, &mut text)?;
+    Ok(text)
 }
 
-/// Adds the line of the ticket behind so many decided ones, where it was proposed. After `Err` the text holds a part of it.
-fn print_decided(
+/// Adds the receipt of the ticket behind so many decided ones, where it was proposed.
+fn add_decided(
+    alloc: Global,
     topo: &GroupTopo,
     apps: &[Name],
     proposers: &[AppId],
     decided: usize,
     verdict: &Verdict,
-    out: &mut Text,
+    lines: &mut Lines,
 ) -> Result<(), AllocError>
-    ensures ok { OnOk result (out.new ≡ out.old ++ line_where topo.now apps.now (decided + 1) (slice_get proposers.now decided) verdict.now) }
-    ensures err { OnErr result (HoldsPart out.old out.new (line_where topo.now apps.now (decided + 1) (slice_get proposers.now decided) verdict.now)) }
+    requires { are_names apps.now ≡ true }
+    ensures { OnOk result (lines.new ≡ lines.old ++ texts_where topo.now apps.now (decided + 1) (slice_get proposers.now decided) verdict.now) }
 {
+    topo.is_sound();
     match proposers.get(decided) {
-        Some(app) => print_receipt(topo, apps, decided as u64 + 1, *app, verdict, out),
+        Some(app) => {
+            lines.add(receipt_text(alloc, topo, apps, decided as u64 + 1, *app, verdict)?)
+        }
         None => Ok(()),
     }
 }
 
-/// Adds a line for each decided ticket, in order: its number from 1, the application that proposed it, and the verdict.
-/// After `Err`, which is for want of memory alone, the text holds a part of these lines behind what it held.
-pub fn receipt_lines(
+/// The receipt of each decided ticket, in order: its number from 1, the application that proposed it, and the verdict.
+pub(crate) fn receipt_lines(
     alloc: Global,
     topo: &GroupTopo,
     apps: &[Name],
     entries: &[Entry],
-    out: &mut Text,
-) -> Result<(), AllocError>
-    ensures ok { OnOk result (out.new ≡ out.old ++ receipt_lines_lem topo.now apps.now 1 (proposals (reverse entries.now)) (verdicts (reverse entries.now))) }
-    ensures err { OnErr result (HoldsPart out.old out.new (receipt_lines_lem topo.now apps.now 1 (proposals (reverse entries.now)) (verdicts (reverse entries.now)))) }
+) -> Result<Lines, AllocError>
+    requires { are_names apps.now ≡ true }
+    ensures { IfOk result (λ lines. lines ≡ map spaced (receipt_words topo.now apps.now (reverse entries.now))) }
 {
     let proposers = proposers(alloc, entries)?;
+    let mut lines = Lines::new(alloc);
     let mut decided = 0;
     for entry in entries {
         if let Some(verdict) = verdict_of(entry) {
-            print_decided(topo, apps, proposers.as_slice(), decided, verdict, out)?;
+            add_decided(
+                alloc,
+                topo,
+                apps,
+                proposers.as_slice(),
+                decided,
+                verdict,
+                &mut lines,
+            )?;
             decided += 1;
         }
     }
-    Ok(())
+    Ok(lines)
 }
