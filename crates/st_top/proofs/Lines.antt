@@ -2,7 +2,7 @@
 use Rattle.std.proofs.Common.{◌≡◌, ℕ, List, [], ◌∷◌, ◌++◌, append_assoc, ap, ◌∙◌, sym}
 use Rattle.std.specs.Prelude.{decimal}
 use Rattle.std.proofs.lemmas.List.{append-nil}
-use Rattle.st_report.specs.Words.{spaced, line}
+use Rattle.st_text.specs.Words.{spaced, line}
 
 -- one more word with its number behind a text, before the words that are left
 one_count : (h a i : List ℕ) (more : List (List ℕ)) → (h ++ (32 ∷ a ++ 32 ∷ i)) ++ spaced more ≡ h ++ spaced (a ∷ i ∷ more)

@@ -1,14 +1,13 @@
 -- The scripts of a document fit its groups, and what its groups come to is the report of the document.
 use Rattle.std.proofs.Common.{◌≡◌, ℕ, zero, suc, ◌+◌, ◌<◌, List, [], ◌∷◌, ◌++◌, length, Bool, true, false, refl, ap, sym, ◌∙◌, subst, arith, set, take, drop}
-use Rattle.std.specs.Prelude.{All, codes, reverse, map, slice_get, slice_index_or, Option, Some, None, option_map, is_some, Ok as read_ok, if◌then◌else◌}
+use Rattle.std.specs.Prelude.{reverse, map, slice_get, slice_index_or, Option, Some, None, option_map, is_some, if◌then◌else◌}
 use Rattle.std.specs.Option.{IsSomeAnd}
-use Rattle.std.proofs.Math.Seq.{drop-cons, take-suc, take-suc-set}
-use Rattle.std.proofs.lemmas.List.{reverse-reverse, append-nil, append_assoc, drop-set-lt, length-map, set_split}
-use Rattle.std.proofs.lemmas.List.Elements.{All-append}
+use Rattle.std.proofs.Math.Seq.{drop-cons, take-suc-set}
+use Rattle.std.proofs.lemmas.List.{reverse-reverse, append_assoc, drop-set-lt, length-map, set_split}
 use Rattle.std.proofs.lemmas.Option.{slice_get-get_or}
 use Rattle.st_net.specs.declared.entity.AppId.{AppId}
 use Rattle.st_net.specs.declared.parts.Parts.{Parts}
-use Rattle.st_net.specs.Groups.{Group, IsEntityOf, IsSound}
+use Rattle.st_net.specs.Groups.{Group, IsEntityOf}
 use Rattle.st_net.specs.Faults.{group_of}
 use Rattle.st_event.specs.declared.act.Act.{Act}
 use Rattle.st_event.specs.declared.act.Act.TheVariants.{Propose, Await, Settle, Lock, Unlock, Read, ReadAt, Fail, Poll}
@@ -21,21 +20,21 @@ use Rattle.st_grammar.specs.declared.doc.Doc.{Doc}
 use Rattle.st_grammar.specs.declared.doc.Script.{Script}
 use Rattle.st_net.specs.Ranges.{IsVariableOf, IsChangeOf}
 use Rattle.st_grammar.specs.Sound.{IsGroupWith, IsSoundAct, IsSoundDoc}
-use Rattle.st_report.specs.GroupReport.{group_report}
 use Rattle.st_wire.specs.declared.line.WireLine.{WireLine}
 use Rattle.st_world.specs.declared.world.rounds.Going.{Going}
-use Rattle.st_world.specs.Rounds.{Run as Course, is_full}
+use Rattle.st_world.specs.Rounds.{is_full}
 use Rattle.st_world.specs.Acts.{ActFits, group_number, seen_by}
 use Rattle.st_top.specs.declared.answer.Status.{Status}
 use Rattle.st_top.specs.declared.answer.Status.TheVariants as statuses
 use Rattle.st_top.specs.declared.schedule.Place.{Place}
-use Rattle.st_top.specs.declared.words.Command.TheVariants.{Serial}
+use Rattle.st_top.specs.declared.task.Showing.{Showing}
+use Rattle.st_top.specs.declared.task.Task.TheVariants.{Serial}
 use Rattle.st_top.specs.Schedule.{schedule}
-use Rattle.st_top.specs.Serial.{AllFitIn, Checked, EntryFits, FitsIn, GroupState, LogsFit, Run, act_done, act_in, act_of, act_on, all_decided, all_opened, asked_done, changed_at, checks_in, course_in, decided, full_of, groups_in, journals_from, logged, logs_from, opened, opening_run, place_done, places_done, scripts_done, seen_of, serial_end, serial_full, serial_run, state_at, with_checked, with_group}
-use Rattle.st_top.specs.Output.{app_names, groups_text, states_text, logs_text, log_text, head_line, end_line, report_of, run_text}
-use Rattle.st_top.specs.Answer.{Results, AreKept, AreOfScripts, EndsOn, IsKept, full_line, name_or_none}
+use Rattle.st_top.specs.Serial.{AllFitIn, Checked, FitsIn, GroupState, Run, act_done, act_of, act_on, all_decided, all_opened, asked_done, changed_at, checks_in, course_in, decided, full_of, groups_in, journals_from, logged, logs_from, opened, opening_run, place_done, places_done, scripts_done, seen_of, serial_end, serial_logs, serial_run, state_at, with_checked, with_group}
+use Rattle.st_top.specs.Output.{groups_of, histories_of, shown}
+use Rattle.st_top.specs.Answer.{Results, AreKept, AreOfScripts, EndsOnDoc, IsKept}
 use Rattle.st_top.specs.Ending.{AreKeptSites, IsKeptHistory, IsToldOf}
-use Rattle.st_top.proofs.Lists.{OfSome, of_some, some_in, by_test, changed_count, one_fits, at_set, changed_same}
+use Rattle.st_top.proofs.Lists.{by_test, changed_count, at_set, changed_same}
 
 -- the groups of a document at their opening
 pub opened_groups : (groups : List Parts) (wires : List (List WireLine)) → length wires ≡ length groups → groups_in (all_opened groups wires) ≡ map group_of groups
@@ -150,95 +149,6 @@ decided_logs run = by_test (λ (r : Run). r.logs ≡ run.logs) (is_some run.full
 
 pub serial_count : (doc : Doc) → length (serial_end doc).logs ≡ length doc.apps
 serial_count doc = ap length (decided_logs (scripts_done doc)) ∙ places_count doc.apps (schedule doc.apps doc.order) (opening_run doc) ∙ length-map doc.apps (λ app. [])
-
--- what is logged names groups and their variables
-in_app : (groups : List Group) (app : Option Script) (k : ℕ) → OfSome (λ script. All (λ act. FitsIn act groups) script.acts) app → OfSome (λ act. FitsIn act groups) (act_in app k)
-in_app groups None k fits = tt
-in_app groups (Some app) k fits = some_in (λ act. FitsIn act groups) app.acts k fits
-
-act_of_fits : (apps : List Script) (groups : List Group) (place : Place) → AllFitIn apps groups → OfSome (λ act. FitsIn act groups) (act_of apps place)
-act_of_fits apps groups place all = in_app groups (slice_get apps place.app) place.act (some_in (λ script. All (λ act. FitsIn act groups) script.acts) apps place.app all)
-
-seen_fits : (groups : List Group) (act : Act) (s : GroupState) → FitsIn act groups → OfSome (EntryFits groups) (seen_by act s.history)
-seen_fits groups (Read n entity var) s fits = fits
-seen_fits groups (ReadAt n version entity var) s fits = fits
-seen_fits groups _ s fits = tt
-
-of_fits : (groups : List Group) (act : Act) (s : Option GroupState) → FitsIn act groups → OfSome (EntryFits groups) (seen_of act s)
-of_fits groups act None fits = tt
-of_fits groups act (Some s) fits = seen_fits groups act s fits
-
-changed_fits : (groups : List Group) (logs : List (List LogEntry)) (n : ℕ) (entry : LogEntry) → LogsFit groups logs → EntryFits groups entry → LogsFit groups (changed_at n (λ log. log ++ entry ∷ []) logs)
-changed_fits groups [] n entry fits one k d low = absurd (omega (arith, low))
-changed_fits groups (log ∷ logs) zero entry fits one zero d low = All-append (EntryFits groups) log (entry ∷ []) (fits 0 log (omega arith)) (one_fits (EntryFits groups) entry one)
-changed_fits groups (log ∷ logs) zero entry fits one (suc k) d low = fits (suc k) d low
-changed_fits groups (log ∷ logs) (suc n) entry fits one zero d low = fits 0 d (omega arith)
-changed_fits groups (log ∷ logs) (suc n) entry fits one (suc k) d low = changed_fits groups logs n entry (λ j e lower. fits (suc j) e (omega (arith, lower))) one k d (omega (arith, low))
-
-logged_fits : (groups : List Group) (app : ℕ) (seen : Option LogEntry) (logs : List (List LogEntry)) → OfSome (EntryFits groups) seen → LogsFit groups logs → LogsFit groups (logged app seen logs)
-logged_fits groups app None logs one fits = fits
-logged_fits groups app (Some entry) logs one fits = changed_fits groups logs app entry fits one
-
-asked_fits : (groups : List Group) (app : ℕ) (act : Option Act) (run : Run) → OfSome (λ a. FitsIn a groups) act → LogsFit groups run.logs → LogsFit groups (asked_done app act run).logs
-asked_fits groups app None run one fits = fits
-asked_fits groups app (Some act) run one fits = logged_fits groups app (seen_of act (slice_get run.groups (group_number act))) run.logs (of_fits groups act (slice_get run.groups (group_number act)) one) fits
-
-place_fits : (groups : List Group) (apps : List Script) (place : Place) (run : Run) → AllFitIn apps groups → LogsFit groups run.logs → LogsFit groups (place_done apps place run).logs
-place_fits groups apps place run all fits = by_test (λ (r : Run). LogsFit groups r.logs) (is_some run.full) run (asked_done place.app (act_of apps place) run) fits (asked_fits groups place.app (act_of apps place) run (act_of_fits apps groups place all) fits)
-
-places_fits : (groups : List Group) (apps : List Script) (places : List Place) (run : Run) → AllFitIn apps groups → LogsFit groups run.logs → LogsFit groups (places_done apps places run).logs
-places_fits groups apps [] run all fits = fits
-places_fits groups apps (place ∷ places) run all fits = places_fits groups apps places (place_done apps place run) all (place_fits groups apps place run all fits)
-
-none_fits : (groups : List Group) (apps : List Script) → LogsFit groups (map (λ app. []) apps)
-none_fits groups [] k d low = absurd (omega (arith, low))
-none_fits groups (app ∷ apps) zero d low = λ j e lower. absurd (omega (arith, lower))
-none_fits groups (app ∷ apps) (suc k) d low = none_fits groups apps k d (omega (arith, low))
-
-pub serial_fits : (doc : Doc) → IsSoundDoc doc → LogsFit (groups_in (serial_end doc).groups) (serial_end doc).logs
-serial_fits doc sound =
-    let fits : LogsFit (map group_of doc.groups) (scripts_done doc).logs = places_fits (map group_of doc.groups) doc.apps (schedule doc.apps doc.order) (opening_run doc) (scripts_fit doc sound) (none_fits (map group_of doc.groups) doc.apps) in
-    subst (λ gs. LogsFit gs (serial_end doc).logs) (sym (serial_groups doc sound)) (subst (λ logs. LogsFit (map group_of doc.groups) logs) (sym (decided_logs (scripts_done doc))) fits)
-
--- the group at whose full journal a run stops is one of its groups
-abbrev StopsWithin : Run → Type 0
-StopsWithin run = OfSome (λ m. m < length run.groups) run.full
-
-full_within : (P : ℕ → Type 0) (m n : ℕ) (f : GroupState → Course) (ss : List GroupState) → (n < length ss → P m) → OfSome P (full_of m (option_map f (slice_get ss n)))
-full_within P m n f [] gives = tt
-full_within P m zero f (s ∷ ss) gives = by_test (OfSome P) (f s).stopped (Some m) None (gives (omega arith)) tt
-full_within P m (suc n) f (s ∷ ss) gives = full_within P m n f ss (λ low. gives (omega (arith, low)))
-
-asked_within : (app : ℕ) (act : Option Act) (run : Run) → StopsWithin run → StopsWithin (asked_done app act run)
-asked_within app None run within = within
-asked_within app (Some act) run within =
-    let n = group_number act in
-    let same = changed_count n (act_on (record { 0 = app }) act) run.groups in
-    full_within (λ m. m < length (changed_at n (act_on (record { 0 = app }) act) run.groups)) n n (course_in (record { 0 = app }) act) run.groups (λ low. omega (arith, low, same))
-
-places_within : (apps : List Script) (places : List Place) (run : Run) → StopsWithin run → StopsWithin (places_done apps places run)
-places_within apps [] run within = within
-places_within apps (place ∷ places) run within =
-    places_within apps places (place_done apps place run) (by_test StopsWithin (is_some run.full) run (asked_done place.app (act_of apps place) run) within (asked_within place.app (act_of apps place) run within))
-
-checked_within : (n : ℕ) (ss : List GroupState) → OfSome (λ m. m < n + length ss) (all_decided n ss).full
-checked_within n [] = tt
-checked_within n (s ∷ ss) =
-    let course = checks_in s in
-    by_test (λ (c : Checked). OfSome (λ m. m < n + suc (length ss)) c.full) course.stopped (record { groups = state_at s course ∷ ss; full = Some n }) (with_group (state_at s course) (all_decided (n + 1) ss))
-    (omega arith) (of_some (λ m. m < n + 1 + length ss) (λ m. m < n + suc (length ss)) (all_decided (n + 1) ss).full (λ m low. omega (arith, low)) (checked_within (n + 1) ss))
-
-decided_within : (run : Run) → StopsWithin run → StopsWithin (decided run)
-decided_within run within =
-    let checked = all_decided 0 run.groups in
-    let same = same_count run.groups checked.groups (checked_groups 0 run.groups) in
-    by_test StopsWithin (is_some run.full) run (with_checked run checked) within (of_some (λ m. m < 0 + length run.groups) (λ m. m < length checked.groups) checked.full (λ m low. omega (arith, low, same)) (checked_within 0 run.groups))
-
-pub full_low : (doc : Doc) (n : ℕ) → IsSoundDoc doc → serial_full doc ≡ Some n → n < length doc.groups
-full_low doc n sound full =
-    let within : OfSome (λ m. m < length (serial_end doc).groups) (serial_end doc).full = decided_within (scripts_done doc) (places_within doc.apps (schedule doc.apps doc.order) (opening_run doc) tt) in
-    let low : n < length (serial_end doc).groups = subst (OfSome (λ m. m < length (serial_end doc).groups)) full within in
-    omega (arith, low, serial_many doc sound)
 
 -- one command more is done
 pub places_next : (apps : List Script) (places : List Place) (i : ℕ) (d : Place) (run more : Run) → i < length places → more ≡ place_done apps (slice_index_or places i d) run → places_done apps (drop (i + 1) places) more ≡ places_done apps (drop i places) run
@@ -361,36 +271,17 @@ decide_next i ss d new low goes on =
     ∙ sym (ap (with_groups (take i ss)) first)
 
 -- journals of groups that are kept
-kept_all : (groups : List Parts) (n : ℕ) (ss : List GroupState) → groups_in ss ≡ map group_of groups → AreKeptSites ss → AreKept groups (journals_from n ss)
-kept_all [] n [] same kept = tt
-kept_all [] n (s ∷ ss) same kept = cc
-kept_all (parts ∷ groups) n [] same kept = cc
-kept_all (parts ∷ groups) n (s ∷ ss) same kept =
+kept_all : (n : ℕ) (ss : List GroupState) → AreKeptSites ss → AreKept (groups_in ss) (journals_from n ss)
+kept_all n [] kept = tt
+kept_all n (s ∷ ss) kept =
     let past = s.history.past in
-    let first : s.history.group ≡ group_of parts = cc in
-    let rest : groups_in ss ≡ map group_of groups = cc in
     let turned = reverse-reverse past in
-    let here : IsKept parts (record { group = n; entries = reverse past }) = record {
-      sound = subst IsSound first kept.0.sound;
-      legal = subst (λ p. IsLegal (group_of parts) p) (sym turned) (subst (λ g. IsLegal g past) first kept.0.legal);
-      promises = subst (λ p. AtEach (KeepsPromises (group_of parts)) p) (sym turned) (subst (λ g. AtEach (KeepsPromises g) past) first kept.0.promises);
+    let here : IsKept s.history.group (record { group = n; entries = reverse past }) = record {
+      sound = kept.0.sound;
+      legal = subst (λ p. IsLegal s.history.group p) (sym turned) kept.0.legal;
+      promises = subst (λ p. AtEach (KeepsPromises s.history.group) p) (sym turned) kept.0.promises;
     } in
-    (here, kept_all groups (n + 1) ss rest kept.1)
-
-texts_same : (apps : List (List ℕ)) (groups : List Parts) (n : ℕ) (ss : List GroupState) → groups_in ss ≡ map group_of groups → states_text apps ss ≡ groups_text apps groups (journals_from n ss)
-texts_same apps [] n [] same = refl
-texts_same apps [] n (s ∷ ss) same = cc
-texts_same apps (parts ∷ groups) n [] same = cc
-texts_same apps (parts ∷ groups) n (s ∷ ss) same =
-    let past = s.history.past in
-    let first : s.history.group ≡ group_of parts = cc in
-    let rest : groups_in ss ≡ map group_of groups = cc in
-    let here : group_report s.history.group apps past ≡ group_report (group_of parts) apps (reverse (reverse past)) = ap (λ g. group_report g apps past) first ∙ ap (λ p. group_report (group_of parts) apps p) (sym (reverse-reverse past)) in
-    ap (λ text. text ++ states_text apps ss) here ∙ ap (λ text. group_report (group_of parts) apps (reverse (reverse past)) ++ text) (texts_same apps groups (n + 1) ss rest)
-
-entries_same : (n : ℕ) (logs : List (List LogEntry)) → map (λ (log : Log). log.entries) (logs_from n logs) ≡ logs
-entries_same n [] = refl
-entries_same n (log ∷ logs) = ap (λ ls. log ∷ ls) (entries_same (n + 1) logs)
+    (here, kept_all (n + 1) ss kept.1)
 
 -- what a document comes to is what its scripts do
 pub of_scripts : (doc : Doc) (run : Run) (journals : List Journal) (logs : List Log) → IsSoundDoc doc → run ≡ serial_end doc → journals ≡ journals_from 0 run.groups → AreKeptSites run.groups → logs ≡ logs_from 0 run.logs → AreOfScripts doc (record { journals = journals; logs = logs })
@@ -400,30 +291,31 @@ of_scripts doc run journals logs sound is journals_are kept logs_are =
     record {
       order = journals_end;
       seen = logs_are ∙ ap (λ (r : Run). logs_from 0 r.logs) is;
-      kept = subst (AreKept doc.groups) (sym journals_end) (kept_all doc.groups 0 (serial_end doc).groups (serial_groups doc sound) kept_end);
+      kept = subst (AreKept (groups_of doc)) (sym journals_end) (subst (λ gs. AreKept gs (serial_run doc)) (serial_groups doc sound) (kept_all 0 (serial_end doc).groups kept_end));
     }
 
--- and its report is that of their journals and logs
-report_same : (doc : Doc) (results : Results) → IsSoundDoc doc → AreOfScripts doc results → run_text (app_names doc) (serial_end doc) ≡ report_of doc results.journals results.logs
-report_same doc results sound scripts =
+-- the groups of a run with their journals
+histories_same : (n : ℕ) (ss : List GroupState) → map (λ s. s.history) ss ≡ histories_of (groups_in ss) (journals_from n ss)
+histories_same n [] = refl
+histories_same n (s ∷ ss) =
+    let g = s.history.group in
+    let past = s.history.past in
+    ap (λ p. record { group = g; past = p } ∷ map (λ (x : GroupState). x.history) ss) (sym (reverse-reverse past))
+    ∙ ap (λ hs. record { group = g; past = reverse (reverse past) } ∷ hs) (histories_same (n + 1) ss)
+
+-- what is shown of them is shown of the groups of the document with its journals
+shown_same : (showing : Showing) (doc : Doc) (results : Results) → IsSoundDoc doc → AreOfScripts doc results → shown showing doc (map (λ s. s.history) (serial_end doc).groups) (serial_logs doc) ≡ shown showing doc (histories_of (groups_of doc) results.journals) results.logs
+shown_same showing doc results sound scripts =
     let end = serial_end doc in
-    let same = serial_groups doc sound in
-    let apps = app_names doc in
-    ap (λ t. head_line ++ t ++ logs_text (groups_in end.groups) apps end.logs ++ end_line) (texts_same apps doc.groups 0 end.groups same ∙ ap (groups_text apps doc.groups) (sym scripts.order))
-    ∙ ap (λ gs. head_line ++ groups_text apps doc.groups results.journals ++ logs_text gs apps end.logs ++ end_line) same
-    ∙ ap (λ ls. head_line ++ groups_text apps doc.groups results.journals ++ logs_text (map group_of doc.groups) apps ls ++ end_line) (sym (entries_same 0 end.logs) ∙ ap (map (λ (log : Log). log.entries)) (sym scripts.seen))
+    let same : map (λ s. s.history) end.groups ≡ histories_of (groups_of doc) results.journals =
+    histories_same 0 end.groups ∙ ap (λ gs. histories_of gs (journals_from 0 end.groups)) (serial_groups doc sound) ∙ ap (histories_of (groups_of doc)) (sym scripts.order) in
+    ap (λ hs. shown showing doc hs (serial_logs doc)) same ∙ ap (shown showing doc (histories_of (groups_of doc) results.journals)) (sym scripts.seen)
 
 -- so the call ends on what was told
-pub ends_told : (doc : Doc) (results : Results) (status : Status) (text : List ℕ) → IsSoundDoc doc → AreOfScripts doc results → IsToldOf doc status text → EndsOn Serial (read_ok doc) results text status
-ends_told doc results statuses.Ok text sound scripts told = record { scripts = scripts; room = told.0; report = told.1 ∙ report_same doc results sound scripts }
-ends_told doc results (statuses.JournalFull group) text sound scripts told = (refl, record { scripts = scripts; full = told.0; told = told.1 })
-ends_told doc results _ text sound scripts told = absurd told
-
--- the line that tells of a full journal has the group's name
-pub told_full : (doc : Doc) (groups : List Parts) (n : ℕ) (d : Parts) (text : List ℕ) → groups ≡ doc.groups → n < length groups → text ≡ codes "fault full " ++ (slice_index_or groups n d).name ++ 10 ∷ [] → text ≡ full_line doc n
-told_full doc groups n d text are low told =
-    let there : slice_get doc.groups n ≡ Some (slice_index_or groups n d) = ap (λ gs. slice_get gs n) (sym are) ∙ slice_get-get_or groups n d low in
-    told ∙ ap (λ (o : Option Parts). codes "fault full " ++ name_or_none o ++ 10 ∷ []) (sym there)
+pub ends_told : (showing : Showing) (doc : Doc) (results : Results) (status : Status) (text : List ℕ) → IsSoundDoc doc → AreOfScripts doc results → IsToldOf showing doc status text → EndsOnDoc (Serial showing) doc results text status
+ends_told showing doc results statuses.Ok text sound scripts told = record { scripts = scripts; room = told.0; report = told.1 ∙ shown_same showing doc results sound scripts }
+ends_told showing doc results (statuses.JournalFull group) text sound scripts told = (tt, record { scripts = scripts; full = told.0; told = told.1 })
+ends_told showing doc results _ text sound scripts told = absurd told
 
 -- one group more at the end
 pub kept_more : (ss : List GroupState) (s : GroupState) → AreKeptSites ss → IsKeptHistory s.history → AreKeptSites (ss ++ s ∷ [])
@@ -445,39 +337,6 @@ logs_more n (first ∷ logs) log = ap (λ ls. record { app = record { 0 = n }; e
 pub logs_long : (n : ℕ) (logs : List (List LogEntry)) → length (logs_from n logs) ≡ length logs
 logs_long n [] = refl
 logs_long n (log ∷ logs) = ap suc (logs_long (n + 1) logs)
-
-texts_more : (apps : List (List ℕ)) (ss : List GroupState) (s : GroupState) → states_text apps (ss ++ s ∷ []) ≡ states_text apps ss ++ group_report s.history.group apps s.history.past
-texts_more apps [] s = append-nil (group_report s.history.group apps s.history.past)
-texts_more apps (first ∷ ss) s = ap (λ text. group_report first.history.group apps first.history.past ++ text) (texts_more apps ss s) ∙ sym (append_assoc (group_report first.history.group apps first.history.past) (states_text apps ss) (group_report s.history.group apps s.history.past))
-
--- the lines of one group more, and of one log more
-pub states_next : (apps : List (List ℕ)) (sites : List GroupState) (i : ℕ) (d : GroupState) (start out new : List ℕ) → i < length sites → out ≡ start ++ states_text apps (take i sites) → new ≡ out ++ group_report (slice_index_or sites i d).history.group apps (slice_index_or sites i d).history.past → new ≡ start ++ states_text apps (take (i + 1) sites)
-states_next apps sites i d start out new low was adds =
-    let s = slice_index_or sites i d in
-    let one : i + 1 ≡ suc i = omega arith in
-    adds ∙ ap (λ text. text ++ group_report s.history.group apps s.history.past) was ∙ append_assoc start (states_text apps (take i sites)) (group_report s.history.group apps s.history.past)
-    ∙ ap (λ text. start ++ text) (sym (texts_more apps (take i sites) s) ∙ ap (states_text apps) (sym (take-suc sites i d low) ∙ ap (λ n. take n sites) (sym one)))
-
-logs_one : (groups : List Group) (apps : List (List ℕ)) (logs : List (List LogEntry)) (i : ℕ) (d : List ℕ) (e : List LogEntry) → i < length apps → i < length logs → logs_text groups (take (suc i) apps) logs ≡ logs_text groups (take i apps) logs ++ log_text groups (slice_index_or apps i d) (slice_index_or logs i e)
-logs_one groups [] logs i d e low lower = absurd (omega (arith, low))
-logs_one groups (app ∷ apps) [] i d e low lower = absurd (omega (arith, lower))
-logs_one groups (app ∷ apps) (log ∷ logs) zero d e low lower = append-nil (log_text groups app log)
-logs_one groups (app ∷ apps) (log ∷ logs) (suc i) d e low lower = ap (λ text. log_text groups app log ++ text) (logs_one groups apps logs i d e (omega (arith, low)) (omega (arith, lower))) ∙ sym (append_assoc (log_text groups app log) (logs_text groups (take i apps) logs) (log_text groups (slice_index_or apps i d) (slice_index_or logs i e)))
-
-pub logs_next : (groups : List Group) (apps : List (List ℕ)) (logs : List (List LogEntry)) (i : ℕ) (d : List ℕ) (e : List LogEntry) (start out new : List ℕ) → i < length apps → i < length logs → out ≡ start ++ logs_text groups (take i apps) logs → new ≡ out ++ log_text groups (slice_index_or apps i d) (slice_index_or logs i e) → new ≡ start ++ logs_text groups (take (i + 1) apps) logs
-logs_next groups apps logs i d e start out new low lower was adds =
-    let one : i + 1 ≡ suc i = omega arith in
-    let more = log_text groups (slice_index_or apps i d) (slice_index_or logs i e) in
-    adds ∙ ap (λ text. text ++ more) was ∙ append_assoc start (logs_text groups (take i apps) logs) more
-    ∙ ap (λ text. start ++ text) (sym (logs_one groups apps logs i d e low lower) ∙ ap (λ n. logs_text groups (take n apps) logs) (sym one))
-
--- the text of a report, part by part
-pub report_is : (run : Run) (names apps : List (List ℕ)) (ss : List GroupState) (logs : List (List LogEntry)) (start first second third text : List ℕ) → start ≡ [] → first ≡ start ++ head_line → second ≡ first ++ states_text apps ss → third ≡ second ++ logs_text (groups_in ss) apps logs → text ≡ third ++ end_line → ss ≡ run.groups → logs ≡ run.logs → apps ≡ names → text ≡ run_text names run
-report_is run names apps ss logs start first second third text none one two three four groups_are logs_are names_are =
-    four ∙ ap (λ t. t ++ end_line) (three ∙ ap (λ t. t ++ logs_text (groups_in ss) apps logs) (two ∙ ap (λ t. t ++ states_text apps ss) (one ∙ ap (λ t. t ++ head_line) none)))
-    ∙ ap (λ gs. head_line ++ states_text apps gs ++ logs_text (groups_in gs) apps logs ++ end_line) groups_are
-    ∙ ap (λ ls. head_line ++ states_text apps run.groups ++ logs_text (groups_in run.groups) apps ls ++ end_line) logs_are
-    ∙ ap (λ ns. run_text ns run) names_are
 
 -- one journal, and one log, more
 pub journal_next : (ss : List GroupState) (s : GroupState) (n : ℕ) (journal : Journal) (journals more : List Journal) → n ≡ length journals → journal.group ≡ n → reverse journal.entries ≡ s.history.past → journals ≡ journals_from 0 ss → more ≡ journals ++ journal ∷ [] → more ≡ journals_from 0 (ss ++ s ∷ [])

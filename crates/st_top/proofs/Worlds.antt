@@ -1,23 +1,23 @@
 -- The groups of worlds, of which one is read, or was changed.
-use Rattle.std.proofs.Common.{◌≡◌, ℕ, zero, suc, ◌+◌, ◌<◌, List, [], ◌∷◌, ◌++◌, length, true, false, refl, ap, sym, ◌∙◌, subst, arith, set, take}
-use Rattle.std.specs.Prelude.{slice_get, slice_index_or, Option, Some, None, if◌then◌else◌}
-use Rattle.std.specs.Option.{IsSomeAnd}
+use Rattle.std.proofs.Common.{◌≡◌, ℕ, ◌+◌, ◌<◌, List, [], ◌∷◌, ◌++◌, length, true, false, refl, ap, sym, ◌∙◌, subst, arith, set, take}
+use Rattle.std.specs.Prelude.{slice_index_or, Option, Some, None, flat_map, map, if◌then◌else◌}
 use Rattle.std.proofs.Math.ListN.{get_or-map}
 use Rattle.std.proofs.lemmas.List.{length-map, map-set, map_push}
+use Rattle.st_text.proofs.PrintLemmas.{IsByElement, by_next}
 use Rattle.st_net.specs.declared.entity.AppId.{AppId}
 use Rattle.st_net.specs.Groups.{Group}
 use Rattle.st_event.specs.declared.act.Act.{Act}
 use Rattle.st_event.specs.declared.act.LogEntry.{LogEntry}
 use Rattle.st_event.specs.declared.journal.Entry.{Entry}
+use Rattle.st_event.specs.History.{History}
 use Rattle.st_wire.specs.declared.line.WireLine.{WireLine}
 use Rattle.st_world.specs.declared.world.rounds.Going.{Going}
 use Rattle.st_world.specs.World.{WorldView}
 use Rattle.st_world.specs.Rounds.{Run as Course, run_from, is_full, Goes, HasSamePlant}
 use Rattle.st_world.specs.Acts.{ActFits, act_course, all_checked, group_number, seen_by}
-use Rattle.st_report.specs.GroupReport.{group_report}
+use Rattle.st_report.specs.Lines.{histories}
 use Rattle.st_top.specs.Serial.{GroupState, FitsIn, act_done, checks_in, course_in, groups_in, logged, state_at, state_of, states_of}
-use Rattle.st_top.specs.Output.{states_text}
-use Rattle.st_top.proofs.Runs.{decide_full, decide_next, decided_from, fits_group, group_in, other_done, read_done, run_of, states_next}
+use Rattle.st_top.proofs.Runs.{decide_full, decide_next, decided_from, fits_group, group_in, other_done, read_done, run_of}
 
 -- what contracts see of the groups of worlds
 
@@ -96,14 +96,14 @@ world_decided i ws d new going low checked on =
 
 -- reports
 
--- the group that a line of a log names is that of its world
-pub logged_world : (ws : List WorldView) (n : ℕ) (d : WorldView) (P : Group → Type 0) → IsSomeAnd (slice_get (groups_in (states_of ws)) n) P → (slice_get (groups_in (states_of ws)) n ≡ Some (slice_index_or ws n d).history.group) × P (slice_index_or ws n d).history.group
-logged_world [] n d P is = absurd is
-logged_world (w ∷ ws) zero d P is = (refl, is)
-logged_world (w ∷ ws) (suc n) d P is = logged_world ws n d P is
+-- worlds with their journals
+pub histories_are : (ws : List WorldView) → map (λ s. s.history) (states_of ws) ≡ histories ws
+histories_are [] = refl
+histories_are (w ∷ ws) = ap (λ hs. w.history ∷ hs) (histories_are ws)
 
--- the lines of one group more
-pub worlds_next : (apps : List (List ℕ)) (ws : List WorldView) (i : ℕ) (d : WorldView) (start out new : List ℕ) → i < length ws → out ≡ start ++ states_text apps (take i (states_of ws)) → new ≡ out ++ group_report (slice_index_or ws i d).history.group apps (slice_index_or ws i d).history.past → new ≡ start ++ states_text apps (take (i + 1) (states_of ws))
-worlds_next apps ws i d start out new low was adds =
-    states_next apps (states_of ws) i (state_of d) start out new (low_state ws i low) was
-    (adds ∙ ap (λ (s : GroupState). out ++ group_report s.history.group apps s.history.past) (sym (state_in ws i d)))
+-- one more world behind those whose texts were added
+texts_by_world : (f : History → List ℕ) → IsByElement (λ (ws : List WorldView). flat_map f (histories ws)) (λ (w : WorldView). f w.history)
+texts_by_world f = record { none = refl; more = λ w ws. refl }
+
+pub text_next : (f : History → List ℕ) (ws : List WorldView) (i : ℕ) (w d : WorldView) (old mid new : List ℕ) → i < length ws → w ≡ slice_index_or ws i d → mid ≡ old ++ flat_map f (histories (take i ws)) → new ≡ mid ++ f w.history → new ≡ old ++ flat_map f (histories (take (i + 1) ws))
+text_next f ws i w d old mid new low is before added = by_next (λ (vs : List WorldView). flat_map f (histories vs)) (λ (v : WorldView). f v.history) (texts_by_world f) ws i w d old mid new low is before added

@@ -1,30 +1,38 @@
 -- How a call ends, and what that says of what was read, of the journals, and of what was written.
-use Rattle.std.specs.Prelude.{◌≡◌, ℕ, ◌+◌, ◌≤◌, List, [], ◌∷◌, ◌++◌, length, reverse, Option, Some, None, Result, Ok as read_ok, Err, codes, decimal, slice_get, ◌⊎◌}
+use Rattle.std.specs.Prelude.{◌≡◌, ℕ, ◌+◌, ◌≤◌, List, [], ◌∷◌, length, reverse, Option, Some, None, Result, Ok as read_ok, Err, codes, decimal, slice_get, ◌⊎◌}
 use Rattle.std.specs.Io.KnownBytes.{Consumes, Appends, Keeps, IsAtEnd}
 use Rattle.st_io.specs.declared.reading.TheConstants.{MAX_BYTES}
 use Rattle.st_io.specs.Outside.{Rose}
 use Rattle.st_io.specs.Output.{AppendsPrefix}
+use Rattle.st_text.specs.Words.{line}
 use Rattle.st_net.specs.declared.parts.Parts.{Parts}
-use Rattle.st_net.specs.Faults.{group_of}
-use Rattle.st_net.specs.Groups.{IsSound}
+use Rattle.st_net.specs.Groups.{Group, IsSound}
 use Rattle.st_event.specs.declared.act.Log.{Log}
 use Rattle.st_event.specs.declared.journal.Journal.{Journal}
 use Rattle.st_event.specs.Legal.{IsLegal, AtEach}
 use Rattle.st_event.specs.Network.{KeepsPromises}
-use Rattle.st_token.specs.declared.fault.LineFault.{LineFault as DocFault}
-use Rattle.st_token.specs.declared.fault.FaultKind.{FaultKind as DocKind}
-use Rattle.st_token.specs.declared.fault.FaultKind.TheVariants as kinds
 use Rattle.st_grammar.specs.declared.doc.Doc.{Doc}
 use Rattle.st_grammar.specs.Reading.{document_of}
+use Rattle.st_token.specs.declared.fault.FaultKind.{FaultKind}
+use Rattle.st_token.specs.declared.fault.FaultKind.TheVariants as kinds
+use Rattle.st_token.specs.declared.fault.LineFault.{LineFault}
 use Rattle.st_top.specs.declared.answer.Status.{Status}
-use Rattle.st_top.specs.declared.answer.Status.TheVariants.{Ok, Usage, ReadFault, TooLong, BadInput, JournalFull, WriteFault, OutOfMemory}
-use Rattle.st_top.specs.declared.words.Command.{Command}
-use Rattle.st_top.specs.declared.words.Command.TheVariants.{Serial, Check}
-use Rattle.st_top.specs.Words.{command_of}
+use Rattle.st_top.specs.declared.answer.Status.TheVariants.{Ok, Usage, ReadFault, TooLong, BadInput, JournalFull, Illegal, WriteFault, OutOfMemory}
+use Rattle.st_words.specs.declared.job.FatTree.{FatTree}
+use Rattle.st_words.specs.declared.job.Form.{Form}
+use Rattle.st_doc.specs.Printed.{printed_doc}
+use Rattle.st_top.specs.declared.task.Task.{Task}
+use Rattle.st_top.specs.declared.task.Task.TheVariants.{Serial, Count, Print}
+use Rattle.st_top.specs.declared.task.Showing.{Showing}
+use Rattle.st_top.specs.declared.task.Showing.TheVariants.{In}
+use Rattle.st_top.specs.declared.task.Reading.{Reading}
+use Rattle.st_top.specs.declared.task.Reading.TheVariants as readings
+use Rattle.st_top.specs.Ways.{Way, nothing, reads, makes, way_of, tree_doc}
 use Rattle.st_top.specs.Serial.{serial_run, serial_logs, serial_full}
-use Rattle.st_top.specs.Output.{report_of, check_text}
+use Rattle.st_top.specs.Output.{groups_of, histories_of, shown, check_text}
+use Rattle.st_top.specs.Replaying.{Replay, replay_of, IsFirstIllegal}
 
-abbrev pub kind_word : DocKind → List ℕ
+abbrev pub kind_word : FaultKind → List ℕ
 kind_word kinds.Header = codes "header"
 kind_word kinds.Byte = codes "byte"
 kind_word kinds.Word = codes "word"
@@ -39,16 +47,30 @@ kind_word kinds.Loop = codes "loop"
 kind_word kinds.Pair = codes "pair"
 kind_word kinds.Limit = codes "limit"
 
--- the line that tells of a fault; that of a full journal names its group, and is not told from the status alone
-abbrev pub fault_text : Status → List ℕ
-fault_text Ok = []
-fault_text Usage = codes "fault usage" ++ 10 ∷ []
-fault_text ReadFault = codes "fault read" ++ 10 ∷ []
-fault_text TooLong = codes "fault long" ++ 10 ∷ []
-fault_text (BadInput line kind) = codes "fault input line " ++ decimal line ++ 32 ∷ kind_word kind ++ 10 ∷ []
-fault_text (JournalFull group) = []
-fault_text WriteFault = []
-fault_text OutOfMemory = []
+-- the name of a group by its number; no bytes where there is none
+abbrev pub name_or_none : Option Parts → List ℕ
+name_or_none None = []
+name_or_none (Some parts) = parts.name
+
+abbrev pub group_name : List Parts → ℕ → List ℕ
+group_name groups n = name_or_none (slice_get groups n)
+
+-- the line that tells of a status, where the groups of the document are these; there is none of a status that is no fault, or after which nothing
+-- can be written
+abbrev pub status_line : List Parts → Status → List ℕ
+status_line groups Ok = []
+status_line groups Usage = line (codes "fault") (codes "usage" ∷ [])
+status_line groups ReadFault = line (codes "fault") (codes "read" ∷ [])
+status_line groups TooLong = line (codes "fault") (codes "long" ∷ [])
+status_line groups (BadInput n kind) = line (codes "fault") (codes "input" ∷ codes "line" ∷ decimal n ∷ kind_word kind ∷ [])
+status_line groups (JournalFull group) = line (codes "fault") (codes "full" ∷ group_name groups group ∷ [])
+status_line groups (Illegal group entry) = line (codes "fault") (codes "illegal" ∷ group_name groups group ∷ decimal entry ∷ [])
+status_line groups WriteFault = []
+status_line groups OutOfMemory = []
+
+-- that of a fault before a document was read
+abbrev pub fault_line : Status → List ℕ
+fault_line status = status_line [] status
 
 -- what a call hands back: the journals that the groups kept, and the logs of the applications
 pub record Results : Type 0 where
@@ -59,60 +81,94 @@ abbrev pub no_results : Results
 no_results = record { journals = []; logs = [] }
 
 -- the group is sound, its journal is legal, and at each of the journal's moments the group's promises were kept
-pub record IsKept (parts : Parts) (journal : Journal) : Type 0 where
-  pub sound : IsSound (group_of parts)
-  pub legal : IsLegal (group_of parts) (reverse journal.entries)
-  pub promises : AtEach (KeepsPromises (group_of parts)) (reverse journal.entries)
+pub record IsKept (g : Group) (journal : Journal) : Type 0 where
+  pub sound : IsSound g
+  pub legal : IsLegal g (reverse journal.entries)
+  pub promises : AtEach (KeepsPromises g) (reverse journal.entries)
 
 -- each group has its journal, and it is kept
-abbrev pub AreKept : List Parts → List Journal → Type 0
+abbrev pub AreKept : List Group → List Journal → Type 0
 AreKept [] [] = Unit {0}
 AreKept [] (journal ∷ journals) = ⊥
-AreKept (parts ∷ more) [] = ⊥
-AreKept (parts ∷ more) (journal ∷ journals) = IsKept parts journal × AreKept more journals
+AreKept (g ∷ groups) [] = ⊥
+AreKept (g ∷ groups) (journal ∷ journals) = IsKept g journal × AreKept groups journals
 
 -- journals and logs are those of the script order, and the journals are legal and kept
 pub record AreOfScripts (doc : Doc) (results : Results) : Type 0 where
   pub order : results.journals ≡ serial_run doc
   pub seen : results.logs ≡ serial_logs doc
-  pub kept : AreKept doc.groups results.journals
+  pub kept : AreKept (groups_of doc) results.journals
 
--- the scripts of a document were carried out, no event met a full journal, and this is the text
-pub record RunsSerial (doc : Doc) (results : Results) (text : List ℕ) : Type 0 where
+-- the scripts of a document were carried out, no event met a full journal, and this is shown of what came of them
+pub record RunsSerial (showing : Showing) (doc : Doc) (results : Results) (text : List ℕ) : Type 0 where
   pub scripts : AreOfScripts doc results
   pub room : serial_full doc ≡ None
-  pub report : text ≡ report_of doc results.journals results.logs
-
--- the name of a group of a document
-abbrev pub name_or_none : Option Parts → List ℕ
-name_or_none None = []
-name_or_none (Some parts) = parts.name
-
--- the line that tells of the full journal of a group
-abbrev pub full_line : Doc → ℕ → List ℕ
-full_line doc group = codes "fault full " ++ name_or_none (slice_get doc.groups group) ++ 10 ∷ []
+  pub report : text ≡ shown showing doc (histories_of (groups_of doc) results.journals) results.logs
 
 -- they were carried out up to an event of this group that met a full journal, and this is the text
 pub record MeetsFull (doc : Doc) (results : Results) (text : List ℕ) (group : ℕ) : Type 0 where
   pub scripts : AreOfScripts doc results
   pub full : serial_full doc ≡ Some group
-  pub told : text ≡ full_line doc group
+  pub told : text ≡ status_line doc.groups (JournalFull group)
 
+-- its parts were counted
 pub record Counts (doc : Doc) (results : Results) (text : List ℕ) : Type 0 where
   pub none : results ≡ no_results
   pub report : text ≡ check_text doc
 
-abbrev pub Carries : Command → Doc → Results → List ℕ → Type 0
-Carries Serial = RunsSerial
-Carries Check = Counts
+-- it was printed
+pub record Prints (doc : Doc) (results : Results) (text : List ℕ) : Type 0 where
+  pub none : results ≡ no_results
+  pub lines : text ≡ printed_doc doc
 
--- what a command ends with on what was read to its end
-abbrev pub EndsOn : Command → Result Doc DocFault → Results → List ℕ → Status → Type 0
-EndsOn command (read_ok doc) results text Ok = Carries command doc results text
-EndsOn command (read_ok doc) results text (JournalFull group) = (command ≡ Serial) × MeetsFull doc results text group
-EndsOn command (read_ok doc) results text _ = ⊥
-EndsOn command (Err fault) results text (BadInput line kind) = (fault ≡ record { line = line; kind = kind }) × (results ≡ no_results) × (text ≡ fault_text (BadInput line kind))
-EndsOn command (Err fault) results text _ = ⊥
+-- a task was done on a document, to its end
+abbrev pub IsDone : Task → Doc → Results → List ℕ → Type 0
+IsDone (Serial showing) = RunsSerial showing
+IsDone Count = Counts
+IsDone Print = Prints
+
+-- a task that carries out scripts
+abbrev pub HasScripts : Task → Type 0
+HasScripts (Serial showing) = Unit {0}
+HasScripts Count = ⊥
+HasScripts Print = ⊥
+
+-- what a task ends with on a document
+abbrev pub EndsOnDoc : Task → Doc → Results → List ℕ → Status → Type 0
+EndsOnDoc task doc results text Ok = IsDone task doc results text
+EndsOnDoc task doc results text (JournalFull group) = HasScripts task × MeetsFull doc results text group
+EndsOnDoc task doc results text _ = ⊥
+
+-- what a task ends with on what was read to its end
+abbrev pub EndsOn : Task → Result Doc LineFault → Results → List ℕ → Status → Type 0
+EndsOn task (read_ok doc) results text status = EndsOnDoc task doc results text status
+EndsOn task (Err fault) results text (BadInput n kind) = (fault ≡ record { line = n; kind = kind }) × (results ≡ no_results) × (text ≡ fault_line (BadInput n kind))
+EndsOn task (Err fault) results text _ = ⊥
+
+-- the journals that were read are legal and were kept, they are handed back, there are no logs, and what came of them is shown in a form
+pub record IsReplayed (form : Form) (replay : Replay) (results : Results) (text : List ℕ) : Type 0 where
+  pub kept : AreKept (groups_of replay.doc) replay.journals
+  pub results_are : results ≡ record { journals = replay.journals; logs = [] }
+  pub report : text ≡ shown (In form) replay.doc (histories_of (groups_of replay.doc) replay.journals) []
+
+-- the first entry that is not legal is named, and the journals that were read are handed back
+pub record IsRefused (replay : Replay) (results : Results) (text : List ℕ) (group entry : ℕ) : Type 0 where
+  pub first : IsFirstIllegal (groups_of replay.doc) replay.journals group entry
+  pub results_are : results ≡ record { journals = replay.journals; logs = [] }
+  pub told : text ≡ status_line replay.doc.groups (Illegal group entry)
+
+-- what a replay ends with on what was read to its end
+abbrev pub EndsOnReplay : Form → Result Replay LineFault → Results → List ℕ → Status → Type 0
+EndsOnReplay form (read_ok replay) results text Ok = IsReplayed form replay results text
+EndsOnReplay form (read_ok replay) results text (Illegal group entry) = IsRefused replay results text group entry
+EndsOnReplay form (read_ok replay) results text _ = ⊥
+EndsOnReplay form (Err fault) results text (BadInput n kind) = (fault ≡ record { line = n; kind = kind }) × (results ≡ no_results) × (text ≡ fault_line (BadInput n kind))
+EndsOnReplay form (Err fault) results text _ = ⊥
+
+-- what comes of the bytes that were read to their end
+abbrev pub EndsOnBytes : Reading → List ℕ → Results → List ℕ → Status → Type 0
+EndsOnBytes (readings.Doc task) bytes = EndsOn task (document_of bytes)
+EndsOnBytes (readings.Journals form) bytes = EndsOnReplay form (replay_of bytes)
 
 -- what a source has left, and how often it has failed
 pub record SourceState : Type 0 where
@@ -124,14 +180,14 @@ pub record SinkState : Type 0 where
   pub held : Option (List ℕ)
   pub faults : ℕ
 
--- a command with its input: these bytes were read, and no read failed; and this status comes of it with these results and this text
-pub record EndsAtEnd (command : Command) (old new : SourceState) (results : Results) (text : List ℕ) (status : Status) : Type 0 where
+-- the source was read to its end: these bytes, and no read failed; and this status comes of them with these results and this text
+pub record EndsAtEnd (reading : Reading) (old new : SourceState) (results : Results) (text : List ℕ) (status : Status) : Type 0 where
   pub bytes : List ℕ
   pub consumed : Consumes old.left new.left bytes
   pub ended : IsAtEnd new.left
   pub few : length bytes ≤ MAX_BYTES
   pub still : new.faults ≡ old.faults
-  pub ends : EndsOn command (document_of bytes) results text status
+  pub ends : EndsOnBytes reading bytes results text status
 
 pub record StopsAtFault (old new : SourceState) (results : Results) (text : List ℕ) : Type 0 where
   pub bytes : List ℕ
@@ -139,7 +195,7 @@ pub record StopsAtFault (old new : SourceState) (results : Results) (text : List
   pub few : length bytes ≤ MAX_BYTES
   pub rose : Rose old.faults new.faults
   pub none : results ≡ no_results
-  pub told : text ≡ fault_text ReadFault
+  pub told : text ≡ fault_line ReadFault
 
 pub record StopsTooLong (old new : SourceState) (results : Results) (text : List ℕ) : Type 0 where
   pub bytes : List ℕ
@@ -147,28 +203,39 @@ pub record StopsTooLong (old new : SourceState) (results : Results) (text : List
   pub many : length bytes ≡ MAX_BYTES + 1
   pub still : new.faults ≡ old.faults
   pub none : results ≡ no_results
-  pub told : text ≡ fault_text TooLong
+  pub told : text ≡ fault_line TooLong
 
--- a list of words that is no command: nothing is read
-pub record IsNoCommand (old new : SourceState) (results : Results) (text : List ℕ) : Type 0 where
+-- nothing was read
+pub record IsUnread (old new : SourceState) : Type 0 where
   pub left : Keeps old.left new.left
   pub faults : new.faults ≡ old.faults
-  pub none : results ≡ no_results
-  pub told : text ≡ fault_text Usage
 
--- why a status comes, of the words, of the source before and after the call, with these results and this text. WriteFault and OutOfMemory never come so
-abbrev pub ComesOf : Option Command → SourceState → SourceState → Results → List ℕ → Status → Type 0
-ComesOf None old new results text Usage = IsNoCommand old new results text
-ComesOf None old new results text _ = ⊥
-ComesOf (Some command) old new results text Usage = ⊥
-ComesOf (Some command) old new results text ReadFault = StopsAtFault old new results text
-ComesOf (Some command) old new results text TooLong = StopsTooLong old new results text
-ComesOf (Some command) old new results text WriteFault = ⊥
-ComesOf (Some command) old new results text OutOfMemory = ⊥
-ComesOf (Some command) old new results text status = EndsAtEnd command old new results text status
+-- words that ask for nothing that the program does
+pub record IsNoTask (old new : SourceState) (results : Results) (text : List ℕ) : Type 0 where
+  pub unread : IsUnread old new
+  pub none : results ≡ no_results
+  pub told : text ≡ fault_line Usage
+
+-- a task on the document of a fat tree: nothing was read, and this status comes of it
+pub record EndsOnTree (task : Task) (tree : FatTree) (old new : SourceState) (results : Results) (text : List ℕ) (status : Status) : Type 0 where
+  pub unread : IsUnread old new
+  pub ends : EndsOnDoc task (tree_doc tree) results text status
+
+-- why a status comes, of what the words ask for, of the source before and after the call, with these results and this text. WriteFault and
+-- OutOfMemory never come so
+abbrev pub ComesOf : Way → SourceState → SourceState → Results → List ℕ → Status → Type 0
+ComesOf nothing old new results text Usage = IsNoTask old new results text
+ComesOf nothing old new results text _ = ⊥
+ComesOf (reads reading) old new results text Usage = ⊥
+ComesOf (reads reading) old new results text ReadFault = StopsAtFault old new results text
+ComesOf (reads reading) old new results text TooLong = StopsTooLong old new results text
+ComesOf (reads reading) old new results text WriteFault = ⊥
+ComesOf (reads reading) old new results text OutOfMemory = ⊥
+ComesOf (reads reading) old new results text status = EndsAtEnd reading old new results text status
+ComesOf (makes task tree) old new results text status = EndsOnTree task tree old new results text status
 
 abbrev pub Comes : List (List ℕ) → SourceState → SourceState → Results → List ℕ → Status → Type 0
-Comes words = ComesOf (command_of words)
+Comes words = ComesOf (way_of words)
 
 -- a status that came for its reason, and its text was written whole: no write failed
 pub record HasWritten (words : List (List ℕ)) (old new : SourceState) (before now : SinkState) (results : Results) (status : Status) : Type 0 where
@@ -188,11 +255,6 @@ pub record WasWriting (words : List (List ℕ)) (old new : SourceState) (before 
 pub record WasRefused (before now : SinkState) (results : Results) : Type 0 where
   pub held : Keeps before.held now.held
   pub none : results ≡ no_results
-
--- nothing was read
-pub record IsUnread (old new : SourceState) : Type 0 where
-  pub left : Keeps old.left new.left
-  pub faults : new.faults ≡ old.faults
 
 -- how a call ends, of its words, of the source before and after it, and of the sink before and after it. A write failed in it only at WriteFault
 abbrev pub EndsWith : List (List ℕ) → SourceState → SourceState → SinkState → SinkState → Results → Status → Type 0

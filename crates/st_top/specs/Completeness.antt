@@ -1,15 +1,18 @@
 -- What a call has to end with: after a read that failed, and where nothing is in its way.
 use Rattle.std.specs.Prelude.{◌≡◌, ℕ, ◌-◌, ◌^◌, ◌<◌, ◌≤◌, List, length, Option, Some, None, Ok as read_ok}
-use Rattle.std.specs.Option.{IsSomeAnd}
 use Rattle.st_io.specs.declared.reading.TheConstants.{MAX_BYTES}
 use Rattle.st_grammar.specs.declared.doc.Doc.{Doc}
 use Rattle.st_grammar.specs.Reading.{document_of}
 use Rattle.st_top.specs.declared.answer.Status.{Status}
-use Rattle.st_top.specs.declared.answer.Status.TheVariants.{Ok, Usage, ReadFault, TooLong, BadInput, JournalFull, WriteFault, OutOfMemory}
-use Rattle.st_top.specs.declared.words.Command.{Command}
-use Rattle.st_top.specs.declared.words.Command.TheVariants.{Serial, Check}
-use Rattle.st_top.specs.Words.{command_of}
+use Rattle.st_top.specs.declared.answer.Status.TheVariants.{Ok, Usage, ReadFault, TooLong, BadInput, JournalFull, Illegal, WriteFault, OutOfMemory}
+use Rattle.st_top.specs.declared.task.Task.{Task}
+use Rattle.st_top.specs.declared.task.Task.TheVariants.{Serial, Count, Print}
+use Rattle.st_top.specs.declared.task.Reading.{Reading}
+use Rattle.st_top.specs.declared.task.Reading.TheVariants as readings
+use Rattle.st_top.specs.Ways.{Way, nothing, reads, makes, way_of, tree_doc}
 use Rattle.st_top.specs.Serial.{serial_full}
+use Rattle.st_top.specs.Output.{groups_of}
+use Rattle.st_top.specs.Replaying.{Replay, replay_of, AreLegal}
 
 -- a call in which a read failed tells it, unless that line could not be written, or memory was refused
 abbrev pub IsAfterReadFault : Status → Type 0
@@ -19,6 +22,7 @@ IsAfterReadFault ReadFault = Unit {0}
 IsAfterReadFault TooLong = ⊥
 IsAfterReadFault (BadInput line kind) = ⊥
 IsAfterReadFault (JournalFull group) = ⊥
+IsAfterReadFault (Illegal group entry) = ⊥
 IsAfterReadFault WriteFault = Unit {0}
 IsAfterReadFault OutOfMemory = Unit {0}
 
@@ -36,11 +40,30 @@ pub record HasDocument (left : Option (List ℕ)) (Holds : Doc → Type 0) : Typ
   pub declared : document_of bytes ≡ read_ok doc
   pub holds : Holds doc
 
--- what a source has left is an input that a command carries out to its end: of serial, no event of the script order meets a full journal
-abbrev pub IsInputOf : Command → Option (List ℕ) → Type 0
-IsInputOf Serial left = HasDocument left (λ doc. serial_full doc ≡ None)
-IsInputOf Check left = HasDocument left (λ doc. Unit {0})
+-- a task can be done on a document to its end: where it has scripts, no event of the script order meets a full journal
+abbrev pub CanBeDoneOn : Task → Doc → Type 0
+CanBeDoneOn (Serial showing) doc = serial_full doc ≡ None
+CanBeDoneOn Count doc = Unit {0}
+CanBeDoneOn Print doc = Unit {0}
 
--- the words are a command, and what the source has left is an input of it
+-- all that a source has left is told: few enough bytes, which declare a document with journals, and these are legal
+pub record HasJournals (left : Option (List ℕ)) : Type 0 where
+  pub bytes : List ℕ
+  pub replay : Replay
+  pub told : left ≡ Some bytes
+  pub few : length bytes ≤ MAX_BYTES
+  pub declared : replay_of bytes ≡ read_ok replay
+  pub legal : AreLegal (groups_of replay.doc) replay.journals
+
+abbrev pub CanBeRead : Reading → Option (List ℕ) → Type 0
+CanBeRead (readings.Doc task) left = HasDocument left (CanBeDoneOn task)
+CanBeRead (readings.Journals form) left = HasJournals left
+
+-- the words ask for a task that can be done: on the document that the source gives, or on that of a fat tree
+abbrev pub CanBeDoneBy : Way → Option (List ℕ) → Type 0
+CanBeDoneBy nothing left = ⊥
+CanBeDoneBy (reads reading) left = CanBeRead reading left
+CanBeDoneBy (makes task tree) left = CanBeDoneOn task (tree_doc tree)
+
 abbrev pub CanBeDone : List (List ℕ) → Option (List ℕ) → Type 0
-CanBeDone words left = IsSomeAnd (command_of words) (λ command. IsInputOf command left)
+CanBeDone words left = CanBeDoneBy (way_of words) left

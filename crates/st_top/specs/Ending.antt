@@ -1,23 +1,33 @@
 -- How a call is to end, before anything is written.
-use Rattle.std.specs.Prelude.{◌≡◌, ℕ, List, [], ◌∷◌, Option, Some, None, Result}
+use Rattle.std.specs.Prelude.{◌≡◌, ℕ, List, [], ◌∷◌, map, Some, None, Result}
 use Rattle.st_io.specs.declared.writing.Written.{Written}
 use Rattle.st_io.specs.declared.writing.Written.TheVariants as ways
 use Rattle.st_io.specs.Output.{Writes}
-use Rattle.st_net.specs.Groups.{IsSound}
+use Rattle.st_net.specs.Groups.{Group, IsSound}
+use Rattle.st_event.specs.declared.journal.Journal.{Journal}
 use Rattle.st_event.specs.History.{History}
 use Rattle.st_event.specs.Legal.{IsLegal, AtEach}
 use Rattle.st_event.specs.Network.{KeepsPromises}
-use Rattle.st_token.specs.declared.fault.LineFault.{LineFault as DocFault}
 use Rattle.st_grammar.specs.declared.doc.Doc.{Doc}
+use Rattle.st_token.specs.declared.fault.LineFault.{LineFault}
 use Rattle.st_top.specs.declared.answer.Outcome.{Outcome}
 use Rattle.st_top.specs.declared.answer.Status.{Status}
 use Rattle.st_top.specs.declared.answer.Status.TheVariants as statuses
-use Rattle.st_top.specs.declared.top.Ending.{Ending}
-use Rattle.st_top.specs.declared.top.Ran.{Ran}
-use Rattle.st_top.specs.declared.words.Command.{Command}
-use Rattle.st_top.specs.Serial.{Run, GroupState, states_of, serial_end, serial_full}
-use Rattle.st_top.specs.Output.{app_names, run_text}
-use Rattle.st_top.specs.Answer.{Results, SourceState, SinkState, EndsOn, ComesOf, no_results, fault_text, full_line}
+use Rattle.st_top.specs.declared.ending.Ending.{Ending}
+use Rattle.st_top.specs.declared.running.Ran.{Ran}
+use Rattle.st_top.specs.declared.task.Task.{Task}
+use Rattle.st_top.specs.declared.task.Showing.{Showing}
+use Rattle.st_top.specs.declared.task.Showing.TheVariants.{In}
+use Rattle.st_top.specs.declared.task.Reading.{Reading}
+use Rattle.st_top.specs.declared.replaying.Again.{Again}
+use Rattle.st_top.specs.declared.replaying.Again.TheVariants as again
+use Rattle.st_words.specs.declared.job.Form.{Form}
+use Rattle.st_report.specs.Lines.{histories}
+use Rattle.st_top.specs.Ways.{Way}
+use Rattle.st_top.specs.Serial.{Run, GroupState, states_of, serial_end, serial_full, serial_logs}
+use Rattle.st_top.specs.Output.{histories_of, shown}
+use Rattle.st_top.specs.Replaying.{Replay, IsFirstIllegal}
+use Rattle.st_top.specs.Answer.{Results, SourceState, SinkState, EndsOnDoc, EndsOn, EndsOnReplay, EndsOnBytes, ComesOf, no_results, fault_line, status_line}
 
 -- what an ending hands back
 abbrev pub results_in : Ending → Results
@@ -27,21 +37,33 @@ results_in ending = record { journals = ending.journals; logs = ending.logs }
 pub record TellsFault (status : Status) (ending : Ending) : Type 0 where
   pub status_is : ending.status ≡ status
   pub none : results_in ending ≡ no_results
-  pub text_is : ending.text ≡ fault_text status
+  pub text_is : ending.text ≡ fault_line status
 
--- the status and the text of a document that was run: its report, or the line of the group at whose full journal the run stopped
-abbrev pub IsToldOf : Doc → Status → List ℕ → Type 0
-IsToldOf doc statuses.Ok text = (serial_full doc ≡ None) × (text ≡ run_text (app_names doc) (serial_end doc))
-IsToldOf doc (statuses.JournalFull group) text = (serial_full doc ≡ Some group) × (text ≡ full_line doc group)
-IsToldOf doc _ text = ⊥
+-- the status and the text of a document whose scripts were run: what is shown of them, or the line of the group at whose full journal the run stopped
+abbrev pub IsToldOf : Showing → Doc → Status → List ℕ → Type 0
+IsToldOf showing doc statuses.Ok text = (serial_full doc ≡ None) × (text ≡ shown showing doc (map (λ s. s.history) (serial_end doc).groups) (serial_logs doc))
+IsToldOf showing doc (statuses.JournalFull group) text = (serial_full doc ≡ Some group) × (text ≡ status_line doc.groups (statuses.JournalFull group))
+IsToldOf showing doc _ text = ⊥
 
--- what a command ends with on what was read to its end
-abbrev pub IsEndOn : Command → Result Doc DocFault → Ending → Type 0
-IsEndOn command read ending = EndsOn command read (results_in ending) ending.text ending.status
+-- what a task ends with on a document
+abbrev pub IsEndOnDoc : Task → Doc → Ending → Type 0
+IsEndOnDoc task doc ending = EndsOnDoc task doc (results_in ending) ending.text ending.status
+
+-- what a task ends with on what was read to its end
+abbrev pub IsEndOn : Task → Result Doc LineFault → Ending → Type 0
+IsEndOn task read ending = EndsOn task read (results_in ending) ending.text ending.status
+
+-- what a replay ends with on what was read to its end
+abbrev pub IsEndOnReplay : Form → Result Replay LineFault → Ending → Type 0
+IsEndOnReplay form read ending = EndsOnReplay form read (results_in ending) ending.text ending.status
+
+-- what comes of the bytes that were read to their end
+abbrev pub IsEndOnBytes : Reading → List ℕ → Ending → Type 0
+IsEndOnBytes reading bytes ending = EndsOnBytes reading bytes (results_in ending) ending.text ending.status
 
 -- why the call is to end so
-abbrev pub IsCalledFor : Option Command → SourceState → SourceState → Ending → Type 0
-IsCalledFor command old new ending = ComesOf command old new (results_in ending) ending.text ending.status
+abbrev pub IsCalledFor : Way → SourceState → SourceState → Ending → Type 0
+IsCalledFor way old new ending = ComesOf way old new (results_in ending) ending.text ending.status
 
 -- the group is sound, the journal is legal, and at each of its moments the group's promises were kept
 pub record IsKeptHistory (h : History) : Type 0 where
@@ -52,6 +74,18 @@ pub record IsKeptHistory (h : History) : Type 0 where
 abbrev pub AreKeptSites : List GroupState → Type 0
 AreKeptSites [] = Unit {0}
 AreKeptSites (s ∷ ss) = IsKeptHistory s.history × AreKeptSites ss
+
+-- what came of the journals of groups: worlds with these journals, each of them kept, or their first entry that is not legal
+abbrev pub IsAgain : List Group → List Journal → Again → Type 0
+IsAgain groups journals (again.Worlds worlds) = (histories worlds.items ≡ histories_of groups journals) × AreKeptSites (states_of worlds.items)
+IsAgain groups journals (again.Illegal group entry) = IsFirstIllegal groups journals group entry
+
+-- the status and the text of a replay that came to this
+abbrev pub IsToldAgain : Form → Doc → Again → Status → List ℕ → Type 0
+IsToldAgain form doc (again.Worlds worlds) statuses.Ok text = text ≡ shown (In form) doc (histories worlds.items) []
+IsToldAgain form doc (again.Worlds worlds) _ text = ⊥
+IsToldAgain form doc (again.Illegal n entry) (statuses.Illegal group number) text = (group ≡ n) × (number ≡ entry) × (text ≡ status_line doc.groups (statuses.Illegal group number))
+IsToldAgain form doc (again.Illegal n entry) _ text = ⊥
 
 -- the groups with their journals, and the logs, that a run has come to
 abbrev pub run_in : Ran → Run

@@ -1,9 +1,13 @@
-pub mod Words
+pub mod Ways
 pub mod Schedule
 pub mod Serial
 pub mod Output
 pub mod Exit
+pub mod Replaying
 pub mod Answer
 pub mod Completeness
+pub mod PrintedRuns
 pub mod Ending
 pub mod Program
+pub mod Shares
+pub mod Most

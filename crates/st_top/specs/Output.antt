@@ -1,62 +1,53 @@
--- What the commands write.
-use Rattle.std.specs.Prelude.{ℕ, List, [], ◌∷◌, ◌++◌, length, map, flat_map, reverse, slice_get, Option, Some, None, codes, decimal, sum_by}
-use Rattle.st_net.specs.declared.parts.Parts.{Parts}
+-- What the tasks write.
+use Rattle.std.specs.Prelude.{ℕ, List, [], ◌∷◌, ◌++◌, length, map, flat_map, reverse, codes, decimal, sum_by}
+use Rattle.st_text.specs.Words.{line}
 use Rattle.st_net.specs.Faults.{group_of}
 use Rattle.st_net.specs.Groups.{Group}
 use Rattle.st_event.specs.declared.act.Log.{Log}
-use Rattle.st_event.specs.declared.act.LogEntry.{LogEntry}
 use Rattle.st_event.specs.declared.journal.Journal.{Journal}
+use Rattle.st_event.specs.History.{History}
 use Rattle.st_grammar.specs.declared.doc.Doc.{Doc}
-use Rattle.st_report.specs.Words.{line}
-use Rattle.st_top.specs.Serial.{Run, GroupState, groups_in}
-use Rattle.st_report.specs.GroupReport.{group_report}
-use Rattle.st_report.specs.Logs.{read_line}
+use Rattle.st_words.specs.declared.job.FatTree.{FatTree}
+use Rattle.st_words.specs.declared.job.Form.TheVariants as forms
+use Rattle.st_words.specs.Jobs.{pod_count}
+use Rattle.st_doc.specs.Printed.{printed_doc}
+use Rattle.st_journal.specs.Printing.{journal_text}
+use Rattle.st_report.specs.Text.{report_text_of}
+use Rattle.st_report.specs.Json.{report_json_of}
+use Rattle.st_report.specs.Sums.{sums_text}
+use Rattle.st_top.specs.declared.task.Showing.{Showing}
+use Rattle.st_top.specs.declared.task.Showing.TheVariants.{In, Sums}
 
--- the lines of each group with its journal
-abbrev pub groups_text : List (List ℕ) → List Parts → List Journal → List ℕ
-groups_text apps [] journals = []
-groups_text apps (parts ∷ more) [] = []
-groups_text apps (parts ∷ more) (journal ∷ journals) = group_report (group_of parts) apps (reverse journal.entries) ++ groups_text apps more journals
+-- the groups of a document, as they are built
+abbrev pub groups_of : Doc → List Group
+groups_of doc = map group_of doc.groups
 
--- the lines of these with their journals
-abbrev pub states_text : List (List ℕ) → List GroupState → List ℕ
-states_text apps [] = []
-states_text apps (s ∷ ss) = group_report s.history.group apps s.history.past ++ states_text apps ss
+-- groups, each with its journal
+abbrev pub histories_of : List Group → List Journal → List History
+histories_of [] journals = []
+histories_of (g ∷ groups) [] = []
+histories_of (g ∷ groups) (journal ∷ journals) = record { group = g; past = reverse journal.entries } ∷ histories_of groups journals
 
 abbrev pub app_names : Doc → List (List ℕ)
 app_names doc = map (λ script. script.name) doc.apps
 
--- the line of a log's entry, whose group is one of these
-abbrev pub entry_in : List ℕ → LogEntry → Option Group → List ℕ
-entry_in app entry None = []
-entry_in app entry (Some g) = read_line g app entry
+-- the journal of each group, in order
+abbrev pub journals_text : List History → List (List ℕ) → List ℕ
+journals_text groups apps = flat_map (λ h. journal_text h.group apps (reverse h.past)) groups
 
-abbrev pub entry_text : List Group → List ℕ → LogEntry → List ℕ
-entry_text groups app entry = entry_in app entry (slice_get groups entry.group)
+-- the six lines that sum up the scripts' run on the document of a fat tree
+abbrev pub demo_text : FatTree → List History → List ℕ
+demo_text tree groups =
+    line (codes "demo") (codes "pods" ∷ decimal (pod_count tree.pods) ∷ codes "seed" ∷ decimal tree.seed ∷ []) ++
+    flat_map (λ h. sums_text h.group h.past) groups ++
+    line (codes "end") []
 
--- the lines of an application's log, and of all logs, in the order of applications
-abbrev pub log_text : List Group → List ℕ → List LogEntry → List ℕ
-log_text groups app log = flat_map (entry_text groups app) log
-
-abbrev pub logs_text : List Group → List (List ℕ) → List (List LogEntry) → List ℕ
-logs_text groups [] logs = []
-logs_text groups (app ∷ apps) [] = []
-logs_text groups (app ∷ apps) (log ∷ logs) = log_text groups app log ++ logs_text groups apps logs
-
--- the report of groups with their journals, and of logs
-abbrev pub head_line : List ℕ
-head_line = line (codes "statesman") (codes "report" ∷ codes "1" ∷ [])
-
-abbrev pub end_line : List ℕ
-end_line = line (codes "end") []
-
-abbrev pub run_text : List (List ℕ) → Run → List ℕ
-run_text apps run = head_line ++ states_text apps run.groups ++ logs_text (groups_in run.groups) apps run.logs ++ end_line
-
--- the report of the journals of a document's groups and of the logs of its applications
-abbrev pub report_of : Doc → List Journal → List Log → List ℕ
-report_of doc journals logs =
-    head_line ++ groups_text (app_names doc) doc.groups journals ++ logs_text (map group_of doc.groups) (app_names doc) (map (λ log. log.entries) logs) ++ end_line
+-- what is shown of a document, its groups with their journals, and logs: a report, or the document with the journals, which can be replayed; or sums
+abbrev pub shown : Showing → Doc → List History → List Log → List ℕ
+shown (In forms.Text) doc groups logs = report_text_of groups (app_names doc) logs
+shown (In forms.Json) doc groups logs = report_json_of groups (app_names doc) logs
+shown (In forms.Replay) doc groups logs = printed_doc doc ++ journals_text groups (app_names doc)
+shown (Sums tree) doc groups logs = demo_text tree groups
 
 -- the counts of a document's parts
 abbrev pub check_text : Doc → List ℕ

@@ -6,7 +6,6 @@ use Rattle.st_net.specs.declared.entity.AppId.{AppId}
 use Rattle.st_net.specs.declared.parts.Parts.{Parts}
 use Rattle.st_net.specs.Faults.{group_of}
 use Rattle.st_net.specs.Groups.{Group}
-use Rattle.st_net.specs.Ranges.{IsVariableOf}
 use Rattle.st_event.specs.declared.act.Act.{Act}
 use Rattle.st_event.specs.declared.act.Log.{Log}
 use Rattle.st_event.specs.declared.act.LogEntry.{LogEntry}
@@ -175,10 +174,3 @@ FitsIn act groups = IsSomeAnd (slice_get groups (group_number act)) (ActFits act
 -- each command of each application fits
 abbrev pub AllFitIn : List Script → List Group → Type 0
 AllFitIn apps groups = All (λ app. All (λ act. FitsIn act groups) app.acts) apps
-
--- a line of a log names a group, and a variable of an entity of it
-abbrev pub EntryFits : List Group → LogEntry → Type 0
-EntryFits groups entry = IsSomeAnd (slice_get groups entry.group) (IsVariableOf entry.entity entry.var)
-
-abbrev pub LogsFit : List Group → List (List LogEntry) → Type 0
-LogsFit groups logs = All (λ log. All (EntryFits groups) log) logs

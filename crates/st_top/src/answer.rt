@@ -1,12 +1,15 @@
 //! How a call ends.
 
-ghost use Rattle.std.specs.Prelude.{◌≡◌, [], ◌∷◌, ◌++◌, codes, decimal, IfOk};
+ghost use Rattle.std.specs.Prelude.{◌≡◌, [], ◌∷◌, ◌++◌, codes, decimal, map, IfOk, OnOk};
+ghost use Rattle.st_text.specs.Words.{line};
+ghost use Rattle.st_text.specs.Printed.{bytes_of};
 ghost use Rattle.st_top.specs.Exit.{exit_code_of};
-ghost use Rattle.st_top.specs.Answer.{kind_word as kind_word_lem, fault_text as fault_text_lem};
+ghost use Rattle.st_top.specs.Answer.{kind_word as kind_word_lem, group_name as group_name_lem, status_line as status_line_lem};
 
 use st_doc::DocKind;
 use st_event::{Journal, Log};
-use st_text::Text;
+use st_net::Parts;
+use st_text::{Text, Word, print_line};
 use std::alloc::{AllocError, Global};
 use std::marker::Model;
 
@@ -25,6 +28,8 @@ pub enum Status {
     BadInput { line: u32, kind: DocKind },
     /// An event of the scripts met the journal of this group, from 0, when it had 200,000 entries: there the run stopped.
     JournalFull { group: u32 },
+    /// The reply of this entry, from 1, of the journal of this group, from 0, is not the one that is called for. It is the first such.
+    Illegal { group: u32, entry: u32 },
     /// The sink failed while a text was written. It holds a prefix of the text.
     WriteFault,
     /// Memory was refused.
@@ -161,6 +166,7 @@ impl Status {
             Status::TooLong => 4,
             Status::BadInput { .. } => 5,
             Status::JournalFull { .. } => 6,
+            Status::Illegal { .. } => 7,
             Status::WriteFault => 8,
             Status::OutOfMemory => 9,
         }
@@ -188,40 +194,62 @@ fn kind_word(kind: DocKind) -> &'static [u8]
     }
 }
 
-/// A text of these bytes.
-fn text_of(alloc: Global, bytes: &[u8]) -> Result<Text, AllocError>
-    ensures { IfOk result (λ text. text ≡ bytes.now) }
+/// The name of a group by its number; no bytes where there is none.
+fn group_name(groups: &[Parts], n: u32) -> &[u8]
+    ensures { result.now ≡ group_name_lem groups.now n }
 {
-    let mut out = Text::new(alloc);
-    out.word(bytes)?;
-    Ok(out)
+    match groups.get(n as usize) {
+        Some(parts) => parts.name.bytes(),
+        None => b"",
+    }
 }
 
-/// The line that tells of a bad line.
-fn bad_line_text(alloc: Global, line: u32, kind: DocKind) -> Result<Text, AllocError>
-    ensures { IfOk result (λ text. text ≡ codes "fault input line " ++ decimal line ++ 32 ∷ kind_word_lem kind ++ 10 ∷ []) }
+/// Adds the line of a fault, with these words behind the first.
+fn add_fault(words: &[Word], out: &mut Text) -> Result<(), AllocError>
+    ensures { OnOk result (out.new ≡ out.old ++ line (codes "fault") (map bytes_of words.now)) }
 {
-    let mut out = Text::new(alloc);
-    out.word(b"fault input line ")?;
-    out.num(u64::from(line))?;
-    out.word(b" ")?;
-    out.word(kind_word(kind))?;
-    out.word(b"\n")?;
-    Ok(out)
+    print_line(b"fault", words, out)
 }
 
-/// The line that tells of a fault; no bytes for a status that is none, for one after which nothing can be written, and for a full
-/// journal, whose line names its group.
-pub fn fault_text(alloc: Global, status: Status) -> Result<Text, AllocError>
-    ensures { IfOk result (λ text. text ≡ fault_text_lem status) }
+/// Adds the line of an entry that is not legal, by the name of its group and its number.
+fn add_illegal(name: &[u8], entry: u32, out: &mut Text) -> Result<(), AllocError>
+    ensures { OnOk result (out.new ≡ out.old ++ line (codes "fault") (codes "illegal" ∷ name.now ∷ decimal entry ∷ [])) }
+{
+    let number = Word::Number(u64::from(entry));
+    add_fault(&[Word::Plain(b"illegal"), Word::Plain(name), number], out)
+}
+
+/// Adds the line of a status.
+fn add_status(groups: &[Parts], status: Status, out: &mut Text) -> Result<(), AllocError>
+    ensures { OnOk result (out.new ≡ out.old ++ status_line_lem groups.now status) }
 {
     match status {
-        Status::Usage => text_of(alloc, b"fault usage\n"),
-        Status::ReadFault => text_of(alloc, b"fault read\n"),
-        Status::TooLong => text_of(alloc, b"fault long\n"),
-        Status::BadInput { line, kind } => bad_line_text(alloc, line, kind),
-        Status::Ok | Status::JournalFull { .. } | Status::WriteFault | Status::OutOfMemory => Ok(
-            Text::new(alloc),
-        ),
+        Status::Usage => add_fault(&[Word::Plain(b"usage")], out),
+        Status::ReadFault => add_fault(&[Word::Plain(b"read")], out),
+        Status::TooLong => add_fault(&[Word::Plain(b"long")], out),
+        Status::BadInput { line, kind } => {
+            let number = Word::Number(u64::from(line));
+            let kind = Word::Plain(kind_word(kind));
+            add_fault(
+                &[Word::Plain(b"input"), Word::Plain(b"line"), number, kind],
+                out,
+            )
+        }
+        Status::JournalFull { group } => {
+            let name = Word::Plain(group_name(groups, group));
+            add_fault(&[Word::Plain(b"full"), name], out)
+        }
+        Status::Illegal { group, entry } => add_illegal(group_name(groups, group), entry, out),
+        Status::Ok | Status::WriteFault | Status::OutOfMemory => Ok(()),
     }
+}
+
+/// The line that tells of a status, where the groups of the document are these; no bytes for a status that is no fault, and for one
+/// after which nothing can be written.
+pub fn status_line(alloc: Global, groups: &[Parts], status: Status) -> Result<Text, AllocError>
+    ensures { IfOk result (λ text. text ≡ status_line_lem groups.now status) }
+{
+    let mut out = Text::new(alloc);
+    add_status(groups, status, &mut out)?;
+    Ok(out)
 }

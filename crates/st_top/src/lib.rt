@@ -2,18 +2,20 @@
 #![tactic(auto)]
 
 mod answer;
+mod ending;
+pub mod laws;
 mod output;
 mod program;
+mod replaying;
+mod running;
 mod schedule;
 mod serial;
+mod task;
 mod top;
-mod up;
-mod words;
 
 pub use answer::{Journals, Logs, Outcome, Status};
 pub use program::{ended, run_program};
 pub use top::statesman;
-pub use words::Command;
 
 #[cfg(test)]
 mod tests;

@@ -1,17 +1,19 @@
-//! What the commands write: the report of a group by its world, and the line of counts that `check` writes.
+//! What the tasks write: what is shown of worlds and logs in each form, and the line that counts a document's parts.
 
-ghost use Rattle.std.specs.Prelude.{◌≡◌, ◌∷◌, ◌++◌, ◌<◌, ◌^◌, All, length, sum_by, OnOk, IfOk, decimal};
+ghost use Rattle.std.specs.Prelude.{◌≡◌, ◌∷◌, ◌++◌, ◌<◌, ◌^◌, length, flat_map, sum_by, OnOk, IfOk, decimal};
 ghost use Rattle.st_grammar.specs.Sound.{IsSoundDoc};
-ghost use Rattle.st_report.specs.GroupReport.{group_report};
-ghost use Rattle.st_top.specs.Output.{app_names as app_names_lem, states_text, entry_text, log_text, logs_text, check_text as check_text_lem};
-ghost use Rattle.st_top.specs.Serial.{groups_in, states_of, EntryFits, LogsFit};
+ghost use Rattle.st_report.specs.Lines.{histories};
+ghost use Rattle.st_report.specs.Sums.{sums_text};
+ghost use Rattle.st_top.specs.Output.{app_names as app_names_lem, journals_text, demo_text as demo_text_lem, shown, check_text as check_text_lem};
 
-use crate::up::{up_at_opening, up_now};
-use st_doc::{Doc, Script};
-use st_event::{LogEntries, LogEntry};
+use crate::task::Showing;
+use st_doc::{Doc, Script, print_doc};
+use st_event::Log;
+use st_journal::print_world;
 use st_net::{Name, Parts};
-use st_report::{Standing, group_text, read_line};
-use st_text::Text;
+use st_report::{print_sums, report_json, report_text};
+use st_text::{Text, Word, print_line};
+use st_words::{FatTree, Form};
 use st_world::World;
 use std::alloc::{AllocError, Global};
 
@@ -27,89 +29,91 @@ pub fn app_names(alloc: Global, doc: &Doc) -> Result<Vec<Name>, AllocError>
     Ok(names)
 }
 
-/// Adds the lines of a group.
-fn print_group(
-    alloc: Global,
-    world: &World,
-    apps: &[Name],
-    out: &mut Text,
-) -> Result<(), AllocError>
-    ensures { OnOk result (out.new ≡ out.old ++ group_report world.now.history.group apps.now world.now.history.past) }
-{
-    let control = world.control();
-    let topo = control.topo();
-    let settled = control.settled()?;
-    let start = up_at_opening(alloc, topo)?;
-    let now = up_now(alloc, world)?;
-    let standing = Standing {
-        target: control.store().target(),
-        settled: &settled,
-        start: &start,
-        now: &now,
-    };
-    group_text(alloc, topo, apps, world.journal(), standing, out)
-}
-
-/// Adds the lines of each group, in order.
-pub fn print_groups(
+/// Adds the journal of each world, in order.
+fn print_journals(
     alloc: Global,
     worlds: &[World],
     apps: &[Name],
     out: &mut Text,
 ) -> Result<(), AllocError>
-    ensures { OnOk result (out.new ≡ out.old ++ states_text apps.now (states_of worlds.now)) }
+    ensures { OnOk result (out.new ≡ out.old ++ journals_text (histories worlds.now) apps.now) }
 {
     for world in worlds {
-        print_group(alloc, world, apps, out)?;
+        print_world(alloc, world, apps, out)?;
     }
     Ok(())
 }
 
-/// Adds the line of a log's entry.
-fn print_entry(
+/// What is shown of worlds and logs in a form.
+fn form_text(
+    alloc: Global,
+    form: Form,
+    doc: &Doc,
     worlds: &[World],
-    app: &Name,
-    entry: &LogEntry,
-    out: &mut Text,
-) -> Result<(), AllocError>
-    requires { EntryFits (groups_in (states_of worlds.now)) entry.now }
-    ensures { OnOk result (out.new ≡ out.old ++ entry_text (groups_in (states_of worlds.now)) app.now entry.now) }
+    logs: &[Log],
+) -> Result<Text, AllocError>
+    requires { IsSoundDoc doc.now }
+    ensures { IfOk result (λ text. text ≡ shown (Showing.In form) doc.now (histories worlds.now) logs.now) }
 {
-    let topo = worlds[entry.group as usize].control().topo();
-    read_line(topo, app, entry, out)
+    let names = app_names(alloc, doc)?;
+    let apps = names.as_slice();
+    let mut out = Text::new(alloc);
+    match form {
+        Form::Text => report_text(alloc, worlds, apps, logs, &mut out)?,
+        Form::Json => report_json(alloc, worlds, apps, logs, &mut out)?,
+        Form::Replay => {
+            print_doc(doc, &mut out)?;
+            print_journals(alloc, worlds, apps, &mut out)?;
+        }
+    }
+    Ok(out)
 }
 
-/// Adds the lines of an application's log.
-fn print_log(
-    worlds: &[World],
-    app: &Name,
-    log: &[LogEntry],
-    out: &mut Text,
-) -> Result<(), AllocError>
-    requires { All (EntryFits (groups_in (states_of worlds.now))) log.now }
-    ensures { OnOk result (out.new ≡ out.old ++ log_text (groups_in (states_of worlds.now)) app.now log.now) }
+/// Adds the lines that sum up each world, in order.
+fn print_all_sums(alloc: Global, worlds: &[World], out: &mut Text) -> Result<(), AllocError>
+    ensures { OnOk result (out.new ≡ out.old ++ flat_map (λ h. sums_text h.group h.past) (histories worlds.now)) }
 {
-    for entry in log {
-        print_entry(worlds, app, entry, out)?;
+    for world in worlds {
+        print_sums(alloc, world, out)?;
     }
     Ok(())
 }
 
-/// Adds the lines of each log, in the order of applications.
-pub fn print_logs(
-    worlds: &[World],
-    apps: &[Name],
-    logs: &[LogEntries],
-    out: &mut Text,
-) -> Result<(), AllocError>
-    requires each { length apps.now ≡ length logs.now }
-    requires fits { LogsFit (groups_in (states_of worlds.now)) logs.now }
-    ensures { OnOk result (out.new ≡ out.old ++ logs_text (groups_in (states_of worlds.now)) apps.now logs.now) }
+/// The lines that sum up the worlds of the document of a fat tree.
+fn demo_text(alloc: Global, tree: FatTree, worlds: &[World]) -> Result<Text, AllocError>
+    ensures { IfOk result (λ text. text ≡ demo_text_lem tree (histories worlds.now)) }
 {
-    for (i, app) in apps.iter().enumerate() {
-        print_log(worlds, app, logs[i].as_slice(), out)?;
+    let mut out = Text::new(alloc);
+    print_line(
+        b"demo",
+        &[
+            Word::Plain(b"pods"),
+            Word::Number(u64::from(tree.pods.count())),
+            Word::Plain(b"seed"),
+            Word::Number(u64::from(tree.seed)),
+        ],
+        &mut out,
+    )?;
+    print_all_sums(alloc, worlds, &mut out)?;
+    print_line(b"end", &[], &mut out)?;
+    Ok(out)
+}
+
+/// What is shown of a document's worlds and of the logs of its applications.
+pub fn shown_text(
+    alloc: Global,
+    showing: Showing,
+    doc: &Doc,
+    worlds: &[World],
+    logs: &[Log],
+) -> Result<Text, AllocError>
+    requires { IsSoundDoc doc.now }
+    ensures { IfOk result (λ text. text ≡ shown showing doc.now (histories worlds.now) logs.now) }
+{
+    match showing {
+        Showing::In(form) => form_text(alloc, form, doc, worlds, logs),
+        Showing::Sums(tree) => demo_text(alloc, tree, worlds),
     }
-    Ok(())
 }
 
 /// Adds a space, a word, a space and a number.

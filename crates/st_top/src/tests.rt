@@ -1,5 +1,7 @@
 //! Whole calls: words and bytes in; text, status and journals out. Expected texts are worked by hand.
 
+mod jobs;
+mod replays;
 mod tables;
 
 use crate::{Outcome, Status, statesman};
@@ -509,16 +511,6 @@ fn input_that_is_too_long_is_told(rt: HostRuntime) -> Result<(), Fail> {
     let long = vec![in alloc; b'\n'; 1_048_577]?;
     let called = call(alloc, &["serial"], &[long.as_slice()])?;
     ends_as(&rt, alloc, &called, Status::TooLong, b"fault long\n", &[])?;
-    Ok(())
-}
-
-#[test]
-fn words_that_are_no_command_read_nothing(rt: HostRuntime) -> Result<(), Fail> {
-    let alloc = rt.alloc();
-    let two = call(alloc, &["serial", "serial"], &[TWO_PATHS])?;
-    ends_as(&rt, alloc, &two, Status::Usage, b"fault usage\n", &[])?;
-    let none = call(alloc, &[], &[TWO_PATHS])?;
-    ends_as(&rt, alloc, &none, Status::Usage, b"fault usage\n", &[])?;
     Ok(())
 }
 

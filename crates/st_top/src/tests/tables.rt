@@ -61,6 +61,7 @@ fn each_status_has_its_exit_status(rt: HostRuntime) {
         (Status::TooLong, 4),
         (bad, 5),
         (Status::JournalFull { group: 0 }, 6),
+        (Status::Illegal { group: 0, entry: 1 }, 7),
         (Status::WriteFault, 8),
         (Status::OutOfMemory, 9),
     ];

@@ -1,7 +1,9 @@
-use Rattle.std.proofs.Common.{refl, ap, ◌∙◌, inl}
+use Rattle.std.proofs.Common.{◌≡◌, refl, ap, ◌∙◌, inl, map, subst}
+use Rattle.std.specs.Prelude.{string_bytes}
 use Rattle.std.proofs.KnownBytes.{Keeps-refl}
 use Rattle.st_top.specs.declared.answer.Status.TheVariants.{OutOfMemory}
-use Rattle.st_top.specs.Answer.{no_results}
+use Rattle.st_top.specs.Answer.{EndsWith, Results, SinkState, SourceState, no_results}
+use Rattle.st_top.specs.Program.{words_in}
 use Rattle.st_top.specs.Exit.{exit_code_of}
 use Rattle.st_top.proofs.program.run_program.Goals as goal
 
@@ -12,3 +14,18 @@ returns-in-Err g c = record {
   ends = (inl (record { held = Keeps-refl (g.K.Sink.held c.args.sink.now); none = refl }), refl);
   exit = c.ended-in-Err.ensures ∙ ap exit_code_of c.out_of_memory.ensures.status;
 }
+
+pub returns-in-Ok : goal.returns-in-Ok
+returns-in-Ok g c =
+    let old : SourceState = record { left = g.S.Source.left c.args.source.now; faults = g.S.Source.faults c.args.source.now } in
+    let new : SourceState = record { left = g.S.Source.left c.statesman.new.source; faults = g.S.Source.faults c.statesman.new.source } in
+    let before : SinkState = record { held = g.K.Sink.held c.args.sink.now; faults = g.K.Sink.faults c.args.sink.now } in
+    let now : SinkState = record { held = g.K.Sink.held c.statesman.new.sink; faults = g.K.Sink.faults c.statesman.new.sink } in
+    let results : Results = record { journals = c.statesman.result.journals; logs = c.statesman.result.logs } in
+    let words : map string_bytes c.as_slice.result.now ≡ words_in c.args.args = ap (map string_bytes) c.as_slice.ensures.value ∙ c.in-Ok.ensures in
+    record {
+      status = c.statesman.result.status;
+      results = results;
+      ends = subst (λ ws. EndsWith ws old new before now results c.statesman.result.status) words c.statesman.ensures.ends;
+      exit = c.ended.ensures;
+    }

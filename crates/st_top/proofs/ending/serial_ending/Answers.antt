@@ -1,0 +1,26 @@
+use Rattle.std.proofs.Common.{◌∙◌, ap, length, arith}
+use Rattle.st_top.specs.Serial.{Run}
+use Rattle.st_top.specs.Ending.{run_in}
+use Rattle.st_top.proofs.Runs.{serial_many, serial_count, of_scripts, ends_told}
+use Rattle.st_top.proofs.Worlds.{states_many}
+use Rattle.st_top.proofs.ending.serial_ending.Goals as goal
+
+pub logs_of-requires : goal.logs_of-requires
+logs_of-requires c =
+    let many = ap (λ (r : Run). length r.logs) c.in_ok-sites.ensures ∙ serial_count c.args.doc.now in
+    omega (arith, many, c.requires.few_apps)
+
+pub journals_of-requires : goal.journals_of-requires
+journals_of-requires c =
+    let many = ap (λ (r : Run). length r.groups) c.in_ok-sites.ensures ∙ serial_many c.args.doc.now c.requires in
+    omega (arith, many, states_many c.in_ok-sites.field-0.sites.items, c.requires.few_groups)
+
+pub returns : goal.returns
+returns c =
+    let doc = c.args.doc.now in
+    let ran = run_in c.in_ok-sites.field-0 in
+    let journals = c.in_ok-journals_of.field-0 in
+    let logs = c.in_ok-logs.logs in
+    ends_told c.args.showing doc (record { journals = journals; logs = logs }) c.in_ok-status.status c.in_ok-status.text c.requires
+    (of_scripts doc ran journals logs c.requires c.in_ok-sites.ensures c.in_ok-journals_of.ensures.journals c.in_ok-journals_of.ensures.kept c.in_ok-logs.ensures)
+    c.in_ok-status.ensures

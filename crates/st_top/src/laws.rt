@@ -1,0 +1,21 @@
+//! Laws of what the scripts of a document do, and of a run that is printed. A function here does nothing: its contract is the law, for
+//! whoever runs a document and has to say that it comes to its end, or keeps what was printed and replays it later.
+
+ghost use Rattle.st_top.specs.Most.{FewEntriesFit, JournalsAreWithinMost, TreesFit, TreesHaveRoom};
+ghost use Rattle.st_top.specs.PrintedRuns.{PrintedRunsAreReplayed};
+
+/// On one thread no journal gets more entries than the commands on its group can make at the most; so where these are below
+/// 200,000 for each group no event meets a full journal. The documents of fat trees have so few.
+pub fn few_entries_fit()
+    ensures within { JournalsAreWithinMost }
+    ensures fit { FewEntriesFit }
+    ensures room { TreesHaveRoom }
+    ensures trees { TreesFit }
+{}
+
+/// The text that is printed of a sound document and of a legal journal of each of its groups is read as that document and these
+/// journals, if it is no longer than an input may be. No entry is refused, and what a replay writes is the document and the journals in
+/// its form, without what was read.
+pub fn printed_runs_are_replayed()
+    ensures { PrintedRunsAreReplayed }
+{}
