@@ -1,28 +1,22 @@
-//! A network as a document: a line for each device, link and promise, which a program to compare with can read.
-use crate::network::Network;
+//! A group as a document: a line for each device, link and promise, which a program to compare with can read.
+use st_net::{GroupTopo, Promise};
 use std::io;
 use std::rt::Runtime;
 
-/// Prints the devices by their numbers, the links, and a promise for each pair of leaves.
-pub fn print_document(rt: &impl Runtime, network: &Network) -> io::Result<()> {
+/// Prints the devices, the links and the promises. Devices and links are named by their numbers.
+pub fn print_document(rt: &impl Runtime, topo: &GroupTopo) -> io::Result<()> {
     println!(rt; "statesman 1\ngroup dc1")?;
-    for device in 0..network.graph.nodes() {
-        let kind = if network.leaves.as_slice().contains(&device) {
-            "tor"
-        } else {
-            "switch"
-        };
+    for device in 0..topo.device_count() {
+        let kind = if topo.is_tor(device) { "tor" } else { "switch" };
         println!(rt; "device d{device} {kind}")?;
     }
-    for (number, link) in network.links.iter().enumerate() {
-        println!(rt; "link l{number} d{} d{} {}", link.u, link.v, link.capacity)?;
+    for link in 0..topo.link_count() {
+        let (a, b) = topo.ends(link);
+        println!(rt; "link l{link} d{a} d{b} {}", topo.capacity(link))?;
     }
-    for a in &network.leaves {
-        for b in &network.leaves {
-            if *a < *b {
-                println!(rt; "promise d{a} d{b} 90")?;
-            }
-        }
+    for number in 0..topo.promise_count() {
+        let Promise { a, b, percent } = topo.promise(number);
+        println!(rt; "promise d{a} d{b} {percent}")?;
     }
     Ok(())
 }

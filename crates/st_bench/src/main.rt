@@ -1,5 +1,5 @@
 //! Work with known answers, to be timed from outside. The words are pairs of a work and how often to do it, and each pair
-//! prints one line of counts; `document` and a network print that network for another program.
+//! prints one line of counts; `document` and a group print that group for another program.
 #![tactic(auto)]
 
 mod checks;
@@ -9,6 +9,8 @@ mod group;
 mod network;
 mod promises;
 mod proposals;
+mod random;
+mod tree;
 mod work;
 mod worlds;
 
@@ -16,7 +18,7 @@ use checks::{Decided, Way, decide};
 use cuts::least_cuts;
 use document::print_document;
 use group::group_of;
-use network::{Network, fat_tree, full_group};
+use network::Network;
 use promises::{Judged, judge, start, wide};
 use proposals::{Outage, Proposed, propose};
 use st_net::GroupTopo;
@@ -24,29 +26,24 @@ use std::alloc::{AllocError, Global};
 use std::rt::Runtime;
 use std::thread::Threads;
 use std::{env, io};
-use work::{GroupTask, Task, task_of};
+use work::{Task, work_of};
 use worlds::{Course, Driven, drive};
 
-/// The network of a work: a fat tree of ten pods, or a random group with as many parts as a group may have.
-fn network_of(alloc: Global, work: &str) -> Result<Option<Network>, AllocError> {
-    match work {
-        "fat-tree" => Ok(Some(fat_tree(alloc)?)),
-        "full-group" => Ok(Some(full_group(alloc)?)),
-        _ => Ok(None),
-    }
-}
+/// What the document of a group promises of each pair of leaves, in percent.
+const DOCUMENT_PERCENT: u32 = 90;
 
 /// Finds the least cuts so often, and once at least, and prints what the last time found.
 fn repeat_cuts(
     rt: &impl Runtime,
     alloc: Global,
     word: &str,
-    network: &Network,
+    topo: &GroupTopo,
     times: u32,
 ) -> io::Result<()> {
-    let mut counts = least_cuts(alloc, network)?;
+    let network = Network::of(alloc, topo)?;
+    let mut counts = least_cuts(alloc, &network)?;
     for _ in 1..times {
-        counts = least_cuts(alloc, network)?;
+        counts = least_cuts(alloc, &network)?;
     }
     println!(rt;
         "{word} pairs {} values {} sides {}",
@@ -120,16 +117,17 @@ fn repeat_on(
     alloc: Global,
     word: &str,
     topo: GroupTopo,
-    task: GroupTask,
+    task: Task,
     times: u32,
 ) -> io::Result<()> {
     match task {
-        GroupTask::Start => print_judged(rt, word, start(alloc, &topo, times)?),
-        GroupTask::Judge => print_judged(rt, word, judge(alloc, &topo, times)?),
-        GroupTask::Wide => print_judged(rt, word, wide(rt, alloc, &topo, times)?),
-        GroupTask::Propose(outage) => repeat_proposals(rt, alloc, word, &topo, outage, times),
-        GroupTask::Drive(course) => repeat_driven(rt, alloc, word, topo, course, times),
-        GroupTask::Check(way) => repeat_checks(rt, alloc, word, topo, way, times),
+        Task::Cuts => repeat_cuts(rt, alloc, word, &topo, times),
+        Task::Start => print_judged(rt, word, start(alloc, &topo, times)?),
+        Task::Judge => print_judged(rt, word, judge(alloc, &topo, times)?),
+        Task::Wide => print_judged(rt, word, wide(rt, alloc, &topo, times)?),
+        Task::Propose(outage) => repeat_proposals(rt, alloc, word, &topo, outage, times),
+        Task::Drive(course) => repeat_driven(rt, alloc, word, topo, course, times),
+        Task::Check(way) => repeat_checks(rt, alloc, word, topo, way, times),
     }
 }
 
@@ -140,18 +138,10 @@ fn repeat(
     word: &str,
     times: u32,
 ) -> io::Result<()> {
-    let (task, rest) = task_of(word);
-    let Some(network) = network_of(alloc, rest)? else {
-        return println!(rt; "no work is called {word}");
-    };
-    match task {
-        Task::Cuts => repeat_cuts(rt, alloc, word, &network, times),
-        Task::OnGroup { percent, task } => {
-            let Some(topo) = group_of(alloc, &network, percent)? else {
-                return println!(rt; "{word} is no group");
-            };
-            repeat_on(rt, alloc, word, topo, task, times)
-        }
+    let (work, group) = work_of(word);
+    match group_of(alloc, group, work.percent)? {
+        Some(topo) => repeat_on(rt, alloc, word, topo, work.task, times),
+        None => println!(rt; "no work is called {word}"),
     }
 }
 
@@ -162,8 +152,8 @@ fn run(
     second: &str,
 ) -> io::Result<()> {
     if first == "document" {
-        match network_of(alloc, second)? {
-            Some(network) => print_document(rt, &network),
+        match group_of(alloc, second, DOCUMENT_PERCENT)? {
+            Some(topo) => print_document(rt, &topo),
             None => println!(rt; "no work is called {second}"),
         }
     } else {

@@ -1,4 +1,4 @@
-//! The words of the command line: each names a task and the network that it is done on.
+//! The words of the command line: each names a task and the group that it is done on.
 
 use crate::checks::Way;
 use crate::proposals::Outage;
@@ -7,18 +7,11 @@ use crate::worlds::Course;
 /// What a promise asks of each pair of leaves where a word does not say it, in percent.
 const PERCENT: u32 = 50;
 
-/// What is done with a network.
+/// What is done with a group.
 #[derive(Clone, Copy)]
 pub enum Task {
     /// The least cut of each pair of leaves.
     Cuts,
-    /// Work on the network as a group, with a promise of so many percent between each two leaves.
-    OnGroup { percent: u32, task: GroupTask },
-}
-
-/// What is done with a group.
-#[derive(Clone, Copy)]
-pub enum GroupTask {
     /// A book of its promises is made.
     Start,
     /// A change is judged by these promises.
@@ -31,6 +24,13 @@ pub enum GroupTask {
     Drive(Course),
     /// Checks of its world.
     Check(Way),
+}
+
+/// A task, and how much is promised of each pair of leaves of its group, in percent.
+#[derive(Clone, Copy)]
+pub struct Work {
+    pub task: Task,
+    pub percent: u32,
 }
 
 /// The percentage that a word begins with, and what is left of the word.
@@ -54,37 +54,42 @@ fn outage_of(word: &str) -> (Outage, &str) {
 }
 
 /// The proposals that the end of a word names, and what is left of it.
-fn proposals_of(word: &str) -> (Task, &str) {
+fn proposals_of(word: &str) -> (Work, &str) {
     let (percent, rest) = percent_of(word);
     let (outage, rest) = outage_of(rest);
-    let task = GroupTask::Propose(outage);
-    (Task::OnGroup { percent, task }, rest)
+    let task = Task::Propose(outage);
+    (Work { task, percent }, rest)
 }
 
-/// The task that a word names, and what is left of the word.
-pub fn task_of(word: &str) -> (Task, &str) {
-    if let Some(rest) = word.strip_prefix("proposals-") {
-        return proposals_of(rest);
-    }
+/// The task that a word names by its first part, and what is left of the word.
+fn task_of(word: &str) -> (Task, &str) {
     let tasks = [
-        ("start-", GroupTask::Start),
-        ("judge-", GroupTask::Judge),
-        ("wide-", GroupTask::Wide),
-        ("locks-", GroupTask::Drive(Course::Locks)),
-        ("reports-", GroupTask::Drive(Course::Reports)),
-        ("failures-", GroupTask::Drive(Course::Failures)),
-        ("rounds-", GroupTask::Drive(Course::Rounds)),
-        ("begin-", GroupTask::Check(Way::Begin)),
-        ("basis-", GroupTask::Check(Way::Basis)),
-        ("check-", GroupTask::Check(Way::Check)),
-        ("commit-", GroupTask::Check(Way::Commit)),
+        ("start-", Task::Start),
+        ("judge-", Task::Judge),
+        ("wide-", Task::Wide),
+        ("locks-", Task::Drive(Course::Locks)),
+        ("reports-", Task::Drive(Course::Reports)),
+        ("failures-", Task::Drive(Course::Failures)),
+        ("rounds-", Task::Drive(Course::Rounds)),
+        ("begin-", Task::Check(Way::Begin)),
+        ("basis-", Task::Check(Way::Basis)),
+        ("check-", Task::Check(Way::Check)),
+        ("commit-", Task::Check(Way::Commit)),
     ];
     for (prefix, task) in &tasks {
         if let Some(rest) = word.strip_prefix(*prefix) {
-            let percent = PERCENT;
-            let task = *task;
-            return (Task::OnGroup { percent, task }, rest);
+            return (*task, rest);
         }
     }
     (Task::Cuts, word)
+}
+
+/// The work that a word names, and what is left of the word: the name of its group.
+pub fn work_of(word: &str) -> (Work, &str) {
+    if let Some(rest) = word.strip_prefix("proposals-") {
+        return proposals_of(rest);
+    }
+    let (task, rest) = task_of(word);
+    let percent = PERCENT;
+    (Work { task, percent }, rest)
 }

@@ -48,14 +48,14 @@ fn in_turn(topo: &GroupTopo, places: u32) -> Entity {
 
 /// An entity comes to have another firmware than its target, in full health, so that it can be commanded.
 fn failure(entity: Entity) -> Event {
-    let (v3, health) = match entity {
-        Entity::Device(_) => (1, 5),
-        Entity::Link(_) => (0, 1),
+    let (v2, v3, health) = match entity {
+        Entity::Device(_) => (1, 1, 5),
+        Entity::Link(_) => (0, 0, 1),
     };
     let vals = Vals {
         v0: 1,
         v1: 2,
-        v2: 0,
+        v2,
         v3,
     };
     Event::Fail {
