@@ -19,6 +19,11 @@ use std::sync::Wait;
 /// The most readers of a board.
 pub const MAX_READERS: u32 = 512;
 
+/// The number of this limit, as a law: it does nothing.
+pub fn most_readers()
+    ensures { MAX_READERS ≡ 512 }
+{}
+
 /// The writer of a published target. Contracts see what it has published. It is not `Drop`, since its end may wait: end it by `give_up`,
 /// or keep it in a `Held`.
 pub struct Board {

@@ -11,7 +11,7 @@ mod post;
 mod reader;
 mod target;
 
-pub use board::{Board, MAX_READERS};
+pub use board::{Board, MAX_READERS, most_readers};
 pub use held::Held;
 pub use line::Line;
 pub use note::Note;

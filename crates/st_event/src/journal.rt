@@ -14,6 +14,12 @@ pub const MAX_ENTRIES: usize = 200_000;
 /// The most proposals of a group that wait.
 pub const MAX_PENDING: usize = 64;
 
+/// The numbers of these limits, as laws: it does nothing.
+pub fn journal_limits()
+    ensures entries { MAX_ENTRIES ≡ 200000 }
+    ensures pending { MAX_PENDING ≡ 64 }
+{}
+
 /// One event of a group, with its reply.
 #[derive(Drop)]
 pub struct Entry {

@@ -11,6 +11,6 @@ mod rows;
 
 pub use act::{Act, Log, LogEntries, LogEntry, LogSaw};
 pub use event::{Event, Proposal};
-pub use journal::{Entries, Entry, Journal, MAX_ENTRIES, MAX_PENDING};
+pub use journal::{Entries, Entry, Journal, MAX_ENTRIES, MAX_PENDING, journal_limits};
 pub use reply::{Cause, Lack, Receipt, Reply, Verdict};
 pub use rows::Rows;

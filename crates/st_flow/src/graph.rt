@@ -13,6 +13,13 @@ pub const MAX_EDGES: u32 = 4096;
 /// The most that an edge can carry.
 pub const MAX_CAPACITY: u32 = 1_000_000;
 
+/// The numbers of these limits, as laws: it does nothing.
+pub fn graph_limits()
+    ensures nodes { MAX_NODES ≡ 512 }
+    ensures edges { MAX_EDGES ≡ 4096 }
+    ensures capacity { MAX_CAPACITY ≡ 1000000 }
+{}
+
 /// An undirected network: nodes numbered from 0, and edges numbered from 0 in the order of `add`. Contracts see it as
 /// its number of nodes and the list of its edges.
 #[derive(Drop)]

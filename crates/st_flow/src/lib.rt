@@ -18,5 +18,5 @@ mod tests;
 pub use cut::{Cut, cut_value, flow_within_cut};
 pub use edge::Edge;
 pub use flow::{Flow, flow_holds};
-pub use graph::{Graph, MAX_CAPACITY, MAX_EDGES, MAX_NODES};
+pub use graph::{Graph, MAX_CAPACITY, MAX_EDGES, MAX_NODES, graph_limits};
 pub use maximum::{Flowing, least_cut, max_flow};

@@ -30,6 +30,8 @@ pub struct JournalReader<'a> {
     apps: &'a [Name],
     ended: Vec<Journal>,
     begun: Option<Vec<Entry>>,
+    // for each journal that is still to begin, how many lines stand in it, the last first: so much room is taken for its entries
+    rooms: Vec<usize>,
 }
 
 impl<'a> Model for JournalReader<'a> {
@@ -51,8 +53,14 @@ fn begins_with_digit(token: &[u8]) -> bool
 }
 
 impl<'a> JournalReader<'a> {
-    /// No journal is begun.
-    pub fn new(alloc: Global, topos: &'a [GroupTopo], apps: &'a [Name]) -> JournalReader<'a>
+    /// No journal is begun. The last of `rooms` is how many entries the first journal may have, and so on: these numbers decide only
+    /// how much room is taken for entries when their journal begins.
+    pub fn new(
+        alloc: Global,
+        topos: &'a [GroupTopo],
+        apps: &'a [Name],
+        rooms: Vec<usize>,
+    ) -> JournalReader<'a>
         requires few_groups { length topos.now < 2 ^ 32 }
         requires few_apps { length apps.now < 2 ^ 32 }
         ensures { result ≡ nothing topos.now apps.now }
@@ -63,6 +71,7 @@ impl<'a> JournalReader<'a> {
             apps,
             ended: Vec::new(alloc),
             begun: None,
+            rooms,
         }
     }
 
@@ -99,7 +108,8 @@ impl<'a> JournalReader<'a> {
     {
         self.end()?;
         fill(self.alloc, &mut self.ended, group)?;
-        self.begun = Some(Vec::new(self.alloc));
+        let room = self.rooms.pop().unwrap_or(0);
+        self.begun = Some(Vec::with_capacity(self.alloc, room)?);
         Ok(())
     }
 

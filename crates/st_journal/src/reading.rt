@@ -109,12 +109,31 @@ fn read_text(
     ensures { IfOk result (λ read. Reads read (journals_in topos.now apps.now line bytes.now)) }
 {
     let places = lines(alloc, bytes)?;
+    let rooms = rooms(alloc, bytes, places.as_slice())?;
     read_at(
-        JournalReader::new(alloc, topos, apps),
+        JournalReader::new(alloc, topos, apps, rooms),
         line,
         bytes,
         places.as_slice(),
     )
+}
+
+/// How many lines stand behind each line that begins with `journal`, up to the next such line, the last first. It only says how much
+/// room is taken, so that no contract pins it.
+fn rooms(alloc: Global, bytes: &[u8], places: &[Line]) -> Result<Vec<usize>, AllocError>
+    requires { All (IsLineWithin bytes.now) places.now }
+{
+    let mut rooms = Vec::new(alloc);
+    let mut count: usize = 0;
+    for place in places.iter().rev() {
+        if bytes[place.start..place.end].starts_with(b"journal") {
+            rooms.push(count)?;
+            count = 0;
+        } else {
+            count = count.saturating_add(1);
+        }
+    }
+    Ok(rooms)
 }
 
 /// Reads the lines at these places over what was read.

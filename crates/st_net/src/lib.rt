@@ -1,5 +1,5 @@
-//! The words of a network: names, entities and their variables, and the topology of one group. Documents are turned into
-//! topologies here, and every crate above cites the definitions of `specs/`.
+//! The words of a network: names, entities and their variables, and the topology of one group, which is built here of its parts.
+//! Every crate above cites the definitions of `specs/`.
 #![tactic(auto)]
 
 mod build;
@@ -22,7 +22,7 @@ mod topo;
 pub use entity::{AppId, Entity, Prio, Row, Vals, Var};
 pub use level::{carries, level_of};
 pub use message::{Command, Report};
-pub use name::{MAX_NAME_BYTES, Name};
+pub use name::{MAX_NAME_BYTES, Name, most_name_bytes};
 pub use parts::{
     Built, DevicePart, DeviceParts, EndPart, Limit, LinkPart, LinkParts, Parts, PromisePart,
     PromiseParts, TopoFault,
@@ -32,5 +32,5 @@ pub use range::is_in_range;
 pub use set::EntitySet;
 pub use topo::{
     DeviceOpening, GroupTopo, LinkOpening, MAX_CAPACITY, MAX_DEVICES, MAX_LINKS, MAX_PERCENT,
-    MAX_PROMISES, MAX_ROWS, MAX_TORS,
+    MAX_PROMISES, MAX_ROWS, MAX_TORS, group_limits,
 };

@@ -9,6 +9,11 @@ use std::marker::Model;
 /// The most bytes that a name has.
 pub const MAX_NAME_BYTES: usize = 32;
 
+/// The number of this limit, as a law: it does nothing.
+pub fn most_name_bytes()
+    ensures { MAX_NAME_BYTES ≡ 32 }
+{}
+
 /// A name: 1 to 32 bytes, first a letter `a` to `z` or `A` to `Z`, then letters, digits, `_` and `-`. Contracts see the list
 /// of its bytes.
 #[derive(Drop)]

@@ -31,6 +31,17 @@ pub const MAX_PERCENT: u32 = 100;
 /// The most rows of a proposal.
 pub const MAX_ROWS: usize = 16;
 
+/// The numbers of these limits, as laws: it does nothing.
+pub fn group_limits()
+    ensures devices { MAX_DEVICES ≡ 512 }
+    ensures tors { MAX_TORS ≡ 64 }
+    ensures links { MAX_LINKS ≡ 4096 }
+    ensures promises { MAX_PROMISES ≡ 2016 }
+    ensures capacity { MAX_CAPACITY ≡ 1000000 }
+    ensures percent { MAX_PERCENT ≡ 100 }
+    ensures rows { MAX_ROWS ≡ 16 }
+{}
+
 /// A device as its group opens with it.
 #[derive(Clone, Copy, Debug, PartialEq, Eq)]
 pub struct DeviceOpening {

@@ -67,6 +67,7 @@ impl Wire {
         ensures err { OnErr result (HasSameMessages self.old self.new) }
         ensures sure { 0 < self.old.room → IsOk result }
         ensures room { self.old.room ≤ self.new.room + 1 }
+        ensures spent { OnErr result (self.old.room ≤ self.new.room) }
     {
         self.commands.push(command)?;
         Ok(self.commands.len() as u32)
@@ -80,6 +81,7 @@ impl Wire {
         ensures err { OnErr result (HasSameMessages self.old self.new) }
         ensures sure { 0 < self.old.room → IsOk result }
         ensures room { self.old.room ≤ self.new.room + 1 }
+        ensures spent { OnErr result (self.old.room ≤ self.new.room) }
     {
         self.reports.push(report)?;
         Ok(self.reports.len() as u32)

@@ -1,5 +1,5 @@
 -- A world as contracts see it, what it keeps, and what one step does.
-use Rattle.std.specs.Prelude.{◌≡◌, ℕ, List, ◌++◌, length, reverse}
+use Rattle.std.specs.Prelude.{◌≡◌, ℕ, ◌+◌, ◌≤◌, List, ◌++◌, length, reverse}
 use Rattle.st_event.specs.declared.event.Event.{Event}
 use Rattle.st_event.specs.declared.journal.Entry.{Entry}
 use Rattle.st_event.specs.declared.journal.TheConstants.{MAX_ENTRIES}
@@ -31,6 +31,11 @@ pub record Agrees (m : MachineView) (entries : List Entry) : Type 0 where
 abbrev pub Steps : History → History → Event → Stepped → Type 0
 Steps old new event (Did reply) = IsNext old.group old.past (record { event = event; reply = reply }) × (new ≡ with_entry old (record { event = event; reply = reply }))
 Steps old new event (JournalFull entries) = (length old.past ≡ MAX_ENTRIES) × (entries ≡ MAX_ENTRIES) × (new ≡ old)
+
+-- only an entry spends of the room, and no more than one
+abbrev pub StepSpends : ℕ → ℕ → Stepped → Type 0
+StepSpends old new (Did reply) = old ≤ new + 1
+StepSpends old new (JournalFull entries) = old ≤ new
 
 -- the one journal is a beginning of the other
 abbrev pub IsBeginning : List Entry → List Entry → Type 0

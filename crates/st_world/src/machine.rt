@@ -179,6 +179,7 @@ impl Machine {
         ensures err { OnErr result (HasSameMachine self.old self.new) }
         ensures sure { 0 < self.old.messages.room → IsOk result }
         ensures room { self.old.messages.room ≤ self.new.messages.room + 1 }
+        ensures spent { OnErr result (self.old.messages.room ≤ self.new.messages.room) }
     {
         match self.control.send(entity) {
             SendStep::Command(command) => Ok(Reply::Sent {
@@ -227,6 +228,7 @@ impl Machine {
         ensures err { OnErr result (HasSameMachine self.old self.new) }
         ensures sure { 0 < self.old.messages.room → IsOk result }
         ensures room { self.old.messages.room ≤ self.new.messages.room + 1 }
+        ensures spent { OnErr result (self.old.messages.room ≤ self.new.messages.room) }
     {
         // Room first: it can fail, and what follows cannot.
         self.wire.reserve(1)?;
@@ -271,6 +273,7 @@ impl Machine {
         ensures err { OnErr result (HasSameMachine self.old self.new) }
         ensures sure { 0 < self.old.messages.room → IsTrue (is_sure_event event.now) → IsOk result }
         ensures room { self.old.messages.room ≤ self.new.messages.room + 1 }
+        ensures spent { OnErr result (self.old.messages.room ≤ self.new.messages.room) }
     {
         let reply = match event {
             Event::Submit { app, rows } => self.submit(*app, rows)?,

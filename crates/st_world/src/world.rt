@@ -1,7 +1,7 @@
 //! One group's world: every event goes through `World::step`, which asks the group's machine for the reply and enters both in the
 //! journal. Scripts and services drive it, and reports are read from it.
 
-ghost use Rattle.std.specs.Prelude.{◌≡◌, List, [], ◌∷◌, ◌++◌, ◌<◌, ◌≤◌, ◌+◌, IfOk, IsOk, IsTrue, OnOk, OnErr, length, drop, reverse};
+ghost use Rattle.std.specs.Prelude.{◌≡◌, List, [], ◌∷◌, ◌++◌, ◌<◌, ◌≤◌, ◌+◌, IfOk, IsOk, IsTrue, MatchResult, OnOk, OnErr, length, drop, reverse};
 ghost use Rattle.std.specs.Vec.{vec_len, vec_capacity};
 ghost use Rattle.st_net.specs.Groups.{IsSound, IsEntityOf};
 ghost use Rattle.st_event.specs.declared.journal.Entry.{Entry as entry};
@@ -14,7 +14,7 @@ ghost use Rattle.st_event.specs.Standing.{standing_of};
 ghost use Rattle.st_event.specs.Versions.{value_at};
 ghost use Rattle.st_control.specs.Checker.{standing_in, versions_in};
 ghost use Rattle.st_world.specs.Machine.{is_sure_event};
-ghost use Rattle.st_world.specs.World.{Steps};
+ghost use Rattle.st_world.specs.World.{StepSpends, Steps};
 
 pub mod acts;
 pub mod commits;
@@ -89,8 +89,8 @@ impl World {
 
     /// Enters an event with the reply that the entries before it call for. `JournalFull` comes exactly where the journal has
     /// 200,000 entries, and then nothing changes. A Deliver or a Hear of a message that was never sent is entered as NoSuch. At
-    /// `Err` the group, its journal and its plan are as they were, and the event is dropped. Where there is room, only proposals and
-    /// decisions take memory. It takes constant time but for the rows of a proposal, and for a decision.
+    /// `Err` the group, its journal and its plan are as they were, no room is spent, and the event is dropped. Where there is room, only
+    /// proposals and decisions take memory. It takes constant time but for the rows of a proposal, and for a decision.
     pub fn step(&mut self, event: Event) -> Result<Stepped, AllocError>
         requires { Fits self.old.history.group event }
         ensures ok { IfOk result (Steps self.old.history self.new.history event) }
@@ -98,6 +98,7 @@ impl World {
         ensures plan { self.new.lines ≡ self.old.lines }
         ensures sure { 0 < self.old.room → IsTrue (is_sure_event event) → IsOk result }
         ensures room { self.old.room ≤ self.new.room + 1 }
+        ensures spent { MatchResult result (StepSpends self.old.room self.new.room) (λ _. self.old.room ≤ self.new.room) }
     {
         if self.journal.len() >= MAX_ENTRIES {
             return Ok(Stepped::JournalFull {
