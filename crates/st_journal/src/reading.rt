@@ -64,7 +64,8 @@ impl Journals {
 
 /// Reads the journals of these groups, or names the first bad line and that line's kind. The first line has the number `line`.
 /// A group that the text has no journal of gets the empty one. Names of groups and of applications are looked up by their
-/// first place. Takes time and memory in the bytes, and `Err` is for want of memory alone.
+/// first place. Takes time and memory in the bytes: where a journal begins, room for as many entries is taken as lines stand behind
+/// its line. `Err` is for want of memory alone.
 pub fn read_journals(
     alloc: Global,
     bytes: &[u8],
