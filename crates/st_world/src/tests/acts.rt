@@ -150,16 +150,24 @@ fn tells_entries(alloc: Global, world: &World) -> Result<(), Fail> {
     expect(world.entries_since(11).len() == 1)
 }
 
+fn takes_each(alloc: Global, world: &mut World) -> Result<(), Fail> {
+    locks(world)?;
+    unlocks(world)?;
+    proposes(alloc, world)?;
+    awaits_and_settles(world)?;
+    polls(world)?;
+    fails(alloc, world)?;
+    reads(world)?;
+    tells_entries(alloc, world)
+}
+
+/// The same of a world that is not needed any more.
+fn takes_each_once(alloc: Global, mut world: World) -> Result<(), Fail> {
+    takes_each(alloc, &mut world)
+}
+
 #[test]
 fn each_act_enters_its_events(rt: HostRuntime) -> Result<(), Fail> {
     let alloc = rt.alloc();
-    let mut world = world_with(alloc, Vec::new(alloc))?;
-    locks(&mut world)?;
-    unlocks(&mut world)?;
-    proposes(alloc, &mut world)?;
-    awaits_and_settles(&mut world)?;
-    polls(&mut world)?;
-    fails(alloc, &mut world)?;
-    reads(&world)?;
-    tells_entries(alloc, &world)
+    takes_each_once(alloc, world_with(alloc, Vec::new(alloc))?)
 }

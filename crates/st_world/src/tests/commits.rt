@@ -1,7 +1,8 @@
 //! Checks that are judged away from their world.
 
 use super::replies::{accept, expect, firmware, told};
-use super::{A1, A2, UP, detour, plain_world};
+use super::two_path::world_with;
+use super::{A1, A2, UP, detour};
 use crate::{Committed, World};
 use st_control::{Begin, Judged, judge_basis};
 use st_event::{Cause, Event, Receipt, Rows, Verdict};
@@ -23,6 +24,11 @@ fn committed(world: &mut World, judged: &Judged) -> Result<Committed, Fail> {
         return Err(Fail::new("the ticket may not be committed"));
     }
     Ok(world.commit(judged)?)
+}
+
+/// The same of a judgement that is not needed any more.
+fn committed_once(world: &mut World, judged: Judged) -> Result<Committed, Fail> {
+    committed(world, &judged)
 }
 
 /// Drains the first switch.
@@ -92,20 +98,33 @@ fn second_switch_fails(alloc: Global, world: &mut World) -> Result<(), Fail> {
     told(alloc, world, Event::Hear { report: 1 }, "taken")
 }
 
+/// A judgement that holds no more is refused, and the other comes too late.
+fn fall(alloc: Global, world: &mut World, first: &Judged, second: &Judged) -> Result<(), Fail> {
+    second_switch_fails(alloc, world)?;
+    refuses(world, first)?;
+    is_gone(world, second)
+}
+
+/// The same of judgements that are not needed any more.
+fn fall_once(alloc: Global, world: &mut World, first: Judged, second: Judged) -> Result<(), Fail> {
+    fall(alloc, world, &first, &second)
+}
+
 fn shrunk(rt: &(impl Threads + Sync), alloc: Global, world: &mut World) -> Result<(), Fail> {
     told(alloc, world, drain(alloc)?, "queued 1")?;
     let first = judged(rt, alloc, world)?;
-    let second = judged(rt, alloc, world)?;
-    second_switch_fails(alloc, world)?;
-    refuses(world, &first)?;
-    is_gone(world, &second)
+    fall_once(alloc, world, first, judged(rt, alloc, world)?)
+}
+
+/// The same of a world that is not needed any more.
+fn shrunk_once(rt: &(impl Threads + Sync), alloc: Global, mut world: World) -> Result<(), Fail> {
+    shrunk(rt, alloc, &mut world)
 }
 
 #[test]
 fn a_commit_judges_what_is_sure_then(rt: HostRuntime) -> Result<(), Fail> {
     let alloc = rt.alloc();
-    let mut world = plain_world(alloc)?;
-    shrunk(&rt, alloc, &mut world)
+    shrunk_once(&rt, alloc, world_with(alloc, Vec::new(alloc))?)
 }
 
 fn is_accepted(verdict: &Verdict) -> bool {
@@ -116,8 +135,8 @@ fn is_accepted(verdict: &Verdict) -> bool {
 }
 
 /// The commit is accepted by entry 2.
-fn accepts(world: &mut World, judged: &Judged) -> Result<(), Fail> {
-    match committed(world, judged)? {
+fn accepts(world: &mut World, judged: Judged) -> Result<(), Fail> {
+    match committed_once(world, judged)? {
         Committed::Did(receipt) => expect(receipt.entry == 2 && is_accepted(&receipt.verdict)),
         _ => Err(Fail::new("no receipt")),
     }
@@ -125,15 +144,18 @@ fn accepts(world: &mut World, judged: &Judged) -> Result<(), Fail> {
 
 fn kept(rt: &(impl Threads + Sync), alloc: Global, world: &mut World) -> Result<(), Fail> {
     told(alloc, world, drain(alloc)?, "queued 1")?;
-    let judged = judged(rt, alloc, world)?;
-    accepts(world, &judged)
+    accepts(world, judged(rt, alloc, world)?)
+}
+
+/// The same of a world that is not needed any more.
+fn kept_once(rt: &(impl Threads + Sync), alloc: Global, mut world: World) -> Result<(), Fail> {
+    kept(rt, alloc, &mut world)
 }
 
 #[test]
 fn a_commit_accepts_what_was_judged_to_hold(rt: HostRuntime) -> Result<(), Fail> {
     let alloc = rt.alloc();
-    let mut world = plain_world(alloc)?;
-    kept(&rt, alloc, &mut world)
+    kept_once(&rt, alloc, world_with(alloc, Vec::new(alloc))?)
 }
 
 /// How many runs of a flow a world counts once an upgrade of a switch was judged away from it and committed.
@@ -144,9 +166,18 @@ fn runs_away(
     entity: Entity,
 ) -> Result<u64, Fail> {
     told(alloc, world, firmware(alloc, entity, 2)?, "queued 1")?;
-    let judged = judged(rt, alloc, world)?;
-    accepts(world, &judged)?;
+    accepts(world, judged(rt, alloc, world)?)?;
     Ok(world.control().flows_run())
+}
+
+/// The same of a world that is not needed any more.
+fn runs_away_once(
+    rt: &(impl Threads + Sync),
+    alloc: Global,
+    mut world: World,
+    entity: Entity,
+) -> Result<u64, Fail> {
+    runs_away(rt, alloc, &mut world, entity)
 }
 
 /// How many it counts once the same was checked by it.
@@ -155,14 +186,17 @@ fn runs_here(alloc: Global, world: &mut World, entity: Entity) -> Result<u64, Fa
     Ok(world.control().flows_run())
 }
 
+/// The same of a world that is not needed any more.
+fn runs_here_once(alloc: Global, mut world: World, entity: Entity) -> Result<u64, Fail> {
+    runs_here(alloc, &mut world, entity)
+}
+
 fn runs_of_commit(rt: &(impl Threads + Sync), alloc: Global, way: Entity) -> Result<u64, Fail> {
-    let mut world = detour::world(alloc)?;
-    runs_away(rt, alloc, &mut world, way)
+    runs_away_once(rt, alloc, detour::world(alloc)?, way)
 }
 
 fn runs_of_check(alloc: Global, way: Entity) -> Result<u64, Fail> {
-    let mut world = detour::world(alloc)?;
-    runs_here(alloc, &mut world, way)
+    runs_here_once(alloc, detour::world(alloc)?, way)
 }
 
 // One of the two ways carries the flow that is kept, so that a check has to find another where that one is upgraded.

@@ -1,5 +1,7 @@
 //! Replies in words, and events that are to be answered so.
 
+ghost use Rattle.st_net.specs.Groups.{IsEntityOf};
+
 use crate::{Rounded, Stepped, World};
 use st_event::{Event, Receipt, Reply, Rows, Verdict};
 use st_net::{AppId, Entity, Row, Var};
@@ -133,12 +135,18 @@ pub fn accept(alloc: Global, world: &mut World, entity: Entity, value: u32) -> R
     }
 }
 
+fn firmware_of(world: &World, entity: Entity) -> u32
+    requires { IsEntityOf world.now.history.group entity }
+{
+    world.agent(entity).vals().v1
+}
+
 /// The agent of an entity has this firmware.
 pub fn has_firmware(world: &World, entity: Entity, value: u32) -> Result<(), Fail> {
     if !world.fits(&Event::Send { entity }) {
         return Err(Fail::new("an entity is not there"));
     }
-    expect(world.agent(entity).vals().v1 == value)
+    expect(firmware_of(world, entity) == value)
 }
 
 /// Entry `n` of the journal, counted from 1, has this reply.
