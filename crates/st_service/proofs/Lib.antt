@@ -1,0 +1,12 @@
+pub mod Adding
+pub mod Mines
+pub mod Lines
+pub mod TicketLaws
+pub mod CourseLaws
+pub mod RoomLaws
+pub mod HoldLaws
+pub mod HolderLaws
+pub mod ChainLaws
+pub mod AskedLaws
+pub mod Whole
+pub mod Counts
