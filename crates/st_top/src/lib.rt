@@ -7,9 +7,7 @@ pub mod laws;
 mod output;
 mod program;
 mod replaying;
-mod running;
-mod schedule;
-mod serial;
+mod results;
 mod task;
 mod top;
 

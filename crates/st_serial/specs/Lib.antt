@@ -1,0 +1,4 @@
+pub mod Schedule
+pub mod Serial
+pub mod Shares
+pub mod Most
