@@ -1,0 +1,36 @@
+-- What a pass can rely on after a hold of a room's lock: a legal journal, a reader that has all that it accepts, and units for what it made.
+use Rattle.std.proofs.Common.{◌≡◌, ℕ, ◌+◌, List, length, ap, sym, subst, arith, length-append}
+use Rattle.std.specs.Prelude.{Result, Ok, Err, OnOk, OnErr}
+use mathlib.Core.List.{IsPrefix}
+use Rattle.st_net.specs.declared.entity.Row.{Row}
+use Rattle.st_net.specs.Groups.{Group}
+use Rattle.st_event.specs.declared.journal.Entry.{Entry}
+use Rattle.st_event.specs.Legal.{IsLegal}
+use Rattle.st_event.specs.Proposals.{accepted}
+use Rattle.st_service.specs.Lines.{numbers}
+use Rattle.st_service.specs.Made.{Made, past_in}
+use Rattle.st_service.specs.Puts.{Puts}
+use Rattle.st_service.proofs.Lines.{length_numbers}
+
+-- a front that is taught a legal journal is legal
+pub legal_taught : (g h : Group) (front : List Made) (past : List Entry) → past_in front ≡ past → h ≡ g → IsLegal h past → IsLegal g (past_in front)
+legal_taught g h front past is same legal = subst (λ (xs : List Entry). IsLegal g xs) (sym is) (subst (λ (k : Group). IsLegal k past) same legal)
+
+-- a reader that has what is published has all that the front accepts
+pub reads_taught : (front : List Made) (past : List Entry) (note reader : List (List Row)) → past_in front ≡ past → note ≡ accepted past → IsPrefix note reader → IsPrefix (accepted (past_in front)) reader
+reads_taught front past note reader is whole begins = subst (λ (xs : List Entry). IsPrefix (accepted xs) reader) (sym is) (subst (λ (ps : List (List Row)). IsPrefix ps reader) whole begins)
+
+-- the units that were handed over are those of the places that were added
+pub puts_share : (number : ℕ) (es : List Entry) (mid before : List Made) (was : List ℕ) (after : List Made) (now : List ℕ) (old new : ℕ) → Puts number es mid before was after now → new ≡ old + length es → new + length was ≡ old + length now
+puts_share number es mid before was after now old new p is =
+    omega (arith, is, ap length p.2, length-append was (numbers (length mid) (length es)), length_numbers (length mid) (length es))
+
+-- what holds of an answer for want of memory
+pub on_err : {T E P : Type 0} (r : Result T E) → P → OnErr r P
+on_err (Ok x) h = tt
+on_err (Err e) h = h
+
+-- and of one that is no such answer
+pub ok_open : {T E P : Type 0} (r : Result T E) (x : T) → r ≡ Ok x → OnOk r P → P
+ok_open (Ok y) x is h = h
+ok_open (Err e) x is h = absurd cc

@@ -1,0 +1,146 @@
+-- What a work makes of a room.
+use Rattle.std.proofs.Common.{◌≡◌, ℕ, suc, ◌≤◌, ◌<◌, ◌+◌, ◌^◌, Bool, true, false, List, [], ◌∷◌, ◌++◌, length, ap, sym, subst, ◌∙◌, arith, length-append}
+use Rattle.std.specs.Prelude.{All, Result, Ok, Err, IfOk, OnErr, if◌then◌else◌}
+use mathlib.Core.List.{IsPrefix}
+use Rattle.st_net.specs.declared.entity.Row.{Row}
+use Rattle.st_net.specs.Groups.{Group}
+use Rattle.st_event.specs.declared.journal.Entry.{Entry}
+use Rattle.st_event.specs.History.{History}
+use Rattle.st_net.specs.Ranges.{RowFits}
+use Rattle.st_event.specs.declared.journal.TheConstants.{MAX_ENTRIES}
+use Rattle.st_event.specs.Legal.{IsLegal}
+use Rattle.st_event.specs.declared.event.Event.{Event}
+use Rattle.st_event.specs.declared.event.Event.TheVariants.{Check}
+use Rattle.st_event.specs.declared.event.Proposal.{Proposal}
+use Rattle.st_event.specs.declared.reply.Reply.{Reply}
+use Rattle.st_event.specs.declared.reply.Reply.TheVariants.{Decided}
+use Rattle.st_event.specs.declared.reply.Verdict.{Verdict}
+use Rattle.st_event.specs.Proposals.{accepted, accepted_among, is_accepted, pending, first_rows, proposals, verdicts, verdicts_after, with_verdict_of}
+use Rattle.st_event.proofs.Accepting.{legal_within, next_fits}
+use Rattle.st_world.specs.World.{WorldView, IsBeginning}
+use Rattle.st_world.specs.Rounds.{Run, is_full, IsPartOf}
+use Rattle.st_world.specs.declared.world.rounds.Going.{Going}
+use Rattle.st_world.proofs.RunLaws.{beginning-self}
+use Rattle.st_board.specs.Published.{Published}
+use Rattle.st_board.proofs.Prefixes.{prefix_self, prefix_trans}
+use Rattle.st_service.specs.declared.work.Work.{Work}
+use Rattle.st_service.specs.declared.work.Work.TheVariants.{CheckFor}
+use Rattle.st_service.specs.Rooms.{IsRoom}
+use Rattle.st_service.specs.Shares.{work_share}
+use Rattle.st_service.specs.Works.{WorkFits, course_at, decides}
+use Rattle.st_service.proofs.CourseLaws.{Went, work-ran, ran_part}
+
+-- the course of a work from where a world stands
+abbrev pub course_in : ℕ → Work → WorldView → Run
+course_in number work w = course_at number work w.history.group w.lines w.history.past
+
+-- a part of it was entered, whatever was answered
+pub went_part : {E : Type 0} (r : Result Going E) (number : ℕ) (work : Work) (old new : WorldView)
+    → IfOk r (λ going. course_in number work old ≡ record { past = new.history.past; stopped = is_full going }) → OnErr r (IsPartOf old new (course_in number work old))
+    → WorkFits work old.history.group → IsBeginning new.history.past (course_in number work old).past
+went_part (Ok going) number work old new ok err fits = subst (λ (run : Run). IsBeginning new.history.past run.past) (sym ok) (beginning-self new.history.past)
+went_part (Err e) number work old new ok err fits = err.part
+
+pub work_went : {E : Type 0} (r : Result Going E) (number : ℕ) (work : Work) (old new : WorldView)
+    → IfOk r (λ going. course_in number work old ≡ record { past = new.history.past; stopped = is_full going }) → OnErr r (IsPartOf old new (course_in number work old))
+    → WorkFits work old.history.group → Went (decides work) number (work_share work old.history.group old.lines) old.history.past new.history.past
+work_went (Ok going) number work old new ok err fits =
+    let ran = work-ran work number old.history.group old.lines old.history.past fits in
+    ran_part (decides work) number (work_share work old.history.group old.lines) old.history.past new.history.past (course_in number work old)
+    (ran.more, ap (λ (run : Run). run.past) (sym ok) ∙ ran.all) (subst (λ (run : Run). IsBeginning new.history.past run.past) (sym ok) (beginning-self new.history.past)) ran
+work_went (Err e) number work old new ok err fits =
+    ran_part (decides work) number (work_share work old.history.group old.lines) old.history.past new.history.past (course_in number work old)
+    err.began err.part (work-ran work number old.history.group old.lines old.history.past fits)
+
+-- where as much was accepted as before, a room stands
+pub room_stands : (old new : History) (b : Published) (spent : Bool) → new.group ≡ old.group → accepted new.past ≡ accepted old.past → IsRoom old b spent → IsRoom new b spent
+room_stands old new b spent group same r = record {
+  group = r.group ∙ sym group;
+  going = r.going;
+  begun = subst (λ ps. IsPrefix b.proposals ps) (sym same) r.begun;
+  whole = λ e. r.whole e ∙ sym same;
+}
+
+-- what is accepted more was published
+pub room_publishes : (old new : History) (b c : Published) (spent : Bool) (rows : List Row) → new.group ≡ old.group → accepted new.past ≡ accepted old.past ++ first_rows (pending old.past) ∷ []
+    → rows ≡ first_rows (pending old.past) → c ≡ record b { proposals = b.proposals ++ rows ∷ [] } → spent ≡ false → IsRoom old b spent → IsRoom new c spent
+room_publishes old new b c spent rows group more are is open_still r =
+    let same : c.proposals ≡ accepted new.past = ap (λ (p : Published). p.proposals) is ∙ (ap (λ ps. ps ++ rows ∷ []) (r.whole open_still) ∙ (ap (λ rs. accepted old.past ++ rs ∷ []) are ∙ sym more)) in
+    record {
+      group = ap (λ (p : Published). p.group) is ∙ (r.group ∙ sym group);
+      going = ap (λ (p : Published). p.ended) is ∙ r.going;
+      begun = subst (λ ps. IsPrefix c.proposals ps) same (prefix_self c.proposals);
+      whole = λ e. same;
+    }
+
+-- or its publication was refused
+pub room_spends : (old new : History) (b c : Published) (spent : Bool) → new.group ≡ old.group → accepted new.past ≡ accepted old.past ++ first_rows (pending old.past) ∷ [] → c ≡ b → IsRoom old b spent → IsRoom new c true
+room_spends old new b c spent group more is r = rw is (record {
+  group = r.group ∙ sym group;
+  going = r.going;
+  begun = prefix_trans b.proposals (accepted old.past) (accepted new.past) r.begun (first_rows (pending old.past) ∷ [], sym more);
+  whole = λ e. absurd cc;
+})
+
+-- a run that met a full journal left it full
+pub work_full : {E : Type 0} (r : Result Going E) (number : ℕ) (work : Work) (old new : WorldView)
+    → IfOk r (λ going. course_in number work old ≡ record { past = new.history.past; stopped = is_full going }) → WorkFits work old.history.group → IsLegal new.history.group new.history.past
+    → IfOk r (λ going. is_full going ≡ true → length new.history.past ≡ MAX_ENTRIES)
+work_full (Ok going) number work old new ok fits legal =
+    let ran = work-ran work number old.history.group old.lines old.history.past fits in
+    let within = legal_within new.history.group new.history.past legal in
+    λ e. let full = ran.full (ap (λ (run : Run). run.stopped) ok ∙ e) in omega (arith, within, full, ap (λ (run : Run). length run.past) ok)
+work_full (Err e) number work old new ok fits legal = tt
+
+-- what begins a legal journal is legal
+pub legal_before : (g : Group) (more past : List Entry) → IsLegal g (more ++ past) → IsLegal g past
+legal_before g [] past legal = legal
+legal_before g (e ∷ more) past legal = legal_before g more past legal.1
+
+-- the rows that a check decides fit
+pub rows_fit : (g h : Group) (d : Bool) (past : List Entry) (rows kept : List Row) → h ≡ g → d ≡ true → (d ≡ true → kept ≡ first_rows (pending past)) → rows ≡ kept → IsLegal g past → All (RowFits h) rows
+rows_fit g h d past rows kept same decides are is legal = rw (same, is, are decides) (next_fits g past legal)
+
+-- a check that was refused entered nothing
+pub check_part : {T E : Type 0} (r : Result T E) (number : ℕ) (work : Work) (ticket : ℕ) (old new : WorldView) → work ≡ CheckFor ticket → OnErr r (new.history ≡ old.history) → OnErr r (IsPartOf old new (course_in number work old))
+check_part (Ok x) number work ticket old new is err = tt
+check_part (Err e) number work ticket old new is err =
+    let ran = work-ran (CheckFor ticket) number old.history.group old.lines old.history.past tt in
+    let part : IsPartOf old new (course_in number (CheckFor ticket) old) = record {
+      began = ([], ap (λ (h : History). h.past) err);
+      part = (ran.more, ran.all ∙ ap (λ (h : History). ran.more ++ h.past) (sym err));
+    } in
+    subst (λ (w : Work). IsPartOf old new (course_in number w old)) (sym is) part
+
+-- no more is accepted than there are entries
+
+if_few : (b : Bool) (rows : List Row) (xs : List (List Row)) (n : ℕ) → length xs ≤ n → length (if b then rows ∷ xs else xs) ≤ suc n
+if_few true rows xs n le = omega (arith, le)
+if_few false rows xs n le = omega (arith, le)
+
+few_among : (ps : List Proposal) (vs : List Verdict) → length (accepted_among ps vs) ≤ length vs
+few_among ps [] = omega arith
+few_among [] (v ∷ vs) = omega arith
+few_among (p ∷ ps) (v ∷ vs) = if_few (is_accepted v) p.rows (accepted_among ps vs) (length vs) (few_among ps vs)
+
+decided_few : (answer : Reply) (before : List Verdict) (n : ℕ) → length before ≤ n → length (with_verdict_of answer before) ≤ suc n
+decided_few (Decided receipt) before n le = omega (arith, le, length-append before (receipt.verdict ∷ []))
+decided_few _ before n le = omega (arith, le)
+
+verdict_few : (event : Event) (answer : Reply) (before : List Verdict) (n : ℕ) → length before ≤ n → length (verdicts_after event answer before) ≤ suc n
+verdict_few Check answer before n le = decided_few answer before n le
+verdict_few _ answer before n le = omega (arith, le)
+
+few_verdicts : (past : List Entry) → length (verdicts past) ≤ length past
+few_verdicts [] = omega arith
+few_verdicts (entry ∷ past) = verdict_few entry.event entry.reply (verdicts past) (length past) (few_verdicts past)
+
+pub few_accepted : (past : List Entry) → length (accepted past) ≤ length past
+few_accepted past = let a = few_among (proposals past) (verdicts past) in let v = few_verdicts past in omega (arith, a, v)
+
+-- so there is a number for the next version
+pub next_few : (g : Group) (old new : History) (b : Published) (spent : Bool) → accepted new.past ≡ accepted old.past ++ first_rows (pending old.past) ∷ [] → IsLegal g new.past → spent ≡ false → IsRoom old b spent → length b.proposals + 1 < 2 ^ 32
+next_few g old new b spent more legal open_still r =
+    let few = few_accepted new.past in
+    let within = legal_within g new.past legal in
+    omega (arith, few, within, ap length (r.whole open_still), ap length more, length-append (accepted old.past) (first_rows (pending old.past) ∷ []))

@@ -1,0 +1,4 @@
+use Rattle.st_service.proofs.locked.Locked.unsettled.Goals as goal
+
+pub returns-clause-entities : goal.returns-clause-entities
+returns-clause-entities g c = rw (c.in_ok-look.ensures.journal, ← c.args.self.now.group_is) c.unsettled.ensures

@@ -1,0 +1,478 @@
+use Rattle.std.proofs.Common.{◌≡◌, ◌+◌, ℕ, List, false, inl, inr, length, refl, ap, sym, subst, ◌∙◌, arith, length-append}
+use Rattle.std.proofs.lemmas.Result.{IfOk-from_err}
+use mathlib.Core.List.{IsPrefix}
+use Rattle.st_net.specs.Groups.{Group}
+use Rattle.st_event.specs.declared.journal.Entry.{Entry}
+use Rattle.st_event.specs.Legal.{IsLegal}
+use Rattle.st_event.proofs.Accepting.{legal_within}
+use Rattle.st_board.specs.Published.{Published, IsMergeOf}
+use Rattle.st_board.proofs.Prefixes.{prefix_self}
+use Rattle.st_service.specs.declared.place.Place.{Place}
+use Rattle.st_service.specs.Lines.{flat}
+use Rattle.st_service.specs.Made.{IsMine, past_in}
+use Rattle.st_service.specs.Puts.{Puts}
+use Rattle.st_service.specs.Shares.{work_share}
+use Rattle.st_service.specs.Tickets.{latest_in}
+use Rattle.st_service.specs.Works.{WorkFits, course_at}
+use Rattle.st_service.proofs.HoldLaws.{taken, line_goes, enters_all, enters_part, puts_grows, look_grows, length_past}
+use Rattle.st_service.proofs.HeldLaws.{legal_taught, reads_taught, puts_share, on_err, ok_open}
+use Rattle.st_service.proofs.locked.Locked.work.Goals as goal
+
+pub returns-then-is_shut_to-clause-group : goal.returns-then-is_shut_to-clause-group
+returns-then-is_shut_to-clause-group g c = refl
+
+pub returns-then-is_shut_to-clause-place : goal.returns-then-is_shut_to-clause-place
+returns-then-is_shut_to-clause-place g c = (refl, refl)
+
+pub returns-then-is_shut_to-clause-share : goal.returns-then-is_shut_to-clause-share
+returns-then-is_shut_to-clause-share g c = (refl, refl)
+
+pub returns-then-is_shut_to-clause-entered : goal.returns-then-is_shut_to-clause-entered
+returns-then-is_shut_to-clause-entered g c = tt
+
+pub returns-then-is_shut_to-clause-refused : goal.returns-then-is_shut_to-clause-refused
+returns-then-is_shut_to-clause-refused g c = inl (refl, refl)
+
+pub returns-then-is_shut_to-clause-grows : goal.returns-then-is_shut_to-clause-grows
+returns-then-is_shut_to-clause-grows g c =
+    let place = c.args.place.now in
+    look_grows _ (flat place.seen.log) (flat place.seen.log) place.mine.items place.mine.items (prefix_self (flat place.seen.log)) refl
+
+pub returns-then-is_shut_to-clause-legal : goal.returns-then-is_shut_to-clause-legal
+returns-then-is_shut_to-clause-legal g c = λ legal. legal
+
+pub returns-then-is_shut_to-clause-reader : goal.returns-then-is_shut_to-clause-reader
+returns-then-is_shut_to-clause-reader g c = prefix_self c.args.place.now.reader.proposals
+
+pub returns-then-is_shut_to-clause-reads : goal.returns-then-is_shut_to-clause-reads
+returns-then-is_shut_to-clause-reads g c = tt
+
+pub most_of-requires : goal.most_of-requires
+most_of-requires g c = subst (λ (h : Group). WorkFits c.args.work h) (sym c.args.self.now.group_is) c.requires.fits
+
+pub invariant_of-place : goal.invariant_of-place
+invariant_of-place g c =
+    let place = c.args.place.now in
+    record {
+      named = place.named;
+      counted = place.counted;
+      made = subst (λ (mine : List ℕ). IsMine place.number (flat place.seen.log) mine) (sym c.reserve.ensures.items) place.made;
+      asked = place.asked ∙ ap (λ (mine : List ℕ). latest_in (flat place.seen.log) mine) (sym c.reserve.ensures.items);
+      reads = place.reads;
+      reads_group = place.reads_group;
+    }
+
+pub invariant_of-self : goal.invariant_of-self
+invariant_of-self g c =
+    let room = c.args.self.now in
+    record {
+      of_group = room.of_group;
+      group_is = room.group_is;
+      lines_are = room.lines_are;
+      board_is = room.board_is;
+      kept = room.kept;
+      left = room.left;
+    }
+
+pub returns-in_err-reserve-clause-group : goal.returns-in_err-reserve-clause-group
+returns-in_err-reserve-clause-group g c = refl
+
+pub returns-in_err-reserve-clause-place : goal.returns-in_err-reserve-clause-place
+returns-in_err-reserve-clause-place g c = (refl, refl)
+
+pub returns-in_err-reserve-clause-share : goal.returns-in_err-reserve-clause-share
+returns-in_err-reserve-clause-share g c = (refl, ap (λ (mine : List ℕ). c.args.share.now.amount + length mine) (sym c.reserve.ensures.items))
+
+pub returns-in_err-reserve-clause-entered : goal.returns-in_err-reserve-clause-entered
+returns-in_err-reserve-clause-entered g c = IfOk-from_err c.from_residual.result _ c.from_residual.ensures.0
+
+pub returns-in_err-reserve-clause-refused : goal.returns-in_err-reserve-clause-refused
+returns-in_err-reserve-clause-refused g c = on_err c.from_residual.result (inl (refl, c.reserve.ensures.items))
+
+pub returns-in_err-reserve-clause-grows : goal.returns-in_err-reserve-clause-grows
+returns-in_err-reserve-clause-grows g c =
+    let place = c.args.place.now in
+    look_grows _ (flat place.seen.log) (flat place.seen.log) place.mine.items c.reserve.new.self.items (prefix_self (flat place.seen.log)) c.reserve.ensures.items
+
+pub returns-in_err-reserve-clause-legal : goal.returns-in_err-reserve-clause-legal
+returns-in_err-reserve-clause-legal g c = λ legal. legal
+
+pub returns-in_err-reserve-clause-reader : goal.returns-in_err-reserve-clause-reader
+returns-in_err-reserve-clause-reader g c = prefix_self c.args.place.now.reader.proposals
+
+pub returns-in_err-reserve-clause-reads : goal.returns-in_err-reserve-clause-reads
+returns-in_err-reserve-clause-reads g c = IfOk-from_err c.from_residual.result _ c.from_residual.ensures.0
+
+pub work-going-requires-clause-open : goal.work-going-requires-clause-open
+work-going-requires-clause-open g c = c.if-is_shut_to.ensures.1
+
+pub work-going-requires-clause-fits : goal.work-going-requires-clause-fits
+work-going-requires-clause-fits g c = subst (λ (h : Group). WorkFits c.args.work h) (sym c.args.self.now.group_is) c.requires.fits
+
+pub since-entries-requires : goal.since-entries-requires
+since-entries-requires g c = omega (arith, c.count-from.ensures.count, ap length c.work-going.ensures.adds.all, length-append c.work-going.ensures.adds.more c.args.self.now.room.history.past)
+
+pub take_in-requires-clause-group : goal.take_in-requires-clause-group
+take_in-requires-clause-group g c = c.requires.group ∙ sym c.args.self.now.of_group
+
+pub take_in-requires-clause-behind : goal.take_in-requires-clause-behind
+take_in-requires-clause-behind g c = c.if-is_shut_to.ensures.2
+
+pub take_in-requires-clause-part : goal.take_in-requires-clause-part
+take_in-requires-clause-part g c = c.requires.part
+
+pub take_in-requires-clause-own : goal.take_in-requires-clause-own
+take_in-requires-clause-own g c =
+    let room = c.args.self.now in
+    let place = c.args.place.now in
+    let old = room.room.history in
+    let new = c.work-going.new.self.history in
+    let es = c.since-entries.result.now in
+    let most = work_share c.args.work old.group room.room.lines in
+    let t = taken place.number most c.count-from.result old.past new.past es c.work-going.ensures.adds c.count-from.ensures.count c.since-entries.ensures in
+    t.own
+
+pub take_in-requires-clause-from : goal.take_in-requires-clause-from
+take_in-requires-clause-from g c =
+    let room = c.args.self.now in
+    c.count-from.ensures.count ∙ (sym (ap length (room.kept c.if-is_shut_to.ensures.0)) ∙ length_past (flat room.makers.seen.log))
+
+pub take_in-requires-clause-few : goal.take_in-requires-clause-few
+take_in-requires-clause-few g c =
+    let room = c.args.self.now in
+    let place = c.args.place.now in
+    let old = room.room.history in
+    let new = c.work-going.new.self.history in
+    let es = c.since-entries.result.now in
+    let most = work_share c.args.work old.group room.room.lines in
+    let t = taken place.number most c.count-from.result old.past new.past es c.work-going.ensures.adds c.count-from.ensures.count c.since-entries.ensures in
+    let within = legal_within new.group new.past c.is_legal.ensures in
+    omega (arith, within, t.count, c.count-from.ensures.count)
+
+pub take_in-requires-clause-units : goal.take_in-requires-clause-units
+take_in-requires-clause-units g c =
+    let room = c.args.self.now in
+    let place = c.args.place.now in
+    let old = room.room.history in
+    let new = c.work-going.new.self.history in
+    let es = c.since-entries.result.now in
+    let most = work_share c.args.work old.group room.room.lines in
+    let t = taken place.number most c.count-from.result old.past new.past es c.work-going.ensures.adds c.count-from.ensures.count c.since-entries.ensures in
+    let within = legal_within new.group new.past c.is_legal.ensures in
+    omega (arith, within, t.count, room.left c.if-is_shut_to.ensures.0)
+
+pub take_in-requires-clause-spare : goal.take_in-requires-clause-spare
+take_in-requires-clause-spare g c =
+    let room = c.args.self.now in
+    let place = c.args.place.now in
+    let old = room.room.history in
+    let new = c.work-going.new.self.history in
+    let es = c.since-entries.result.now in
+    let most = work_share c.args.work old.group room.room.lines in
+    let t = taken place.number most c.count-from.result old.past new.past es c.work-going.ensures.adds c.count-from.ensures.count c.since-entries.ensures in
+    let within = legal_within new.group new.past c.is_legal.ensures in
+    let enough = c.most_of.ensures (length es) t.few (omega (arith, within, t.count)) in
+    omega (arith, enough, c.in_ok-reserve.ensures.ok, c.reserve.ensures.len)
+
+pub invariant_of-self-then-not-take_in : goal.invariant_of-self-then-not-take_in
+invariant_of-self-then-not-take_in g c =
+    let room = c.args.self.now in
+    record {
+      of_group = c.take_in.ensures.group ∙ room.of_group;
+      group_is = c.work-going.ensures.room.group ∙ room.group_is;
+      lines_are = c.work-going.ensures.room.lines ∙ room.lines_are;
+      board_is = c.work-going.ensures.room.board ∙ room.board_is;
+      kept = λ e. absurd cc;
+      left = λ e. absurd cc;
+    }
+
+pub returns-then-not-take_in-clause-group : goal.returns-then-not-take_in-clause-group
+returns-then-not-take_in-clause-group g c = refl
+
+pub returns-then-not-take_in-clause-place : goal.returns-then-not-take_in-clause-place
+returns-then-not-take_in-clause-place g c = (c.take_in.ensures.place.0, c.take_in.ensures.place.1)
+
+pub returns-then-not-take_in-clause-share : goal.returns-then-not-take_in-clause-share
+returns-then-not-take_in-clause-share g c =
+    let same = c.if-not-take_in.ensures.puts in
+    (c.take_in.ensures.parts, omega (arith, c.if-not-take_in.ensures.units, ap (λ (p : Place g.row.J.Denot g.J.Naming). length p.mine.items) same, ap length c.reserve.ensures.items))
+
+pub returns-then-not-take_in-clause-entered : goal.returns-then-not-take_in-clause-entered
+returns-then-not-take_in-clause-entered g c = tt
+
+pub returns-then-not-take_in-clause-refused : goal.returns-then-not-take_in-clause-refused
+returns-then-not-take_in-clause-refused g c =
+    let same = c.if-not-take_in.ensures.puts in
+    inl (ap (λ (p : Place g.row.J.Denot g.J.Naming). flat p.seen.log) same, ap (λ (p : Place g.row.J.Denot g.J.Naming). p.mine.items) same ∙ c.reserve.ensures.items)
+
+pub returns-then-not-take_in-clause-grows : goal.returns-then-not-take_in-clause-grows
+returns-then-not-take_in-clause-grows g c =
+    let place = c.args.place.now in
+    let q = c.take_in.new.place in
+    let same = c.if-not-take_in.ensures.puts in
+    look_grows _ (flat place.seen.log) (flat q.seen.log) place.mine.items q.mine.items (subst (λ (p : Place g.row.J.Denot g.J.Naming). IsPrefix (flat place.seen.log) (flat p.seen.log)) (sym same) (prefix_self (flat place.seen.log))) (ap (λ (p : Place g.row.J.Denot g.J.Naming). p.mine.items) same ∙ c.reserve.ensures.items)
+
+pub returns-then-not-take_in-clause-legal : goal.returns-then-not-take_in-clause-legal
+returns-then-not-take_in-clause-legal g c =
+    let same = c.if-not-take_in.ensures.puts in
+    λ legal. subst (λ (p : Place g.row.J.Denot g.J.Naming). IsLegal (g.J.Naming.group c.args.self.now.group) (past_in (flat p.seen.log))) (sym same) legal
+
+pub returns-then-not-take_in-clause-reader : goal.returns-then-not-take_in-clause-reader
+returns-then-not-take_in-clause-reader g c = subst (λ (r : Published). IsPrefix c.args.place.now.reader.proposals r.proposals) (sym c.take_in.ensures.place.2) (prefix_self c.args.place.now.reader.proposals)
+
+pub returns-then-not-take_in-clause-reads : goal.returns-then-not-take_in-clause-reads
+returns-then-not-take_in-clause-reads g c = tt
+
+pub invariant_of-self-else-not-take_in : goal.invariant_of-self-else-not-take_in
+invariant_of-self-else-not-take_in g c =
+    let room = c.args.self.now in
+    let place = c.args.place.now in
+    let old = room.room.history in
+    let new = c.work-going.new.self.history in
+    let es = c.since-entries.result.now in
+    let most = work_share c.args.work old.group room.room.lines in
+    let t = taken place.number most c.count-from.result old.past new.past es c.work-going.ensures.adds c.count-from.ensures.count c.since-entries.ensures in
+    let q = c.take_in.new.place in
+    let puts : Puts place.number es (flat room.makers.seen.log) (flat place.seen.log) place.mine.items (flat q.seen.log) q.mine.items =
+    subst (λ (was : List ℕ). Puts place.number es (flat room.makers.seen.log) (flat place.seen.log) was (flat q.seen.log) q.mine.items) c.reserve.ensures.items c.if-not-take_in.ensures.puts in
+    let line : past_in (flat q.seen.log) ≡ new.past = line_goes place.number most old.past new.past es (flat room.makers.seen.log) (flat q.seen.log) t (room.kept c.if-is_shut_to.ensures.0) puts.1 in
+    let left : c.take_in.new.self.units.amount + length new.past ≡ 200000 = omega (arith, c.if-not-take_in.ensures.units.0, room.left c.if-is_shut_to.ensures.0, t.count) in
+    record {
+      of_group = c.take_in.ensures.group ∙ room.of_group;
+      group_is = c.work-going.ensures.room.group ∙ room.group_is;
+      lines_are = c.work-going.ensures.room.lines ∙ room.lines_are;
+      board_is = c.work-going.ensures.room.board ∙ room.board_is;
+      kept = λ ok. ap (λ l. past_in (flat l)) (sym c.if-not-take_in.ensures.journal) ∙ line;
+      left = λ ok. left;
+    }
+
+pub returns-in_err-going-clause-group : goal.returns-in_err-going-clause-group
+returns-in_err-going-clause-group g c = refl
+
+pub returns-in_err-going-clause-place : goal.returns-in_err-going-clause-place
+returns-in_err-going-clause-place g c = (c.take_in.ensures.place.0, c.take_in.ensures.place.1)
+
+pub returns-in_err-going-clause-share : goal.returns-in_err-going-clause-share
+returns-in_err-going-clause-share g c =
+    let room = c.args.self.now in
+    let place = c.args.place.now in
+    let old = room.room.history in
+    let new = c.work-going.new.self.history in
+    let es = c.since-entries.result.now in
+    let most = work_share c.args.work old.group room.room.lines in
+    let t = taken place.number most c.count-from.result old.past new.past es c.work-going.ensures.adds c.count-from.ensures.count c.since-entries.ensures in
+    let q = c.take_in.new.place in
+    let puts : Puts place.number es (flat room.makers.seen.log) (flat place.seen.log) place.mine.items (flat q.seen.log) q.mine.items =
+    subst (λ (was : List ℕ). Puts place.number es (flat room.makers.seen.log) (flat place.seen.log) was (flat q.seen.log) q.mine.items) c.reserve.ensures.items c.if-not-take_in.ensures.puts in
+    (c.take_in.ensures.parts, puts_share place.number es (flat room.makers.seen.log) (flat place.seen.log) place.mine.items (flat q.seen.log) q.mine.items c.args.share.now.amount c.take_in.new.share.amount puts c.if-not-take_in.ensures.units.1)
+
+pub returns-in_err-going-clause-grows : goal.returns-in_err-going-clause-grows
+returns-in_err-going-clause-grows g c =
+    let room = c.args.self.now in
+    let place = c.args.place.now in
+    let old = room.room.history in
+    let new = c.work-going.new.self.history in
+    let es = c.since-entries.result.now in
+    let most = work_share c.args.work old.group room.room.lines in
+    let t = taken place.number most c.count-from.result old.past new.past es c.work-going.ensures.adds c.count-from.ensures.count c.since-entries.ensures in
+    let q = c.take_in.new.place in
+    let puts : Puts place.number es (flat room.makers.seen.log) (flat place.seen.log) place.mine.items (flat q.seen.log) q.mine.items =
+    subst (λ (was : List ℕ). Puts place.number es (flat room.makers.seen.log) (flat place.seen.log) was (flat q.seen.log) q.mine.items) c.reserve.ensures.items c.if-not-take_in.ensures.puts in
+    rw (← room.group_is, ← room.lines_are) (puts_grows place.number most es (flat room.makers.seen.log) (flat place.seen.log) place.mine.items (flat q.seen.log) q.mine.items t.few puts)
+
+pub returns-in_err-going-clause-legal : goal.returns-in_err-going-clause-legal
+returns-in_err-going-clause-legal g c =
+    let room = c.args.self.now in
+    let place = c.args.place.now in
+    let old = room.room.history in
+    let new = c.work-going.new.self.history in
+    let es = c.since-entries.result.now in
+    let most = work_share c.args.work old.group room.room.lines in
+    let t = taken place.number most c.count-from.result old.past new.past es c.work-going.ensures.adds c.count-from.ensures.count c.since-entries.ensures in
+    let q = c.take_in.new.place in
+    let puts : Puts place.number es (flat room.makers.seen.log) (flat place.seen.log) place.mine.items (flat q.seen.log) q.mine.items =
+    subst (λ (was : List ℕ). Puts place.number es (flat room.makers.seen.log) (flat place.seen.log) was (flat q.seen.log) q.mine.items) c.reserve.ensures.items c.if-not-take_in.ensures.puts in
+    let line : past_in (flat q.seen.log) ≡ new.past = line_goes place.number most old.past new.past es (flat room.makers.seen.log) (flat q.seen.log) t (room.kept c.if-is_shut_to.ensures.0) puts.1 in
+    λ _. legal_taught (g.J.Naming.group room.group) new.group (flat q.seen.log) new.past line (c.work-going.ensures.room.group ∙ room.group_is) c.is_legal.ensures
+
+pub returns-in_err-going-clause-entered : goal.returns-in_err-going-clause-entered
+returns-in_err-going-clause-entered g c = IfOk-from_err c.from_residual-in_err-going.result _ c.from_residual-in_err-going.ensures.0
+
+pub returns-in_err-going-clause-refused : goal.returns-in_err-going-clause-refused
+returns-in_err-going-clause-refused g c =
+    let room = c.args.self.now in
+    let place = c.args.place.now in
+    let old = room.room.history in
+    let new = c.work-going.new.self.history in
+    let es = c.since-entries.result.now in
+    let most = work_share c.args.work old.group room.room.lines in
+    let t = taken place.number most c.count-from.result old.past new.past es c.work-going.ensures.adds c.count-from.ensures.count c.since-entries.ensures in
+    let q = c.take_in.new.place in
+    let puts : Puts place.number es (flat room.makers.seen.log) (flat place.seen.log) place.mine.items (flat q.seen.log) q.mine.items =
+    subst (λ (was : List ℕ). Puts place.number es (flat room.makers.seen.log) (flat place.seen.log) was (flat q.seen.log) q.mine.items) c.reserve.ensures.items c.if-not-take_in.ensures.puts in
+    let course : List Entry → _ = course_at place.number c.args.work old.group room.room.lines in
+    on_err c.from_residual-in_err-going.result (inr (rw (← room.group_is, ← room.lines_are) (enters_part course place.number most old.past new.past es (flat room.makers.seen.log) (flat place.seen.log) place.mine.items (flat q.seen.log) q.mine.items c.work-going.ensures.part t (room.kept c.if-is_shut_to.ensures.0) puts)))
+
+pub returns-in_err-going-clause-reader : goal.returns-in_err-going-clause-reader
+returns-in_err-going-clause-reader g c = subst (λ (r : Published). IsPrefix c.args.place.now.reader.proposals r.proposals) (sym c.take_in.ensures.place.2) (prefix_self c.args.place.now.reader.proposals)
+
+pub returns-in_err-going-clause-reads : goal.returns-in_err-going-clause-reads
+returns-in_err-going-clause-reads g c = IfOk-from_err c.from_residual-in_err-going.result _ c.from_residual-in_err-going.ensures.0
+
+pub invariant_of-self-2 : goal.invariant_of-self-2
+invariant_of-self-2 g c =
+    let room = c.args.self.now in
+    let place = c.args.place.now in
+    let old = room.room.history in
+    let new = c.work-going.new.self.history in
+    let es = c.since-entries.result.now in
+    let most = work_share c.args.work old.group room.room.lines in
+    let t = taken place.number most c.count-from.result old.past new.past es c.work-going.ensures.adds c.count-from.ensures.count c.since-entries.ensures in
+    let q = c.take_in.new.place in
+    let puts : Puts place.number es (flat room.makers.seen.log) (flat place.seen.log) place.mine.items (flat q.seen.log) q.mine.items =
+    subst (λ (was : List ℕ). Puts place.number es (flat room.makers.seen.log) (flat place.seen.log) was (flat q.seen.log) q.mine.items) c.reserve.ensures.items c.if-not-take_in.ensures.puts in
+    let line : past_in (flat q.seen.log) ≡ new.past = line_goes place.number most old.past new.past es (flat room.makers.seen.log) (flat q.seen.log) t (room.kept c.if-is_shut_to.ensures.0) puts.1 in
+    let left : c.take_in.new.self.units.amount + length new.past ≡ 200000 = omega (arith, c.if-not-take_in.ensures.units.0, room.left c.if-is_shut_to.ensures.0, t.count) in
+    record {
+      of_group = c.take_in.ensures.group ∙ room.of_group;
+      group_is = c.work-going.ensures.room.group ∙ room.group_is;
+      lines_are = c.work-going.ensures.room.lines ∙ room.lines_are;
+      board_is = c.work-going.ensures.room.board ∙ room.board_is;
+      kept = λ ok. ap (λ l. past_in (flat l)) (sym c.if-not-take_in.ensures.journal) ∙ line;
+      left = λ ok. left;
+    }
+
+pub target-requires : goal.target-requires
+target-requires g c =
+    let still_open : c.work-going.new.self.spent ≡ false = ok_open c.work-going.result c.in_ok-going.going c.in_ok-going.was c.work-going.ensures.open in
+    still_open
+
+pub learn-requires-clause-book : goal.learn-requires-clause-book
+learn-requires-clause-book g c =
+    let room = c.args.self.now in
+    let place = c.args.place.now in
+    ap (λ (p : Published). p.book) c.note.ensures.published ∙ (c.work-going.ensures.room.board ∙ (room.board_is ∙ (ap g.J.Naming.board (sym c.requires.group) ∙ (sym place.reads ∙ ap (λ (p : Published). p.book) (sym c.take_in.ensures.place.2)))))
+
+pub learn-requires-clause-target : goal.learn-requires-clause-target
+learn-requires-clause-target g c = subst (λ (p : Published). IsMergeOf p.group p.proposals c.target.result.now) (sym c.note.ensures.published) c.target.ensures
+
+pub invariant_of-place-2 : goal.invariant_of-place-2
+invariant_of-place-2 g c =
+    let q = c.take_in.new.place in
+    record {
+      named = q.named;
+      counted = q.counted;
+      made = q.made;
+      asked = q.asked;
+      reads = c.learn-2.ensures.book ∙ q.reads;
+      reads_group = c.learn-2.ensures.group ∙ q.reads_group;
+    }
+
+pub invariant_of-self-3 : goal.invariant_of-self-3
+invariant_of-self-3 g c =
+    let room = c.args.self.now in
+    let place = c.args.place.now in
+    let old = room.room.history in
+    let new = c.work-going.new.self.history in
+    let es = c.since-entries.result.now in
+    let most = work_share c.args.work old.group room.room.lines in
+    let t = taken place.number most c.count-from.result old.past new.past es c.work-going.ensures.adds c.count-from.ensures.count c.since-entries.ensures in
+    let q = c.take_in.new.place in
+    let puts : Puts place.number es (flat room.makers.seen.log) (flat place.seen.log) place.mine.items (flat q.seen.log) q.mine.items =
+    subst (λ (was : List ℕ). Puts place.number es (flat room.makers.seen.log) (flat place.seen.log) was (flat q.seen.log) q.mine.items) c.reserve.ensures.items c.if-not-take_in.ensures.puts in
+    let line : past_in (flat q.seen.log) ≡ new.past = line_goes place.number most old.past new.past es (flat room.makers.seen.log) (flat q.seen.log) t (room.kept c.if-is_shut_to.ensures.0) puts.1 in
+    let left : c.take_in.new.self.units.amount + length new.past ≡ 200000 = omega (arith, c.if-not-take_in.ensures.units.0, room.left c.if-is_shut_to.ensures.0, t.count) in
+    record {
+      of_group = c.take_in.ensures.group ∙ room.of_group;
+      group_is = c.work-going.ensures.room.group ∙ room.group_is;
+      lines_are = c.work-going.ensures.room.lines ∙ room.lines_are;
+      board_is = c.work-going.ensures.room.board ∙ room.board_is;
+      kept = λ ok. ap (λ l. past_in (flat l)) (sym c.if-not-take_in.ensures.journal) ∙ line;
+      left = λ ok. left;
+    }
+
+pub returns-clause-group : goal.returns-clause-group
+returns-clause-group g c = refl
+
+pub returns-clause-place : goal.returns-clause-place
+returns-clause-place g c = (c.take_in.ensures.place.0, c.take_in.ensures.place.1)
+
+pub returns-clause-share : goal.returns-clause-share
+returns-clause-share g c =
+    let room = c.args.self.now in
+    let place = c.args.place.now in
+    let old = room.room.history in
+    let new = c.work-going.new.self.history in
+    let es = c.since-entries.result.now in
+    let most = work_share c.args.work old.group room.room.lines in
+    let t = taken place.number most c.count-from.result old.past new.past es c.work-going.ensures.adds c.count-from.ensures.count c.since-entries.ensures in
+    let q = c.take_in.new.place in
+    let puts : Puts place.number es (flat room.makers.seen.log) (flat place.seen.log) place.mine.items (flat q.seen.log) q.mine.items =
+    subst (λ (was : List ℕ). Puts place.number es (flat room.makers.seen.log) (flat place.seen.log) was (flat q.seen.log) q.mine.items) c.reserve.ensures.items c.if-not-take_in.ensures.puts in
+    (c.take_in.ensures.parts, puts_share place.number es (flat room.makers.seen.log) (flat place.seen.log) place.mine.items (flat q.seen.log) q.mine.items c.args.share.now.amount c.take_in.new.share.amount puts c.if-not-take_in.ensures.units.1)
+
+pub returns-clause-grows : goal.returns-clause-grows
+returns-clause-grows g c =
+    let room = c.args.self.now in
+    let place = c.args.place.now in
+    let old = room.room.history in
+    let new = c.work-going.new.self.history in
+    let es = c.since-entries.result.now in
+    let most = work_share c.args.work old.group room.room.lines in
+    let t = taken place.number most c.count-from.result old.past new.past es c.work-going.ensures.adds c.count-from.ensures.count c.since-entries.ensures in
+    let q = c.take_in.new.place in
+    let puts : Puts place.number es (flat room.makers.seen.log) (flat place.seen.log) place.mine.items (flat q.seen.log) q.mine.items =
+    subst (λ (was : List ℕ). Puts place.number es (flat room.makers.seen.log) (flat place.seen.log) was (flat q.seen.log) q.mine.items) c.reserve.ensures.items c.if-not-take_in.ensures.puts in
+    rw (← room.group_is, ← room.lines_are) (puts_grows place.number most es (flat room.makers.seen.log) (flat place.seen.log) place.mine.items (flat q.seen.log) q.mine.items t.few puts)
+
+pub returns-clause-legal : goal.returns-clause-legal
+returns-clause-legal g c =
+    let room = c.args.self.now in
+    let place = c.args.place.now in
+    let old = room.room.history in
+    let new = c.work-going.new.self.history in
+    let es = c.since-entries.result.now in
+    let most = work_share c.args.work old.group room.room.lines in
+    let t = taken place.number most c.count-from.result old.past new.past es c.work-going.ensures.adds c.count-from.ensures.count c.since-entries.ensures in
+    let q = c.take_in.new.place in
+    let puts : Puts place.number es (flat room.makers.seen.log) (flat place.seen.log) place.mine.items (flat q.seen.log) q.mine.items =
+    subst (λ (was : List ℕ). Puts place.number es (flat room.makers.seen.log) (flat place.seen.log) was (flat q.seen.log) q.mine.items) c.reserve.ensures.items c.if-not-take_in.ensures.puts in
+    let line : past_in (flat q.seen.log) ≡ new.past = line_goes place.number most old.past new.past es (flat room.makers.seen.log) (flat q.seen.log) t (room.kept c.if-is_shut_to.ensures.0) puts.1 in
+    λ _. legal_taught (g.J.Naming.group room.group) new.group (flat q.seen.log) new.past line (c.work-going.ensures.room.group ∙ room.group_is) c.is_legal.ensures
+
+pub returns-clause-entered : goal.returns-clause-entered
+returns-clause-entered g c =
+    let room = c.args.self.now in
+    let place = c.args.place.now in
+    let old = room.room.history in
+    let new = c.work-going.new.self.history in
+    let es = c.since-entries.result.now in
+    let most = work_share c.args.work old.group room.room.lines in
+    let t = taken place.number most c.count-from.result old.past new.past es c.work-going.ensures.adds c.count-from.ensures.count c.since-entries.ensures in
+    let q = c.take_in.new.place in
+    let puts : Puts place.number es (flat room.makers.seen.log) (flat place.seen.log) place.mine.items (flat q.seen.log) q.mine.items =
+    subst (λ (was : List ℕ). Puts place.number es (flat room.makers.seen.log) (flat place.seen.log) was (flat q.seen.log) q.mine.items) c.reserve.ensures.items c.if-not-take_in.ensures.puts in
+    let course : List Entry → _ = course_at place.number c.args.work old.group room.room.lines in
+    rw (← room.group_is, ← room.lines_are) (enters_all c.work-going.result c.in_ok-going.going course place.number most old.past new.past es (flat room.makers.seen.log) (flat place.seen.log) place.mine.items (flat q.seen.log) q.mine.items c.in_ok-going.was c.work-going.ensures.ok c.work-going.ensures.full t (room.kept c.if-is_shut_to.ensures.0) puts)
+
+pub returns-clause-refused : goal.returns-clause-refused
+returns-clause-refused g c = tt
+
+pub returns-clause-reader : goal.returns-clause-reader
+returns-clause-reader g c = subst (λ (r : Published). IsPrefix r.proposals c.learn-2.new.self.proposals) c.take_in.ensures.place.2 c.learn-2.ensures.mine
+
+pub returns-clause-reads : goal.returns-clause-reads
+returns-clause-reads g c =
+    let room = c.args.self.now in
+    let place = c.args.place.now in
+    let old = room.room.history in
+    let new = c.work-going.new.self.history in
+    let es = c.since-entries.result.now in
+    let most = work_share c.args.work old.group room.room.lines in
+    let t = taken place.number most c.count-from.result old.past new.past es c.work-going.ensures.adds c.count-from.ensures.count c.since-entries.ensures in
+    let q = c.take_in.new.place in
+    let puts : Puts place.number es (flat room.makers.seen.log) (flat place.seen.log) place.mine.items (flat q.seen.log) q.mine.items =
+    subst (λ (was : List ℕ). Puts place.number es (flat room.makers.seen.log) (flat place.seen.log) was (flat q.seen.log) q.mine.items) c.reserve.ensures.items c.if-not-take_in.ensures.puts in
+    let line : past_in (flat q.seen.log) ≡ new.past = line_goes place.number most old.past new.past es (flat room.makers.seen.log) (flat q.seen.log) t (room.kept c.if-is_shut_to.ensures.0) puts.1 in
+    let still_open : c.work-going.new.self.spent ≡ false = ok_open c.work-going.result c.in_ok-going.going c.in_ok-going.was c.work-going.ensures.open in
+    reads_taught (flat q.seen.log) new.past c.note.result.proposals c.learn-2.new.self.proposals line (c.note.ensures.whole still_open) c.learn-2.ensures.note

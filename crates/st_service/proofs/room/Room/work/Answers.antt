@@ -1,0 +1,112 @@
+use Rattle.std.proofs.Common.{◌≡◌, ◌≢◌, true, false, length, ap, sym, subst, ◌∙◌}
+use Rattle.st_event.specs.Legal.{IsLegal}
+use Rattle.st_event.specs.Proposals.{accepted, first_rows, pending}
+use Rattle.st_service.specs.Rooms.{Adds, RoomView}
+use Rattle.st_service.specs.Shares.{work_share}
+use Rattle.st_service.specs.Works.{WorkFits, decides}
+use Rattle.st_service.proofs.CourseLaws.{work-ran, same_version, next_version, went_adds}
+use Rattle.st_service.proofs.RoomLaws.{work_went, work_full, room_stands, room_publishes, room_spends, next_few, legal_before, rows_fit}
+use Rattle.st_service.proofs.room.Room.work.Goals as goal
+
+pub invariant_of-self : goal.invariant_of-self
+invariant_of-self g c =
+    let old = c.self.inside.world in
+    let new = c.enter-going.new.world in
+    let fits : WorkFits c.args.work old.history.group = subst (λ (r : RoomView). WorkFits c.args.work r.history.group) (sym c.self.view_is) c.requires.fits in
+    let went = work_went c.enter-going.result c.args.number c.args.work old new c.enter-going.ensures.ok c.enter-going.ensures.err fits in
+    let same : length (accepted new.history.past) ≡ length (accepted old.history.past) = sym c.version_of.ensures ∙ (c.if-version_of-version.true ∙ c.version_of-version.ensures) in
+    room_stands old.history new.history c.self.inside.held.board c.self.inside.spent c.enter-going.ensures.plant.group
+    (same_version (decides c.args.work) new.history.group c.args.number (work_share c.args.work old.history.group old.lines) old.history.past new.history.past went c.is_legal.ensures.legal same) c.self.invariant
+
+pub invariant_of-self-in-Ok : goal.invariant_of-self-in-Ok
+invariant_of-self-in-Ok g c =
+    let old = c.self.inside.world in
+    let new = c.enter-going.new.world in
+    let board = c.self.inside.held.board in
+    let fits : WorkFits c.args.work old.history.group = subst (λ (r : RoomView). WorkFits c.args.work r.history.group) (sym c.self.view_is) c.requires.fits in
+    let went = work_went c.enter-going.result c.args.number c.args.work old new c.enter-going.ensures.ok c.enter-going.ensures.err fits in
+    let apart : length (accepted new.history.past) ≢ length (accepted old.history.past) = λ e. c.if-version_of-version.false (c.version_of.ensures ∙ (e ∙ sym c.version_of-version.ensures)) in
+    let next = next_version (decides c.args.work) new.history.group c.args.number (work_share c.args.work old.history.group old.lines) old.history.past new.history.past went c.is_legal.ensures.legal apart in
+    let rows : c.as_slice.result.now ≡ first_rows (pending old.history.past) = c.as_slice.ensures ∙ (c.in_ok-rows.ensures next.0 ∙ ap (λ (r : RoomView). first_rows (pending r.history.past)) (sym c.self.view_is)) in
+    let going : c.self.inside.spent ≡ false = ap (λ (r : RoomView). r.spent) c.self.view_is ∙ c.requires.open in
+    room_publishes old.history new.history board c.publish.new.self c.self.inside.spent c.as_slice.result.now c.enter-going.ensures.plant.group next.1 rows c.in-Ok.ensures.ok going c.self.invariant
+
+pub invariant_of-self-in-Err : goal.invariant_of-self-in-Err
+invariant_of-self-in-Err g c =
+    let old = c.self.inside.world in
+    let new = c.enter-going.new.world in
+    let fits : WorkFits c.args.work old.history.group = subst (λ (r : RoomView). WorkFits c.args.work r.history.group) (sym c.self.view_is) c.requires.fits in
+    let went = work_went c.enter-going.result c.args.number c.args.work old new c.enter-going.ensures.ok c.enter-going.ensures.err fits in
+    let apart : length (accepted new.history.past) ≢ length (accepted old.history.past) = λ e. c.if-version_of-version.false (c.version_of.ensures ∙ (e ∙ sym c.version_of-version.ensures)) in
+    let next = next_version (decides c.args.work) new.history.group c.args.number (work_share c.args.work old.history.group old.lines) old.history.past new.history.past went c.is_legal.ensures.legal apart in
+    room_spends old.history new.history c.self.inside.held.board c.publish.new.self c.self.inside.spent c.enter-going.ensures.plant.group next.1 c.in-Err.ensures.err c.self.invariant
+
+pub publish-requires-clause-fits : goal.publish-requires-clause-fits
+publish-requires-clause-fits g c =
+    let old = c.self.inside.world in
+    let new = c.enter-going.new.world in
+    let fits : WorkFits c.args.work old.history.group = subst (λ (r : RoomView). WorkFits c.args.work r.history.group) (sym c.self.view_is) c.requires.fits in
+    let went = work_went c.enter-going.result c.args.number c.args.work old new c.enter-going.ensures.ok c.enter-going.ensures.err fits in
+    let apart : length (accepted new.history.past) ≢ length (accepted old.history.past) = λ e. c.if-version_of-version.false (c.version_of.ensures ∙ (e ∙ sym c.version_of-version.ensures)) in
+    let next = next_version (decides c.args.work) new.history.group c.args.number (work_share c.args.work old.history.group old.lines) old.history.past new.history.past went c.is_legal.ensures.legal apart in
+    let legal : IsLegal new.history.group old.history.past = legal_before new.history.group went.more old.history.past (subst (IsLegal new.history.group) went.all c.is_legal.ensures.legal) in
+    let rows : decides c.args.work ≡ true → c.in_ok-rows.rows ≡ first_rows (pending old.history.past) = λ d. c.in_ok-rows.ensures d ∙ ap (λ (r : RoomView). first_rows (pending r.history.past)) (sym c.self.view_is) in
+    rows_fit new.history.group c.self.inside.held.board.group (decides c.args.work) old.history.past c.as_slice.result.now c.in_ok-rows.rows (c.self.invariant.group ∙ sym c.enter-going.ensures.plant.group) next.0 rows c.as_slice.ensures legal
+
+pub publish-requires-clause-room : goal.publish-requires-clause-room
+publish-requires-clause-room g c =
+    let old = c.self.inside.world in
+    let new = c.enter-going.new.world in
+    let fits : WorkFits c.args.work old.history.group = subst (λ (r : RoomView). WorkFits c.args.work r.history.group) (sym c.self.view_is) c.requires.fits in
+    let went = work_went c.enter-going.result c.args.number c.args.work old new c.enter-going.ensures.ok c.enter-going.ensures.err fits in
+    let apart : length (accepted new.history.past) ≢ length (accepted old.history.past) = λ e. c.if-version_of-version.false (c.version_of.ensures ∙ (e ∙ sym c.version_of-version.ensures)) in
+    let next = next_version (decides c.args.work) new.history.group c.args.number (work_share c.args.work old.history.group old.lines) old.history.past new.history.past went c.is_legal.ensures.legal apart in
+    let going : c.self.inside.spent ≡ false = ap (λ (r : RoomView). r.spent) c.self.view_is ∙ c.requires.open in
+    next_few new.history.group old.history new.history c.self.inside.held.board c.self.inside.spent next.1 c.is_legal.ensures.legal going c.self.invariant
+
+pub returns-in_err-rows-clause-part : goal.returns-in_err-rows-clause-part
+returns-in_err-rows-clause-part g c =
+    let h = c.args.self.now in
+    let ran = work-ran c.args.work c.args.number h.history.group h.lines h.history.past c.requires.fits in
+    (ran.more, ran.all)
+
+pub returns-then-version_of-version-clause-full : goal.returns-then-version_of-version-clause-full
+returns-then-version_of-version-clause-full g c =
+    let old = c.self.inside.world in
+    let new = c.enter-going.new.world in
+    let fits : WorkFits c.args.work old.history.group = subst (λ (r : RoomView). WorkFits c.args.work r.history.group) (sym c.self.view_is) c.requires.fits in
+    work_full c.enter-going.result c.args.number c.args.work old new c.enter-going.ensures.ok fits c.is_legal.ensures.legal
+
+pub returns-in-Ok-clause-full : goal.returns-in-Ok-clause-full
+returns-in-Ok-clause-full g c =
+    let old = c.self.inside.world in
+    let new = c.enter-going.new.world in
+    let fits : WorkFits c.args.work old.history.group = subst (λ (r : RoomView). WorkFits c.args.work r.history.group) (sym c.self.view_is) c.requires.fits in
+    work_full c.enter-going.result c.args.number c.args.work old new c.enter-going.ensures.ok fits c.is_legal.ensures.legal
+
+pub returns-then-version_of-version-clause-adds : goal.returns-then-version_of-version-clause-adds
+returns-then-version_of-version-clause-adds g c =
+    let old = c.self.inside.world in
+    let new = c.enter-going.new.world in
+    let fits : WorkFits c.args.work old.history.group = subst (λ (r : RoomView). WorkFits c.args.work r.history.group) (sym c.self.view_is) c.requires.fits in
+    let went = work_went c.enter-going.result c.args.number c.args.work old new c.enter-going.ensures.ok c.enter-going.ensures.err fits in
+    subst (λ (r : RoomView). Adds c.args.number (work_share c.args.work r.history.group r.lines) r.history.past new.history.past) c.self.view_is
+    (went_adds (decides c.args.work) c.args.number (work_share c.args.work old.history.group old.lines) old.history.past new.history.past went)
+
+pub returns-in-Ok-clause-adds : goal.returns-in-Ok-clause-adds
+returns-in-Ok-clause-adds g c =
+    let old = c.self.inside.world in
+    let new = c.enter-going.new.world in
+    let fits : WorkFits c.args.work old.history.group = subst (λ (r : RoomView). WorkFits c.args.work r.history.group) (sym c.self.view_is) c.requires.fits in
+    let went = work_went c.enter-going.result c.args.number c.args.work old new c.enter-going.ensures.ok c.enter-going.ensures.err fits in
+    subst (λ (r : RoomView). Adds c.args.number (work_share c.args.work r.history.group r.lines) r.history.past new.history.past) c.self.view_is
+    (went_adds (decides c.args.work) c.args.number (work_share c.args.work old.history.group old.lines) old.history.past new.history.past went)
+
+pub returns-clause-adds : goal.returns-clause-adds
+returns-clause-adds g c =
+    let old = c.self.inside.world in
+    let new = c.enter-going.new.world in
+    let fits : WorkFits c.args.work old.history.group = subst (λ (r : RoomView). WorkFits c.args.work r.history.group) (sym c.self.view_is) c.requires.fits in
+    let went = work_went c.enter-going.result c.args.number c.args.work old new c.enter-going.ensures.ok c.enter-going.ensures.err fits in
+    subst (λ (r : RoomView). Adds c.args.number (work_share c.args.work r.history.group r.lines) r.history.past new.history.past) c.self.view_is
+    (went_adds (decides c.args.work) c.args.number (work_share c.args.work old.history.group old.lines) old.history.past new.history.past went)

@@ -1,0 +1,16 @@
+pub mod Rules
+pub mod Made
+pub mod Lines
+pub mod Tickets
+pub mod Rooms
+pub mod Works
+pub mod Shares
+pub mod Puts
+pub mod Passes
+pub mod Kept
+pub mod Turns
+pub mod Awaits
+pub mod Asked
+pub mod Acts
+pub mod Closed
+pub mod Opened

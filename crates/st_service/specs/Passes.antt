@@ -1,0 +1,43 @@
+-- What contracts see of a pass.
+use Rattle.std.specs.Prelude.{◌≡◌, ℕ, false, List, [], ◌∷◌, ◌++◌, length, slice_index_or}
+use mathlib.Core.List.{IsPrefix}
+use Rattle.st_net.specs.declared.entity.Entity.{Entity}
+use Rattle.st_net.specs.declared.entity.Var.{Var}
+use Rattle.st_net.specs.Groups.{Group}
+use Rattle.st_net.specs.Merge.{merge_of}
+use Rattle.st_event.specs.declared.act.LogSaw.TheVariants.{Seen}
+use Rattle.st_board.specs.Posts.{no_group}
+use Rattle.st_event.specs.declared.act.LogEntry.{LogEntry}
+use Rattle.st_board.specs.Published.{Published}
+use Rattle.st_event.specs.Proposals.{accepted}
+use Rattle.st_service.specs.Made.{Made, past_in}
+
+-- its number; for each room the beginning of the journal that it has seen, the places of the entries that it made there, and its reader's front; and
+-- its log
+pub record Holder : Type 0 where
+  pub number : ℕ
+  pub fronts : List (List Made)
+  pub mines : List (List ℕ)
+  pub readers : List Published
+  pub log : List LogEntry
+
+abbrev pub front_at : List (List Made) → ℕ → List Made
+front_at fronts g = slice_index_or fronts g []
+
+abbrev pub mine_at : List (List ℕ) → ℕ → List ℕ
+mine_at mines g = slice_index_or mines g []
+
+abbrev pub no_reader : Published
+no_reader = record { book = record { number = 0; log_name = 0; cells_name = 0 }; group = no_group; proposals = []; ended = false }
+
+abbrev pub reader_at : List Published → ℕ → Published
+reader_at readers n = slice_index_or readers n no_reader
+
+-- a read: the reader's front goes on, and the log gets its version and the variable's value in its merge
+pub record Reads (g : Group) (n : ℕ) (entity : Entity) (var : Var) (old new : Holder) : Type 0 where
+  pub later : IsPrefix (reader_at old.readers n).proposals (reader_at new.readers n).proposals
+  pub log : new.log ≡ old.log ++ record { group = n; entity = entity; var = var; saw = Seen (length (reader_at new.readers n).proposals) (merge_of g (reader_at new.readers n).proposals entity var) } ∷ []
+
+-- what its front of a room accepts begins what its reader has
+abbrev pub IsTaught : Holder → ℕ → Type 0
+IsTaught p n = IsPrefix (accepted (past_in (front_at p.fronts n))) (reader_at p.readers n).proposals

@@ -1,0 +1,78 @@
+-- What a pass enters under one hold of a room's lock: its course of events, and how many entries that makes at the most.
+use Rattle.std.specs.Prelude.{◌≡◌, ℕ, ◌≤◌, Bool, true, false, nat_le, List, length, if◌then◌else◌}
+use Rattle.st_net.specs.declared.entity.Entity.{Entity}
+use Rattle.st_net.specs.Groups.{Group, IsEntityOf}
+use Rattle.st_event.specs.declared.act.Act.{Act}
+use Rattle.st_event.specs.declared.act.Act.TheVariants.{Propose, Await, Settle, Lock, Unlock, Read, ReadAt, Fail, Poll}
+use Rattle.st_event.specs.declared.event.Event.TheVariants.{Check}
+use Rattle.st_event.specs.declared.journal.Entry.{Entry}
+use Rattle.st_event.specs.Proposals.{deciders, proposals}
+use Rattle.st_wire.specs.declared.line.WireLine.{WireLine}
+use Rattle.st_world.specs.Acts.{ActFits, course_of}
+use Rattle.st_world.specs.Rounds.{Run, run_from, enter, update_turn, poll, turn}
+use Rattle.st_service.specs.declared.work.Part.{Part}
+use Rattle.st_service.specs.declared.work.Part.TheVariants.{Whole, Update, Monitor}
+use Rattle.st_service.specs.declared.work.Work.{Work}
+use Rattle.st_service.specs.declared.work.Work.TheVariants.{OneAct, CheckFor, Turn}
+
+-- the ticket is decided in this journal
+abbrev pub IsDecided : ℕ → List Entry → Type 0
+IsDecided ticket past = ticket ≤ length (deciders past)
+
+-- the ticket was given to a proposal
+abbrev pub IsGiven : ℕ → List Entry → Type 0
+IsGiven ticket past = ticket ≤ length (proposals past)
+
+abbrev pub is_decided : ℕ → List Entry → Bool
+is_decided ticket past = nat_le ticket (length (deciders past))
+
+-- an entity's turn, or a half of it
+abbrev pub part_of : Part → Group → List WireLine → Run → Entity → Run
+part_of Whole g lines run e = turn g lines run e
+part_of Update g lines run e = update_turn g lines run e
+part_of Monitor g lines run e = poll g lines run e
+
+-- a check, unless the ticket is decided
+abbrev pub check_course : ℕ → Group → List Entry → Run
+check_course ticket g past = if is_decided ticket past then run_from past else enter g (run_from past) Check
+
+-- the course of a work of the pass of this number, where this is the journal: an act's own course; a check, unless the ticket is decided; an
+-- entity's turn
+abbrev pub course_at : ℕ → Work → Group → List WireLine → List Entry → Run
+course_at number (OneAct act) g lines past = course_of (record { 0 = number }) act.now g lines (run_from past)
+course_at number (CheckFor ticket) g lines past = check_course ticket g past
+course_at number (Turn part entity) g lines past = part_of part g lines (run_from past) entity
+
+-- an act that is made under one hold
+abbrev pub is_of_one_hold : Act → Bool
+is_of_one_hold (Propose n rows) = true
+is_of_one_hold (Await n) = false
+is_of_one_hold (Settle n rounds) = false
+is_of_one_hold (Lock n entity prio) = true
+is_of_one_hold (Unlock n entity prio) = true
+is_of_one_hold (Read n entity var) = false
+is_of_one_hold (ReadAt n version entity var) = false
+is_of_one_hold (Fail n entity health rows) = true
+is_of_one_hold (Poll n entity) = true
+
+abbrev pub WorkFits : Work → Group → Type 0
+WorkFits (OneAct act) g = ActFits act.now g × (is_of_one_hold act.now ≡ true)
+WorkFits (CheckFor ticket) g = Unit {0}
+WorkFits (Turn part entity) g = IsEntityOf g entity
+
+-- an act that may make a check, and a work
+abbrev pub act_decides : Act → Bool
+act_decides (Propose n rows) = true
+act_decides (Await n) = false
+act_decides (Settle n rounds) = false
+act_decides (Lock n entity prio) = false
+act_decides (Unlock n entity prio) = false
+act_decides (Read n entity var) = false
+act_decides (ReadAt n version entity var) = false
+act_decides (Fail n entity health rows) = false
+act_decides (Poll n entity) = false
+
+abbrev pub decides : Work → Bool
+decides (OneAct act) = act_decides act.now
+decides (CheckFor ticket) = true
+decides (Turn part entity) = false

@@ -1,0 +1,30 @@
+//! The rooms of all groups behind their locks, and the passes by which threads work in them. The top call starts a service over worlds,
+//! hands each job a pass, and takes journals and logs when it closes.
+#![tactic(auto)]
+
+mod acts;
+mod awaits;
+mod close;
+mod ended;
+mod line;
+mod locked;
+mod makers;
+mod naming;
+mod pass;
+mod place;
+mod room;
+mod rounds;
+mod service;
+mod start;
+mod work;
+
+pub use acts::Acted;
+pub use close::Closed;
+pub use line::JournalLine;
+pub use naming::Naming;
+pub use pass::Pass;
+pub use service::{MAX_ROOMS, Service};
+pub use start::RoomLines;
+
+#[cfg(test)]
+mod tests;

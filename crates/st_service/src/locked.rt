@@ -1,0 +1,148 @@
+//! What lies under a room's lock: the room, and the line that tells which pass made each entry of its journal. Every hold of the lock is a
+//! call of this type, which is lent a pass's place.
+
+ghost use Rattle.std.specs.Prelude.{◌≡◌, ◌+◌, ◌<◌, true, false, ◌≤◌, length, IfOk, OnErr, MatchBool};
+ghost use mathlib.Core.List.{IsPrefix};
+ghost use Rattle.st_net.specs.Groups.{IsEntityOf};
+ghost use Rattle.st_event.specs.Legal.{IsLegal};
+ghost use Rattle.st_event.specs.Proposals.{accepted};
+ghost use Rattle.st_world.specs.Acts.{seen_at as seen_at_lem};
+ghost use Rattle.st_world.specs.Rounds.{unsettled as unsettled_lem};
+ghost use Rattle.st_service.specs.Kept.{Grows};
+ghost use Rattle.st_service.specs.Lines.{flat};
+ghost use Rattle.st_service.specs.Made.{past_in};
+ghost use Rattle.st_service.specs.Puts.{Enters, EntersOrNot};
+ghost use Rattle.st_service.specs.Shares.{work_share};
+ghost use Rattle.st_service.specs.Works.{WorkFits, course_at};
+
+use crate::makers::Makers;
+use crate::naming::Naming;
+use crate::place::Place;
+use crate::room::Room;
+use crate::work::Work;
+use st_event::LogSaw;
+use st_net::{Entity, Var};
+use st_world::Going;
+use std::alloc::{AllocError, Global};
+use std::sync::Wait;
+use std::sync::ledger::{Ledger, Share};
+
+/// A room with the line of its journal.
+#[derive(Drop)]
+pub struct Locked<J: Naming, L: Ledger, H: Wait + Drop> {
+    pub group: usize,
+    pub room: Room<H>,
+    pub makers: Makers<J, L>,
+    /// The line lacks an entry: nothing more is entered. No run gets here, since the line is this room's alone.
+    pub lost: bool,
+    pub ghost of_group: { makers.group ≡ group },
+    pub ghost group_is: { room.history.group ≡ J.group group },
+    pub ghost lines_are: { room.lines ≡ J.lines group },
+    pub ghost board_is: { room.published.book ≡ J.board group },
+    pub ghost kept: { lost ≡ false → past_in (flat makers.seen.log) ≡ room.history.past },
+    pub ghost left: { lost ≡ false → makers.units.amount + length room.history.past ≡ 200000 },
+}
+
+impl<J: Naming, L: Ledger, H: Wait + Drop> Locked<J, L, H> {
+    /// Whether nothing more is entered here, or the place has seen more than there is, as none has.
+    fn is_shut_to(&self, place: &Place<J>) -> bool
+        ensures { MatchBool result (Unit {0}) ((self.now.lost ≡ false) × (self.now.room.spent ≡ false) × (place.now.batches ≤ self.now.makers.batches)) }
+    {
+        self.lost || self.room.is_spent() || place.batches > self.makers.batches
+    }
+
+    /// Does a work for a pass, and teaches it the journal and what is published. At `Full` an event met a full journal; then, and at
+    /// `Err`, a part of the events was entered, from the first, and stands. What was entered is the pass's, whatever the answer.
+    pub fn work(
+        &mut self,
+        alloc: Global,
+        place: &mut Place<J>,
+        share: &mut Share<L>,
+        work: Work<'_>,
+    ) -> Result<Going, AllocError>
+        requires group { place.old.group ≡ self.old.group }
+        requires part { 0 < share.old.parts }
+        requires fits { WorkFits work (J.group self.old.group) }
+        ensures group { self.new.group ≡ self.old.group }
+        ensures place { (place.new.group ≡ place.old.group) × (place.new.number ≡ place.old.number) }
+        ensures share { (share.new.parts ≡ share.old.parts) × (share.new.amount + length place.old.mine.items ≡ share.old.amount + length place.new.mine.items) }
+        ensures entered { IfOk result (λ going. Enters (course_at place.old.number work.entry (J.group self.old.group) (J.lines self.old.group)) going place.old.number (flat self.old.makers.seen.log) (flat place.old.seen.log) place.old.mine.items (flat place.new.seen.log) place.new.mine.items) }
+        ensures refused { OnErr result (EntersOrNot (course_at place.old.number work.entry (J.group self.old.group) (J.lines self.old.group)) place.old.number (flat self.old.makers.seen.log) (flat place.old.seen.log) place.old.mine.items (flat place.new.seen.log) place.new.mine.items) }
+        ensures grows { Grows (work_share work.entry (J.group self.old.group) (J.lines self.old.group)) (flat place.old.seen.log) place.old.mine.items (flat place.new.seen.log) place.new.mine.items }
+        ensures legal { IsLegal (J.group self.old.group) (past_in (flat place.old.seen.log)) → IsLegal (J.group self.old.group) (past_in (flat place.new.seen.log)) }
+        ensures reader { IsPrefix place.old.reader.proposals place.new.reader.proposals }
+        ensures reads { IfOk result (λ _. IsPrefix (accepted (past_in (flat place.new.seen.log))) place.new.reader.proposals) }
+    {
+        if self.is_shut_to(place) {
+            return Err(AllocError);
+        }
+        // Before the world: what it enters has to be numbered.
+        place.mine.reserve(self.room.most_of(work))?;
+        let from = self.room.count();
+        // No `?` here: at `Err` too what was entered is the pass's.
+        let going = self.room.work(alloc, place.number, work);
+        self.room.is_legal();
+        let entries = self.room.since(from);
+        if !self.makers.take_in(place, share, entries, from) {
+            self.lost = true;
+            return Err(AllocError);
+        }
+        let going = going?;
+        place.reader.learn(&self.room.note(), self.room.target());
+        Ok(going)
+    }
+
+    /// Teaches a pass the journal and what is published.
+    pub fn look(&self, place: &mut Place<J>) -> Result<(), AllocError>
+        requires group { place.old.group ≡ self.now.group }
+        ensures place { (place.new.group ≡ place.old.group) × (place.new.number ≡ place.old.number) × (place.new.mine ≡ place.old.mine) }
+        ensures seen { IsPrefix (flat place.old.seen.log) (flat place.new.seen.log) }
+        ensures journal { IfOk result (λ _. past_in (flat place.new.seen.log) ≡ self.now.room.history.past) }
+        ensures legal { IsLegal (J.group self.now.group) (past_in (flat place.old.seen.log)) → IsLegal (J.group self.now.group) (past_in (flat place.new.seen.log)) }
+        ensures reader { IsPrefix place.old.reader.proposals place.new.reader.proposals }
+        ensures reads { IfOk result (λ _. IsPrefix (accepted (past_in (flat place.new.seen.log))) place.new.reader.proposals) }
+    {
+        if self.is_shut_to(place) {
+            return Err(AllocError);
+        }
+        self.room.is_legal();
+        place.look(&self.makers.seen, self.makers.batches);
+        place.reader.learn(&self.room.note(), self.room.target());
+        Ok(())
+    }
+
+    /// The entities that are not settled, in order, as a pass sees by the journal that it is taught.
+    pub fn unsettled(&self, place: &mut Place<J>) -> Result<Vec<Entity>, AllocError>
+        requires group { place.old.group ≡ self.now.group }
+        ensures place { (place.new.group ≡ place.old.group) × (place.new.number ≡ place.old.number) × (place.new.mine ≡ place.old.mine) }
+        ensures seen { IsPrefix (flat place.old.seen.log) (flat place.new.seen.log) }
+        ensures entities { IfOk result (λ entities. entities.items ≡ unsettled_lem (J.group self.now.group) (past_in (flat place.new.seen.log))) }
+        ensures legal { IsLegal (J.group self.now.group) (past_in (flat place.old.seen.log)) → IsLegal (J.group self.now.group) (past_in (flat place.new.seen.log)) }
+        ensures reader { IsPrefix place.old.reader.proposals place.new.reader.proposals }
+        ensures reads { IfOk result (λ _. IsPrefix (accepted (past_in (flat place.new.seen.log))) place.new.reader.proposals) }
+    {
+        self.look(place)?;
+        self.room.unsettled()
+    }
+
+    /// What is seen of a variable at a version of the target, by the journal that a pass is taught.
+    pub fn seen_at(
+        &self,
+        place: &mut Place<J>,
+        version: u32,
+        entity: Entity,
+        var: Var,
+    ) -> Result<LogSaw, AllocError>
+        requires group { place.old.group ≡ self.now.group }
+        requires fits { IsEntityOf (J.group self.now.group) entity }
+        ensures place { (place.new.group ≡ place.old.group) × (place.new.number ≡ place.old.number) × (place.new.mine ≡ place.old.mine) }
+        ensures seen { IsPrefix (flat place.old.seen.log) (flat place.new.seen.log) }
+        ensures saw { IfOk result (λ saw. saw ≡ seen_at_lem (record { group = J.group self.now.group; past = past_in (flat place.new.seen.log) }) version entity var) }
+        ensures legal { IsLegal (J.group self.now.group) (past_in (flat place.old.seen.log)) → IsLegal (J.group self.now.group) (past_in (flat place.new.seen.log)) }
+        ensures reader { IsPrefix place.old.reader.proposals place.new.reader.proposals }
+        ensures reads { IfOk result (λ _. IsPrefix (accepted (past_in (flat place.new.seen.log))) place.new.reader.proposals) }
+    {
+        self.look(place)?;
+        Ok(self.room.seen_at(version, entity, var))
+    }
+}

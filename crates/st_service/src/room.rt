@@ -1,0 +1,236 @@
+//! A room: a group's world with the board by which its target is published. It lies behind a lock, and every event of the group is
+//! entered here.
+
+ghost use Rattle.std.specs.Prelude.{ℕ, ◌≡◌, ◌≤◌, ◌++◌, List, [], true, false, IfOk, OnOk, OnErr, length, reverse};
+ghost use Rattle.st_event.specs.declared.journal.Entry.{Entry as entry};
+ghost use Rattle.st_net.specs.Groups.{IsEntityOf};
+ghost use Rattle.st_board.specs.Published.{IsMergeOf};
+ghost use Rattle.st_event.specs.Legal.{IsLegal};
+ghost use Rattle.st_event.specs.Proposals.{first_rows, pending, accepted};
+ghost use Rattle.st_world.specs.Acts.{seen_at as seen_at_lem};
+ghost use Rattle.st_world.specs.Rounds.{HasSamePlant, IsPartOf, is_full, unsettled as unsettled_lem};
+ghost use Rattle.st_world.specs.World.{IsBeginning};
+ghost use Rattle.st_service.specs.Rooms.{Adds, IsSameRoom};
+ghost use Rattle.st_service.specs.Shares.{work_share};
+ghost use Rattle.st_service.specs.Works.{WorkFits, check_course, course_at, decides, is_decided as is_decided_lem};
+
+use crate::work::{Part, Work};
+use st_board::{Board, Held, Note};
+use st_event::{Act, Entry, Event, LogSaw, MAX_ENTRIES, Rows};
+use st_net::{AppId, Entity, Var};
+use st_overlay::Table;
+use st_world::{Going, Stepped, World};
+use std::alloc::{AllocError, Global};
+use std::marker::Model;
+use std::sync::Wait;
+
+/// A group's world and its board. Once a publication was refused the room is spent: nothing more is entered.
+#[derive(Drop)]
+pub struct Room<H: Wait + Drop> {
+    pub(crate) world: World,
+    pub(crate) held: Held<H>,
+    spent: bool,
+}
+
+impl<H: Wait + Drop> Model for Room<H> {
+    ghost use Rattle.st_service.specs.Rooms.{RoomView, IsRoom};
+
+    ghost Value = { RoomView };
+
+    ghost view = { λ r. record { history = r.world.history; lines = r.world.lines; published = r.held.board; spent = r.spent } };
+
+    ghost invariant = { λ r. IsRoom r.world.history r.held.board r.spent };
+}
+
+/// Enters the events of a work in a world. At `Full` an event met a full journal; then, and at `Err`, a part of the events was entered,
+/// from the first, and stands.
+fn enter(world: &mut World, number: u32, work: Work<'_>) -> Result<Going, AllocError>
+    requires { WorkFits work world.old.history.group }
+    ensures ok { IfOk result (λ going. course_at number work.entry world.old.history.group world.old.lines world.old.history.past ≡ record { past = world.new.history.past; stopped = is_full going }) }
+    ensures err { OnErr result (IsPartOf world.old world.new (course_at number work.entry world.old.history.group world.old.lines world.old.history.past)) }
+    ensures plant { HasSamePlant world.old world.new }
+{
+    match work {
+        Work::OneAct(act) => world.act(AppId(number), act),
+        Work::CheckFor(ticket) => check_for(world, ticket),
+        Work::Turn(Part::Whole, entity) => world.turn(entity),
+        Work::Turn(Part::Update, entity) => world.update_turn(entity),
+        Work::Turn(Part::Monitor, entity) => world.poll(entity),
+    }
+}
+
+/// Enters a check in a world, unless the ticket is decided there. At `Full` the journal is full; then, and at `Err`, nothing was entered.
+fn check_for(world: &mut World, ticket: u32) -> Result<Going, AllocError>
+    ensures ok { IfOk result (λ going. check_course ticket world.old.history.group world.old.history.past ≡ record { past = world.new.history.past; stopped = is_full going }) }
+    ensures err { OnErr result (world.new.history ≡ world.old.history) }
+    ensures plant { HasSamePlant world.old world.new }
+{
+    if is_decided(world, ticket) {
+        return Ok(Going::On);
+    }
+    match world.step(Event::Check)? {
+        Stepped::Did(_) => Ok(Going::On),
+        Stepped::JournalFull { .. } => Ok(Going::Full),
+    }
+}
+
+/// How many proposals were accepted in a world.
+fn version_of(world: &World) -> u32
+    ensures { result ≡ length (accepted world.now.history.past) }
+{
+    world.control().store().version()
+}
+
+/// Whether a ticket is decided in a world.
+fn is_decided(world: &World, ticket: u32) -> bool
+    ensures { result ≡ is_decided_lem ticket world.now.history.past }
+{
+    ticket == 0 || world.control().store().decided(ticket).is_some()
+}
+
+impl<H: Wait + Drop> Room<H> {
+    /// A room at the opening of a group, whose board shows that opening.
+    pub fn new(world: World, board: Board, rt: H) -> Room<H>
+        requires opens { world.history.past ≡ [] }
+        requires board { (board.group ≡ world.history.group) × (board.proposals ≡ []) × (board.ended ≡ false) }
+        ensures { result ≡ record { history = world.history; lines = world.lines; published = board; spent = false } }
+    {
+        Room {
+            world,
+            held: Held { board, rt },
+            spent: false,
+        }
+    }
+
+    /// Does a work for the pass of this number, and publishes what that accepts. At `Full` an event met a full journal; then, and at
+    /// `Err`, a part of the events was entered, from the first, and stands. Where the publication is refused, the room is spent.
+    pub fn work(&mut self, alloc: Global, number: u32, work: Work<'_>) -> Result<Going, AllocError>
+        requires open { self.old.spent ≡ false }
+        requires fits { WorkFits work self.old.history.group }
+        ensures ok { IfOk result (λ going. course_at number work.entry self.old.history.group self.old.lines self.old.history.past ≡ record { past = self.new.history.past; stopped = is_full going }) }
+        ensures full { IfOk result (λ going. is_full going ≡ true → length self.new.history.past ≡ MAX_ENTRIES) }
+        ensures open { OnOk result (self.new.spent ≡ false) }
+        ensures part { IsBeginning self.new.history.past (course_at number work.entry self.old.history.group self.old.lines self.old.history.past).past }
+        ensures adds { Adds number (work_share work.entry self.old.history.group self.old.lines) self.old.history.past self.new.history.past }
+        ensures room { IsSameRoom self.old self.new }
+    {
+        let rows = self.next_rows(alloc, work)?;
+        let version = version_of(&self.world);
+        // No `?` here: at `Err` what was entered may have to be published.
+        let going = enter(&mut self.world, number, work);
+        self.world.is_legal();
+        if version_of(&self.world) == version {
+            return going;
+        }
+        match self
+            .held
+            .board
+            .publish(&self.held.rt, alloc, rows.as_slice())
+        {
+            Ok(_note) => going,
+            Err(error) => {
+                self.spent = true;
+                Err(error)
+            }
+        }
+    }
+
+    /// The rows that a check of this work would decide; none where it makes no check, or nothing waits.
+    fn next_rows(&self, alloc: Global, work: Work<'_>) -> Result<Rows, AllocError>
+        ensures { IfOk result (λ rows. decides work.entry ≡ true → rows ≡ first_rows (pending self.now.history.past)) }
+    {
+        if !work.decides() {
+            return Ok(Rows::new(Vec::new(alloc)));
+        }
+        match self.world.control().store().oldest() {
+            Some(oldest) => oldest.rows.copy(alloc),
+            None => Ok(Rows::new(Vec::new(alloc))),
+        }
+    }
+
+    /// How many entries a work makes at the most.
+    pub fn most_of(&self, work: Work<'_>) -> usize
+        requires { WorkFits work self.now.history.group }
+        ensures { (n : ℕ) → n ≤ work_share work.entry self.now.history.group self.now.lines → n ≤ MAX_ENTRIES → n ≤ result }
+    {
+        let lines = self.world.plan().len().min(MAX_ENTRIES);
+        match work {
+            Work::OneAct(Act::Propose { .. }) => 2,
+            Work::OneAct(Act::Poll { .. }) | Work::Turn(Part::Monitor, _) => 2 + lines,
+            Work::Turn(Part::Update, _) => 3 + lines,
+            Work::Turn(Part::Whole, _) => 5 + 2 * lines,
+            Work::OneAct(_) | Work::CheckFor(_) => 1,
+        }
+    }
+
+    /// Whether a ticket is decided.
+    pub fn is_decided(&self, ticket: u32) -> bool
+        ensures { result ≡ is_decided_lem ticket self.now.history.past }
+    {
+        is_decided(&self.world, ticket)
+    }
+
+    /// The entities that are not settled, in order.
+    pub fn unsettled(&self) -> Result<Vec<Entity>, AllocError>
+        ensures { IfOk result (λ entities. entities.items ≡ unsettled_lem self.now.history.group self.now.history.past) }
+    {
+        self.world.unsettled()
+    }
+
+    /// What is seen of a variable at a version of the target, if there is that version.
+    pub fn seen_at(&self, version: u32, entity: Entity, var: Var) -> LogSaw
+        requires { IsEntityOf self.now.history.group entity }
+        ensures { result ≡ seen_at_lem self.now.history version entity var }
+    {
+        self.world.seen_at(version, entity, var)
+    }
+
+    /// What is published.
+    pub fn note(&self) -> Note
+        ensures published { result ≡ self.now.published }
+        ensures whole { self.now.spent ≡ false → result.proposals ≡ accepted self.now.history.past }
+    {
+        self.held.board.note()
+    }
+
+    /// The target, which is the merge of what is published.
+    pub fn target(&self) -> &Table
+        requires { self.now.spent ≡ false }
+        ensures { IsMergeOf self.now.published.group self.now.published.proposals result.now }
+    {
+        self.world.control().store().target()
+    }
+
+    /// Whether a publication was refused.
+    pub fn is_spent(&self) -> bool
+        ensures { result ≡ self.now.spent }
+    {
+        self.spent
+    }
+
+    /// The journal is legal.
+    pub fn is_legal(&self)
+        ensures { IsLegal self.now.history.group self.now.history.past }
+    {
+        self.world.is_legal();
+    }
+
+    /// How many entries the journal has.
+    pub fn count(&self) -> u32
+        ensures count { result ≡ length self.now.history.past }
+        ensures few { result ≤ MAX_ENTRIES }
+    {
+        self.world.entries()
+    }
+
+    /// The entries behind the first so many, the oldest first.
+    pub fn since(&self, from: u32) -> &[Entry]
+        requires { from ≤ length self.now.history.past }
+        ensures { (more : List entry) (past : List entry) → self.now.history.past ≡ more ++ past → length past ≡ from → result.now ≡ reverse more }
+    {
+        self.world.entries_since(from)
+    }
+}
+
+#[cfg(test)]
+mod tests;

@@ -1,0 +1,113 @@
+//! The rooms behind their locks. Threads share a service, and each carries a pass of its own through its calls, each of which holds one
+//! lock at the most.
+
+ghost use Rattle.std.specs.Prelude.{◌≡◌, ◌+◌, ◌*◌, ◌<◌, ◌≤◌, List, length, IfOk, OnOk};
+ghost use Rattle.st_world.specs.Rounds.{unsettled as unsettled_lem};
+ghost use Rattle.st_service.specs.Kept.{Kept};
+ghost use Rattle.st_service.specs.Made.{Made, past_in};
+ghost use Rattle.st_service.specs.Passes.{front_at, mine_at, IsTaught};
+ghost use Rattle.st_service.specs.Puts.{Enters};
+ghost use Rattle.st_service.specs.Shares.{work_share};
+ghost use Rattle.st_service.specs.Works.{WorkFits, course_at};
+
+use crate::locked::Locked;
+use crate::naming::Naming;
+use crate::pass::Pass;
+use crate::work::Work;
+use st_net::Entity;
+use st_world::Going;
+use std::alloc::{AllocError, Global};
+use std::sync::ledger::{Ledger, Share, Total};
+use std::sync::{Mutex, Wait};
+
+/// The most rooms of a service.
+pub const MAX_ROOMS: usize = 16;
+
+/// The share to which the others come back at the end. It lies behind a lock, since a share is not `Sync`.
+#[derive(Drop)]
+pub struct Own<L: Ledger> {
+    pub(crate) share: Share<L>,
+    pub ghost part: { (share.parts ≡ 1) × (share.amount ≡ 0) },
+}
+
+/// The rooms, each behind its lock, of so many passes, the first of which are the applications'. `H` is the handle by which a board is
+/// ended: dropping a service ends its boards, which may wait for readers.
+#[derive(Drop)]
+pub struct Service<J: Naming, L: Ledger, H: Wait + Drop> {
+    pub(crate) rooms: Vec<Mutex<Locked<J, L, H>>>,
+    pub(crate) total: Total<L>,
+    pub(crate) own: Mutex<Own<L>>,
+    pub(crate) apps: u32,
+    pub(crate) passes: usize,
+    pub ghost parts: { total.parts ≡ passes + length rooms.items + 1 },
+    pub ghost amount: { total.amount ≡ 200000 * length rooms.items },
+    pub ghost few: { length rooms.items ≤ 16 },
+    pub ghost apps_first: { apps ≤ passes },
+}
+
+impl<J: Naming, L: Ledger, H: Wait + Drop> Service<J, L, H> {
+    /// Does a work in a room, under one hold of its lock. It may wait for the room.
+    pub(crate) fn work<R: Wait>(
+        &self,
+        rt: &R,
+        alloc: Global,
+        pass: &mut Pass<J, L>,
+        group: usize,
+        work: Work<'_>,
+    ) -> Result<Going, AllocError>
+        requires room { (group < length self.now.rooms.items) × (length pass.old.fronts ≡ length self.now.rooms.items) }
+        requires fits { WorkFits work (J.group group) }
+        ensures kept { Kept pass.old pass.new group (work_share work.entry (J.group group) (J.lines group)) }
+        ensures log { pass.new.log ≡ pass.old.log }
+        ensures entered { IfOk result (λ going. (mid : List Made) × Enters (course_at pass.old.number work.entry (J.group group) (J.lines group)) going pass.old.number mid (front_at pass.old.fronts group) (mine_at pass.old.mines group) (front_at pass.new.fronts group) (mine_at pass.new.mines group)) }
+        ensures reads { IfOk result (λ _. IsTaught pass.new group) }
+    {
+        let mut room = self.rooms[group].lock(rt);
+        if room.group != group {
+            return Err(AllocError);
+        }
+        pass.work_in(alloc, &mut room, work)
+    }
+
+    /// Teaches a pass a room's latest front. It may wait for the room.
+    pub(crate) fn look<R: Wait>(
+        &self,
+        rt: &R,
+        pass: &mut Pass<J, L>,
+        group: usize,
+    ) -> Result<(), AllocError>
+        requires room { (group < length self.now.rooms.items) × (length pass.old.fronts ≡ length self.now.rooms.items) }
+        ensures kept { Kept pass.old pass.new group 0 }
+        ensures log { pass.new.log ≡ pass.old.log }
+        ensures reads { OnOk result (IsTaught pass.new group) }
+    {
+        let room = self.rooms[group].lock(rt);
+        if room.group != group {
+            return Err(AllocError);
+        }
+        pass.look_in(&room)
+    }
+
+    /// The entities that are not settled in a room's latest front, which the pass is taught. It may wait for the room.
+    pub(crate) fn unsettled<R: Wait>(
+        &self,
+        rt: &R,
+        pass: &mut Pass<J, L>,
+        group: usize,
+    ) -> Result<Vec<Entity>, AllocError>
+        requires room { (group < length self.now.rooms.items) × (length pass.old.fronts ≡ length self.now.rooms.items) }
+        ensures kept { Kept pass.old pass.new group 0 }
+        ensures log { pass.new.log ≡ pass.old.log }
+        ensures entities { IfOk result (λ entities. entities.items ≡ unsettled_lem (J.group group) (past_in (front_at pass.new.fronts group))) }
+        ensures reads { IfOk result (λ _. IsTaught pass.new group) }
+    {
+        let room = self.rooms[group].lock(rt);
+        if room.group != group {
+            return Err(AllocError);
+        }
+        pass.unsettled_in(&room)
+    }
+
+    /// Ends the service without its passes, at any time. It may wait for readers, and has no refusal.
+    pub fn give_up(self) {}
+}

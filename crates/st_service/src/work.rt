@@ -1,0 +1,38 @@
+//! What a pass enters under one hold of a room's lock. The calls of a service make each of their holds a work, and the room does it.
+
+ghost use Rattle.std.specs.Prelude.{◌≡◌};
+ghost use Rattle.st_service.specs.Works.{decides as decides_lem};
+
+use st_event::Act;
+use st_net::Entity;
+
+/// An entity's whole turn, or a half of it.
+#[derive(Clone, Copy, Debug, PartialEq, Eq)]
+pub enum Part {
+    Whole,
+    Update,
+    Monitor,
+}
+
+/// What is entered under one hold.
+#[derive(Clone, Copy)]
+pub enum Work<'a> {
+    /// An act of an application that is made under one hold: a proposal, a lock asked for or given back, a failure, or a poll.
+    OneAct(&'a Act),
+    /// A check, unless this ticket is decided.
+    CheckFor(u32),
+    /// An entity's turn, or a half of it.
+    Turn(Part, Entity),
+}
+
+impl Work<'_> {
+    /// Whether it may make a check.
+    pub fn decides(self) -> bool
+        ensures { result ≡ decides_lem self.entry }
+    {
+        match self {
+            Work::OneAct(Act::Propose { .. }) | Work::CheckFor(_) => true,
+            Work::OneAct(_) | Work::Turn(..) => false,
+        }
+    }
+}
