@@ -8,3 +8,11 @@ pub mod PrintedRuns
 pub mod Ending
 pub mod Program
 pub mod Trees
+pub mod Requests
+pub mod Stands
+pub mod Failures
+pub mod Logs
+pub mod CarriedOn
+pub mod CarriedOut
+pub mod Jobs
+pub mod CarriedLaws
