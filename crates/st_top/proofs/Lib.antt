@@ -4,7 +4,7 @@ pub mod FewEntries
 pub mod Endings
 pub mod Replays
 pub mod PrintedRuns
-pub mod Results
+pub mod HandedBack
 pub mod Histories
 pub mod WorkedScripts
 pub mod DidLaws

@@ -17,7 +17,7 @@ use Rattle.st_top.specs.Output.{histories_of}
 use Rattle.st_top.specs.Answer.{AreKept, IsKept}
 use Rattle.st_top.specs.Replaying.{AreLegal, IsFirstIllegal}
 use Rattle.st_top.specs.Ending.{AreKeptSites, IsKeptHistory}
-use Rattle.st_top.proofs.Results.{kept_more}
+use Rattle.st_top.proofs.HandedBack.{kept_more}
 use Rattle.st_serial.proofs.Worlds.{states_push}
 
 abbrev pub history_by : Group → Journal → History

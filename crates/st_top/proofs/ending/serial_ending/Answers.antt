@@ -1,7 +1,7 @@
 use Rattle.std.proofs.Common.{◌∙◌, ap, length, arith}
 use Rattle.st_serial.specs.Serial.{Run, run_in}
 use Rattle.st_serial.proofs.Runs.{serial_many, serial_count}
-use Rattle.st_top.proofs.Results.{of_scripts, ends_told}
+use Rattle.st_top.proofs.HandedBack.{of_scripts, ends_told}
 use Rattle.st_serial.proofs.Worlds.{states_many}
 use Rattle.st_top.proofs.ending.serial_ending.Goals as goal
 

@@ -2,7 +2,7 @@ use Rattle.std.proofs.Common.{◌≡◌, List, ◌++◌, ◌∷◌, [], length, 
 use Rattle.std.proofs.lemmas.List.{append_assoc}
 use Rattle.st_serial.specs.Serial.{GroupState, journals_from, state_of, states_of}
 use Rattle.st_top.specs.Ending.{AreKeptSites}
-use Rattle.st_top.proofs.Results.{journal_next, journals_long, kept_more}
+use Rattle.st_top.proofs.HandedBack.{journal_next, journals_long, kept_more}
 use Rattle.st_serial.proofs.Worlds.{states_many, states_push}
 use Rattle.st_top.proofs.results.journals_of.Goals as goal
 

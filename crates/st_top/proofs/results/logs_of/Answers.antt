@@ -1,6 +1,6 @@
 use Rattle.std.proofs.Common.{◌≡◌, ◌++◌, ◌∷◌, [], length, length-append, sym, ◌∙◌, ap, arith}
 use Rattle.std.proofs.lemmas.List.{append_assoc}
-use Rattle.st_top.proofs.Results.{log_next, logs_long}
+use Rattle.st_top.proofs.HandedBack.{log_next, logs_long}
 use Rattle.st_top.proofs.results.logs_of.Goals as goal
 
 pub overflow_cast-app : goal.overflow_cast-app
