@@ -34,3 +34,12 @@ pub mod Interleaved
 pub mod PollStarts
 pub mod ScriptFailures
 pub mod ScriptPolls
+pub mod CarriedScripts
+pub mod DonePoints
+pub mod FinishLaws
+pub mod MostMade
+pub mod OpenedGroups
+pub mod OpenedWorlds
+pub mod PlayLaws
+pub mod RunLaws
+pub mod WentLaws

@@ -16,3 +16,6 @@ pub mod CarriedOn
 pub mod CarriedOut
 pub mod Jobs
 pub mod CarriedLaws
+pub mod Went
+pub mod Played
+pub mod Running

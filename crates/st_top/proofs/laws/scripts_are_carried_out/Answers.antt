@@ -1,30 +1,13 @@
 -- Scripts that passes have done were carried out, point by point.
+use Rattle.st_top.proofs.DonePoints.{all_are_carried_out, each_is_carried_out}
 use Rattle.st_top.proofs.LoggedReads.{scripts_are_logged}
-use Rattle.st_top.proofs.PendingLaws.{none_pending}
-use Rattle.st_top.proofs.ScriptEntries.{asks_all, has_tickets}
-use Rattle.st_top.proofs.ScriptFailures.{fails_as_asked}
-use Rattle.st_top.proofs.ScriptPolls.{polls_all}
-use Rattle.st_top.proofs.ScriptsInTime.{asks_in_time, settles_all}
-use Rattle.st_top.proofs.SeenTickets.{sees_awaited}
-use Rattle.st_top.proofs.SeenTruths.{sees_truly}
 use Rattle.st_top.proofs.laws.scripts_are_carried_out.Goals as goal
 
 pub returns-clause-logs : goal.returns-clause-logs
 returns-clause-logs c = scripts_are_logged
 
 pub returns-clause-apps : goal.returns-clause-apps
-returns-clause-apps c = λ groups lines rooms scripts passes n entries front a acts p run within whole script pass. record {
-  asked = asks_all groups lines rooms scripts passes n entries front a acts p run within whole script pass;
-  given = has_tickets groups lines rooms scripts passes n entries front a acts p run within whole script pass;
-  timely = asks_in_time groups lines rooms scripts passes n entries front a acts p run within whole script pass;
-  settled = settles_all groups lines rooms scripts passes n entries front a acts p run within whole script pass;
-  truly = sees_truly groups lines rooms scripts passes n entries front a acts p run within whole script pass;
-  awaited = sees_awaited groups lines rooms scripts passes n entries front a acts p run within whole script pass;
-}
+returns-clause-apps c = each_is_carried_out
 
 pub returns-clause-groups : goal.returns-clause-groups
-returns-clause-groups c = λ groups lines rooms scripts passes n entries front run within whole. record {
-  decided = none_pending groups lines rooms scripts passes n entries front run within whole;
-  failed = fails_as_asked groups lines rooms scripts passes n entries front run within whole;
-  polled = polls_all groups lines rooms scripts passes n entries front run within whole;
-}
+returns-clause-groups c = all_are_carried_out
