@@ -28,7 +28,7 @@ use Rattle.st_top.specs.declared.task.Showing.TheVariants.{In}
 use Rattle.st_top.specs.declared.task.Reading.{Reading}
 use Rattle.st_top.specs.declared.task.Reading.TheVariants as readings
 use Rattle.st_top.specs.Ways.{Way, nothing, reads, makes, way_of, tree_doc}
-use Rattle.st_serial.specs.Serial.{serial_run, serial_logs, serial_full}
+use Rattle.st_top.specs.Serial.{serial_run, serial_logs, serial_full}
 use Rattle.st_top.specs.Output.{groups_of, histories_of, shown, check_text}
 use Rattle.st_top.specs.Replaying.{Replay, replay_of, IsFirstIllegal}
 

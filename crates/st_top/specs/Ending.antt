@@ -14,6 +14,7 @@ use Rattle.st_top.specs.declared.answer.Outcome.{Outcome}
 use Rattle.st_top.specs.declared.answer.Status.{Status}
 use Rattle.st_top.specs.declared.answer.Status.TheVariants as statuses
 use Rattle.st_top.specs.declared.ending.Ending.{Ending}
+use Rattle.st_top.specs.declared.running.Ran.{Ran}
 use Rattle.st_top.specs.declared.task.Task.{Task}
 use Rattle.st_top.specs.declared.task.Showing.{Showing}
 use Rattle.st_top.specs.declared.task.Showing.TheVariants.{In}
@@ -23,7 +24,7 @@ use Rattle.st_top.specs.declared.replaying.Again.TheVariants as again
 use Rattle.st_words.specs.declared.job.Form.{Form}
 use Rattle.st_report.specs.Lines.{histories}
 use Rattle.st_top.specs.Ways.{Way}
-use Rattle.st_serial.specs.Serial.{GroupState, states_of, serial_end, serial_full, serial_logs}
+use Rattle.st_top.specs.Serial.{Run, GroupState, states_of, serial_end, serial_full, serial_logs}
 use Rattle.st_top.specs.Output.{histories_of, shown}
 use Rattle.st_top.specs.Replaying.{Replay, IsFirstIllegal}
 use Rattle.st_top.specs.Answer.{Results, SourceState, SinkState, EndsOnDoc, EndsOn, EndsOnReplay, EndsOnBytes, ComesOf, no_results, fault_line, status_line}
@@ -85,6 +86,10 @@ IsToldAgain form doc (again.Worlds worlds) statuses.Ok text = text ≡ shown (In
 IsToldAgain form doc (again.Worlds worlds) _ text = ⊥
 IsToldAgain form doc (again.Illegal n entry) (statuses.Illegal group number) text = (group ≡ n) × (number ≡ entry) × (text ≡ status_line doc.groups (statuses.Illegal group number))
 IsToldAgain form doc (again.Illegal n entry) _ text = ⊥
+
+-- the groups with their journals, and the logs, that a run has come to
+abbrev pub run_in : Ran → Run
+run_in ran = record { groups = states_of ran.sites.items; logs = ran.logs.items; full = ran.full }
 
 -- the status that is told once writing ended so
 abbrev pub told : Written → Status → Status

@@ -1,4 +1,6 @@
 pub mod Ways
+pub mod Schedule
+pub mod Serial
 pub mod Output
 pub mod Exit
 pub mod Replaying
@@ -7,15 +9,5 @@ pub mod Completeness
 pub mod PrintedRuns
 pub mod Ending
 pub mod Program
-pub mod Trees
-pub mod Requests
-pub mod Stands
-pub mod Failures
-pub mod Logs
-pub mod CarriedOn
-pub mod CarriedOut
-pub mod Jobs
-pub mod CarriedLaws
-pub mod Went
-pub mod Played
-pub mod Running
+pub mod Shares
+pub mod Most

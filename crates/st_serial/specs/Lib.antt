@@ -1,4 +1,0 @@
-pub mod Schedule
-pub mod Serial
-pub mod Shares
-pub mod Most
