@@ -32,12 +32,14 @@ use Rattle.st_top.specs.declared.task.Task.TheVariants.{Serial, Count, Print}
 use Rattle.st_top.specs.declared.task.Showing.TheVariants.{In}
 use Rattle.st_top.specs.declared.task.Reading.{Reading}
 use Rattle.st_top.specs.declared.task.Reading.TheVariants as readings
-use Rattle.st_top.specs.Ways.{Way, nothing, reads, makes, way_of, tree_doc}
-use Rattle.st_top.specs.Output.{app_names, groups_of, shown}
+use Rattle.st_top.specs.Ways.{Way, nothing, reads, makes, tree_doc}
+use Rattle.st_top.specs.Output.{app_names, shown}
+use Rattle.st_serial.specs.Kept.{groups_of}
 use Rattle.st_top.specs.Replaying.{AreLegal, IsFirstIllegal, Replay, journal_bytes, journal_line, replay_of, replay_with}
-use Rattle.st_top.specs.Answer.{Results, SourceState, SinkState, ComesOf, EndsAtEnd, EndsOn, EndsOnBytes, EndsOnDoc, EndsOnReplay, EndsWith, HasWritten, IsUnread, StopsTooLong}
-use Rattle.st_top.specs.Completeness.{CanBeDone, CanBeDoneBy, CanBeDoneOn, CanBeRead, IsAfterReadFault, IsFaultless}
+use Rattle.st_top.specs.Answer.{Results, SourceState, SinkState, ComesOf, EndsAtEnd, EndsOn, EndsOnBytes, EndsBy, EndsOnDoc, EndsOnReplay, EndsOnRun, EndsOnRunDoc, HasWritten, IsUnread, StopsTooLong}
+use Rattle.st_top.specs.Completeness.{CanBeDoneBy, CanBeDoneOn, CanBeRead, IsAfterReadFault, IsFaultless}
 use Rattle.st_top.specs.Ending.{IsAgain, IsCalledFor, IsEndOnBytes, IsEndOnDoc, IsEndOnReplay, IsToldAgain, TellsFault, WritesEnding, results_in, told}
+use Rattle.st_top.proofs.PlayedRuns.{run_well}
 use Rattle.st_top.proofs.Replays.{again_kept, legal_amid, one_each}
 
 -- the ending that tells of a bad line
@@ -108,8 +110,19 @@ replay_can form (read_ok replay) results text _ is = absurd is
 replay_can form (Err fault) results text (BadInput line kind) is = tt
 replay_can form (Err fault) results text _ is = absurd is
 
+run_doc_can : (form : Form) (doc : Doc) (results : Results) (text : List ℕ) (status : Status) → EndsOnRunDoc form doc results text status → CanEnd status
+run_doc_can form doc results text Ok is = tt
+run_doc_can form doc results text (JournalFull group) is = tt
+run_doc_can form doc results text _ is = absurd is
+
+run_can : (form : Form) (read : Result Doc LineFault) (results : Results) (text : List ℕ) (status : Status) → EndsOnRun form read results text status → CanEnd status
+run_can form (read_ok doc) results text status is = run_doc_can form doc results text status is
+run_can form (Err fault) results text (BadInput line kind) is = tt
+run_can form (Err fault) results text _ is = absurd is
+
 bytes_can : (reading : Reading) (bytes : List ℕ) (results : Results) (text : List ℕ) (status : Status) → EndsOnBytes reading bytes results text status → CanEnd status
 bytes_can (readings.Doc task) bytes results text status is = on_can task (document_of bytes) results text status is
+bytes_can (readings.Run form) bytes results text status is = run_can form (document_of bytes) results text status is
 bytes_can (readings.Journals form) bytes results text status is = replay_can form (replay_of bytes) results text status is
 
 comes_by : (reading : Reading) (old new : SourceState) (results : Results) (text : List ℕ) (status : Status) → CanEnd status → EndsAtEnd reading old new results text status → ComesOf (reads reading) old new results text status
@@ -149,23 +162,23 @@ never_memory (reads reading) old new results text is = is
 never_memory (makes task tree) old new results text is = doc_can task (tree_doc tree) results text OutOfMemory is.ends
 
 -- so the call ends with what was called for, as far as it was written
-whole_ends : (words : List (List ℕ)) (old new : SourceState) (before now : SinkState) (results : Results) (status : Status) → HasWritten words old new before now results status → EndsWith words old new before now results status
-whole_ends words old new before now results WriteFault is = absurd (never_write (way_of words) old new results is.text is.comes)
-whole_ends words old new before now results OutOfMemory is = absurd (never_memory (way_of words) old new results is.text is.comes)
-whole_ends words old new before now results status is = is
+whole_ends : (way : Way) (old new : SourceState) (before now : SinkState) (results : Results) (status : Status) → HasWritten way old new before now results status → EndsBy way old new before now results status
+whole_ends way old new before now results WriteFault is = absurd (never_write way old new results is.text is.comes)
+whole_ends way old new before now results OutOfMemory is = absurd (never_memory way old new results is.text is.comes)
+whole_ends way old new before now results status is = is
 
-ends_as : (words : List (List ℕ)) (old new : SourceState) (before now : SinkState) (results : Results) (text : List ℕ) (status : Status) (written : Written) → ComesOf (way_of words) old new results text status
-    → WritesUntil before.held now.held before.faults now.faults text written → EndsWith words old new before now results (told written status)
-ends_as words old new before now results text status ways.All comes until = whole_ends words old new before now results status (record { text = text; comes = comes; held = until.0; still = until.1 })
-ends_as words old new before now results text status ways.Failed comes until = (record { status = status; text = text; comes = comes; held = until.0 }, until.1)
-ends_as words old new before now results text status ways.OutOfMemory comes until = (inr (record { status = status; text = text; comes = comes; held = until.0 }), until.1)
+ends_as : (way : Way) (old new : SourceState) (before now : SinkState) (results : Results) (text : List ℕ) (status : Status) (written : Written) → ComesOf way old new results text status
+    → WritesUntil before.held now.held before.faults now.faults text written → EndsBy way old new before now results (told written status)
+ends_as way old new before now results text status ways.All comes until = whole_ends way old new before now results status (record { text = text; comes = comes; held = until.0; still = until.1 })
+ends_as way old new before now results text status ways.Failed comes until = (record { status = status; text = text; comes = comes; held = until.0 }, until.1)
+ends_as way old new before now results text status ways.OutOfMemory comes until = (inr (record { status = status; text = text; comes = comes; held = until.0 }), until.1)
 
-pub written_ends : (words : List (List ℕ)) (old new : SourceState) (before now : SinkState) (ending : Ending) (outcome : Outcome) → IsCalledFor (way_of words) old new ending → WritesEnding ending before now outcome
-    → EndsWith words old new before now (record { journals = outcome.journals; logs = outcome.logs }) outcome.status
-written_ends words old new before now ending outcome comes is =
+pub written_ends : (way : Way) (old new : SourceState) (before now : SinkState) (ending : Ending) (outcome : Outcome) → IsCalledFor way old new ending → WritesEnding ending before now outcome
+    → EndsBy way old new before now (record { journals = outcome.journals; logs = outcome.logs }) outcome.status
+written_ends way old new before now ending outcome comes is =
     let results : Results = record { journals = outcome.journals; logs = outcome.logs } in
-    let called : ComesOf (way_of words) old new results ending.text ending.status = subst (λ (r : Results). ComesOf (way_of words) old new r ending.text ending.status) (sym is.results_are) comes in
-    subst (λ (s : Status). EndsWith words old new before now results s) (sym is.status_is) (ends_as words old new before now results ending.text ending.status is.written called is.writes.until)
+    let called : ComesOf way old new results ending.text ending.status = subst (λ (r : Results). ComesOf way old new r ending.text ending.status) (sym is.results_are) comes in
+    subst (λ (s : Status). EndsBy way old new before now results s) (sym is.status_is) (ends_as way old new before now results ending.text ending.status is.written called is.writes.until)
 
 -- a call in which a read failed tells it
 abbrev IsStill : SourceState → SourceState → Type 0
@@ -189,10 +202,10 @@ after_by : (old new : SourceState) (status : Status) → old.faults < new.faults
 after_by old new status rose (inl is) = is
 after_by old new status rose (inr still) = absurd (omega (arith, rose, still))
 
-pub after_fault : (words : List (List ℕ)) (old new : SourceState) (before now : SinkState) (results : Results) (status : Status) → EndsWith words old new before now results status → old.faults < new.faults → IsAfterReadFault status
-after_fault words old new before now results WriteFault is rose = tt
-after_fault words old new before now results OutOfMemory is rose = tt
-after_fault words old new before now results status is rose = after_by old new status rose (rose_or_still (way_of words) old new results is.text status is.comes)
+pub after_fault : (way : Way) (old new : SourceState) (before now : SinkState) (results : Results) (status : Status) → EndsBy way old new before now results status → old.faults < new.faults → IsAfterReadFault status
+after_fault way old new before now results WriteFault is rose = tt
+after_fault way old new before now results OutOfMemory is rose = tt
+after_fault way old new before now results status is rose = after_by old new status rose (rose_or_still way old new results is.text status is.comes)
 
 -- where nothing failed, no failure is told
 read_rose : (way : Way) (old new : SourceState) (results : Results) (text : List ℕ) → ComesOf way old new results text ReadFault → Rose old.faults new.faults
@@ -200,15 +213,15 @@ read_rose nothing old new results text is = absurd is
 read_rose (reads reading) old new results text is = is.rose
 read_rose (makes task tree) old new results text is = absurd (doc_can task (tree_doc tree) results text ReadFault is.ends)
 
-pub read_fault : (words : List (List ℕ)) (old new : SourceState) (before now : SinkState) (results : Results) (status : Status) → EndsWith words old new before now results status → new.faults ≡ old.faults → old.faults < 2 ^ 64 - 1 → status ≡ ReadFault → ⊥
-read_fault words old new before now results status ends same below is =
-    let told : EndsWith words old new before now results ReadFault = subst (λ (s : Status). EndsWith words old new before now results s) is ends in
-    let rose = read_rose (way_of words) old new results told.text told.comes in
+pub read_fault : (way : Way) (old new : SourceState) (before now : SinkState) (results : Results) (status : Status) → EndsBy way old new before now results status → new.faults ≡ old.faults → old.faults < 2 ^ 64 - 1 → status ≡ ReadFault → ⊥
+read_fault way old new before now results status ends same below is =
+    let told : EndsBy way old new before now results ReadFault = subst (λ (s : Status). EndsBy way old new before now results s) is ends in
+    let rose = read_rose way old new results told.text told.comes in
     omega (arith, same, below, rose)
 
-pub write_fault : (words : List (List ℕ)) (old new : SourceState) (before now : SinkState) (results : Results) (status : Status) → EndsWith words old new before now results status → now.faults ≡ before.faults → before.faults < 2 ^ 64 - 1 → status ≡ WriteFault → ⊥
-write_fault words old new before now results status ends same below is =
-    let told : EndsWith words old new before now results WriteFault = subst (λ (s : Status). EndsWith words old new before now results s) is ends in
+pub write_fault : (way : Way) (old new : SourceState) (before now : SinkState) (results : Results) (status : Status) → EndsBy way old new before now results status → now.faults ≡ before.faults → before.faults < 2 ^ 64 - 1 → status ≡ WriteFault → ⊥
+write_fault way old new before now results status ends same below is =
+    let told : EndsBy way old new before now results WriteFault = subst (λ (s : Status). EndsBy way old new before now results s) is ends in
     omega (arith, same, below, told.1)
 
 -- where nothing is in the way of a call
@@ -262,12 +275,16 @@ record IsFew (left : Option (List ℕ)) : Type 0 where
 
 few_left : (reading : Reading) (left : Option (List ℕ)) → CanBeRead reading left → IsFew left
 few_left (readings.Doc task) left can = record { bytes = can.bytes; told = can.told; few = can.few }
+few_left (readings.Run form) left can = record { bytes = can.bytes; told = can.told; few = can.few }
 few_left (readings.Journals form) left can = record { bytes = can.bytes; told = can.told; few = can.few }
 
 ends_well : (reading : Reading) (left new : Option (List ℕ)) (bytes : List ℕ) (results : Results) (text : List ℕ) (status : Status) → CanBeRead reading left → Consumes left new bytes → IsAtEnd new → EndsOnBytes reading bytes results text status → IsWell status
 ends_well (readings.Doc task) left new bytes results text status can consumed ended is =
     let same : bytes ≡ can.bytes = read_whole left new can.bytes bytes can.told consumed ended in
     on_well task can.doc (document_of bytes) results text status (ap document_of same ∙ can.declared) can.holds is
+ends_well (readings.Run form) left new bytes results text status can consumed ended is =
+    let same : bytes ≡ can.bytes = read_whole left new can.bytes bytes can.told consumed ended in
+    run_well form can.doc results text status can.holds (subst (λ (r : Result Doc LineFault). EndsOnRun form r results text status) (ap document_of same ∙ can.declared) is)
 ends_well (readings.Journals form) left new bytes results text status can consumed ended is =
     let same : bytes ≡ can.bytes = read_whole left new can.bytes bytes can.told consumed ended in
     replay_well form can.replay results text status can.legal (subst (λ (r : Result Replay LineFault). EndsOnReplay form r results text status) (ap replay_of same ∙ can.declared) is)
@@ -298,9 +315,9 @@ way_well (reads reading) old new results text WriteFault can still is = absurd i
 way_well (reads reading) old new results text OutOfMemory can still is = absurd is
 
 -- so the call succeeds
-pub call_well : (words : List (List ℕ)) (old new : SourceState) (before now : SinkState) (results : Results) (status : Status) → EndsWith words old new before now results status
-    → CanBeDone words old.left → IsFaultless old.faults new.faults → IsFaultless before.faults now.faults → IsWell status
-call_well words old new before now results Ok is can still kept = inl refl
-call_well words old new before now results OutOfMemory is can still kept = inr refl
-call_well words old new before now results WriteFault is can still kept = absurd (no_rise before.faults now.faults kept is.1)
-call_well words old new before now results status is can still kept = way_well (way_of words) old new results is.text status can still is.comes
+pub call_well : (way : Way) (old new : SourceState) (before now : SinkState) (results : Results) (status : Status) → EndsBy way old new before now results status
+    → CanBeDoneBy way old.left → IsFaultless old.faults new.faults → IsFaultless before.faults now.faults → IsWell status
+call_well way old new before now results Ok is can still kept = inl refl
+call_well way old new before now results OutOfMemory is can still kept = inr refl
+call_well way old new before now results WriteFault is can still kept = absurd (no_rise before.faults now.faults kept is.1)
+call_well way old new before now results status is can still kept = way_well way old new results is.text status can still is.comes

@@ -12,13 +12,13 @@ use Rattle.st_journal.specs.JournalReading.{AreJournalsOf}
 use Rattle.st_journal.specs.Replaying.{IsFirstWrong}
 use Rattle.st_world.specs.World.{WorldView}
 use Rattle.st_report.specs.Lines.{histories}
-use Rattle.st_top.specs.Serial.{state_of, states_of}
+use Rattle.st_serial.specs.Serial.{state_of, states_of}
 use Rattle.st_top.specs.Output.{histories_of}
-use Rattle.st_top.specs.Answer.{AreKept, IsKept}
+use Rattle.st_serial.specs.Kept.{AreKept, IsKept}
 use Rattle.st_top.specs.Replaying.{AreLegal, IsFirstIllegal}
 use Rattle.st_top.specs.Ending.{AreKeptSites, IsKeptHistory}
-use Rattle.st_top.proofs.Runs.{kept_more}
-use Rattle.st_top.proofs.Worlds.{states_push}
+use Rattle.st_top.proofs.HandedBack.{kept_more}
+use Rattle.st_serial.proofs.Worlds.{states_push}
 
 abbrev pub history_by : Group → Journal → History
 history_by g journal = record { group = g; past = reverse journal.entries }

@@ -1,5 +1,5 @@
 -- What the prover computes for the document of each fat tree: its journal has room for all entries that it can make.
-use Rattle.std.proofs.Common.{◌≡◌, ℕ, zero, suc, true, refl, arith}
+use Rattle.std.proofs.Common.{◌≡◌, ℕ, zero, suc, ◌+◌, ◌*◌, true, refl, arith}
 use Rattle.std.specs.Prelude.{nat_lt}
 use Rattle.st_net.proofs.Tests.{less_is}
 use Rattle.st_event.specs.declared.journal.TheConstants.{MAX_ENTRIES}
@@ -7,9 +7,10 @@ use Rattle.st_words.specs.declared.job.Pods.{Pods}
 use Rattle.st_words.specs.declared.job.Pods.TheVariants.{Four, Six, Eight, Ten}
 use Rattle.st_words.specs.Jobs.{pod_count}
 use Rattle.st_gen.specs.Generated.{generated}
-use Rattle.st_top.specs.Most.{HasRoom, TreesFit, TreesHaveRoom, most}
+use Rattle.st_serial.specs.Most.{HasRoom, most}
+use Rattle.st_top.specs.Trees.{TreesFit, TreesHaveRoom}
 use Rattle.st_top.specs.Ways.{tree_doc}
-use Rattle.st_top.proofs.Fitting.{few_entries_fit}
+use Rattle.st_serial.proofs.Fitting.{few_entries_fit}
 
 -- it has one group
 room_by : (pods seed : ℕ) → nat_lt (most (generated pods seed) 0) MAX_ENTRIES ≡ true → HasRoom (generated pods seed)
@@ -27,3 +28,11 @@ trees_have_room tree = pods_have_room tree.pods tree.seed
 
 pub trees_fit : TreesFit
 trees_fit tree = few_entries_fit (tree_doc tree) (trees_have_room tree)
+
+-- fat trees of 4 and of 10 pods: of 52 and of 625 entities. Each stage is a proposal, an await and a settle of 2 rounds, of which there are 2 and 5;
+-- then come a proposal and an await, a lock and an unlock, and two applications
+tree_of_4 : (seed : ℕ) → most (generated 4 seed) 0 ≡ 2 * (3 + 64 + 3 * (52 * 5)) + 3 + 64 + 2 + 2 * 64
+tree_of_4 seed = refl
+
+tree_of_10 : (seed : ℕ) → most (generated 10 seed) 0 ≡ 47407
+tree_of_10 seed = refl

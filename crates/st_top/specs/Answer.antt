@@ -1,16 +1,13 @@
 -- How a call ends, and what that says of what was read, of the journals, and of what was written.
-use Rattle.std.specs.Prelude.{◌≡◌, ℕ, ◌+◌, ◌≤◌, List, [], ◌∷◌, length, reverse, Option, Some, None, Result, Ok as read_ok, Err, codes, decimal, slice_get, ◌⊎◌}
+use Rattle.std.specs.Prelude.{◌≡◌, ℕ, ◌+◌, ◌≤◌, List, [], ◌∷◌, All, length, map, Option, Some, None, Result, Ok as read_ok, Err, codes, decimal, slice_get, ◌⊎◌}
 use Rattle.std.specs.Io.KnownBytes.{Consumes, Appends, Keeps, IsAtEnd}
 use Rattle.st_io.specs.declared.reading.TheConstants.{MAX_BYTES}
 use Rattle.st_io.specs.Outside.{Rose}
 use Rattle.st_io.specs.Output.{AppendsPrefix}
 use Rattle.st_text.specs.Words.{line}
 use Rattle.st_net.specs.declared.parts.Parts.{Parts}
-use Rattle.st_net.specs.Groups.{Group, IsSound}
 use Rattle.st_event.specs.declared.act.Log.{Log}
 use Rattle.st_event.specs.declared.journal.Journal.{Journal}
-use Rattle.st_event.specs.Legal.{IsLegal, AtEach}
-use Rattle.st_event.specs.Network.{KeepsPromises}
 use Rattle.st_grammar.specs.declared.doc.Doc.{Doc}
 use Rattle.st_grammar.specs.Reading.{document_of}
 use Rattle.st_token.specs.declared.fault.FaultKind.{FaultKind}
@@ -28,8 +25,12 @@ use Rattle.st_top.specs.declared.task.Showing.TheVariants.{In}
 use Rattle.st_top.specs.declared.task.Reading.{Reading}
 use Rattle.st_top.specs.declared.task.Reading.TheVariants as readings
 use Rattle.st_top.specs.Ways.{Way, nothing, reads, makes, way_of, tree_doc}
-use Rattle.st_top.specs.Serial.{serial_run, serial_logs, serial_full}
-use Rattle.st_top.specs.Output.{groups_of, histories_of, shown, check_text}
+use Rattle.st_serial.specs.Serial.{serial_run, serial_logs, serial_full}
+use Rattle.st_top.specs.Output.{histories_of, shown, check_text}
+use Rattle.st_serial.specs.Kept.{AreKept, groups_of}
+use Rattle.st_serial.specs.Most.{IsWithinMost}
+use Rattle.st_run.specs.CarriedOut.{AreNumbers, CarriedOut}
+use Rattle.st_run.specs.Running.{IsFullIn}
 use Rattle.st_top.specs.Replaying.{Replay, replay_of, IsFirstIllegal}
 
 abbrev pub kind_word : FaultKind → List ℕ
@@ -79,19 +80,6 @@ pub record Results : Type 0 where
 
 abbrev pub no_results : Results
 no_results = record { journals = []; logs = [] }
-
--- the group is sound, its journal is legal, and at each of the journal's moments the group's promises were kept
-pub record IsKept (g : Group) (journal : Journal) : Type 0 where
-  pub sound : IsSound g
-  pub legal : IsLegal g (reverse journal.entries)
-  pub promises : AtEach (KeepsPromises g) (reverse journal.entries)
-
--- each group has its journal, and it is kept
-abbrev pub AreKept : List Group → List Journal → Type 0
-AreKept [] [] = Unit {0}
-AreKept [] (journal ∷ journals) = ⊥
-AreKept (g ∷ groups) [] = ⊥
-AreKept (g ∷ groups) (journal ∷ journals) = IsKept g journal × AreKept groups journals
 
 -- journals and logs are those of the script order, and the journals are legal and kept
 pub record AreOfScripts (doc : Doc) (results : Results) : Type 0 where
@@ -165,9 +153,42 @@ EndsOnReplay form (read_ok replay) results text _ = ⊥
 EndsOnReplay form (Err fault) results text (BadInput n kind) = (fault ≡ record { line = n; kind = kind }) × (results ≡ no_results) × (text ≡ fault_line (BadInput n kind))
 EndsOnReplay form (Err fault) results text _ = ⊥
 
+-- threads ran the scripts of a document: there is a journal for each group and a log for each application, in their order; each journal was kept, and has
+-- no more entries than the scripts can make
+pub record AreOfThreads (doc : Doc) (results : Results) : Type 0 where
+  pub groups : AreNumbers (map (λ j. j.group) results.journals) (length doc.groups)
+  pub apps : AreNumbers (map (λ l. l.app.0) results.logs) (length doc.apps)
+  pub kept : AreKept (groups_of doc) results.journals
+  pub within : All (IsWithinMost doc) results.journals
+
+-- they carried the scripts out, and this is shown of what came of them
+pub record RunsThreads (form : Form) (doc : Doc) (results : Results) (text : List ℕ) : Type 0 where
+  pub threads : AreOfThreads doc results
+  pub carried : CarriedOut doc results.journals results.logs
+  pub report : text ≡ shown (In form) doc (histories_of (groups_of doc) results.journals) results.logs
+
+-- a thread stopped at the journal of this group, which is full, and this is the text
+pub record StopsFull (doc : Doc) (results : Results) (text : List ℕ) (group : ℕ) : Type 0 where
+  pub threads : AreOfThreads doc results
+  pub full : IsFullIn results.journals group
+  pub told : text ≡ status_line doc.groups (JournalFull group)
+
+-- what a run by threads ends with on a document
+abbrev pub EndsOnRunDoc : Form → Doc → Results → List ℕ → Status → Type 0
+EndsOnRunDoc form doc results text Ok = RunsThreads form doc results text
+EndsOnRunDoc form doc results text (JournalFull group) = StopsFull doc results text group
+EndsOnRunDoc form doc results text _ = ⊥
+
+-- and on what was read to its end
+abbrev pub EndsOnRun : Form → Result Doc LineFault → Results → List ℕ → Status → Type 0
+EndsOnRun form (read_ok doc) results text status = EndsOnRunDoc form doc results text status
+EndsOnRun form (Err fault) results text (BadInput n kind) = (fault ≡ record { line = n; kind = kind }) × (results ≡ no_results) × (text ≡ fault_line (BadInput n kind))
+EndsOnRun form (Err fault) results text _ = ⊥
+
 -- what comes of the bytes that were read to their end
 abbrev pub EndsOnBytes : Reading → List ℕ → Results → List ℕ → Status → Type 0
 EndsOnBytes (readings.Doc task) bytes = EndsOn task (document_of bytes)
+EndsOnBytes (readings.Run form) bytes = EndsOnRun form (document_of bytes)
 EndsOnBytes (readings.Journals form) bytes = EndsOnReplay form (replay_of bytes)
 
 -- what a source has left, and how often it has failed
@@ -234,21 +255,18 @@ ComesOf (reads reading) old new results text OutOfMemory = ⊥
 ComesOf (reads reading) old new results text status = EndsAtEnd reading old new results text status
 ComesOf (makes task tree) old new results text status = EndsOnTree task tree old new results text status
 
-abbrev pub Comes : List (List ℕ) → SourceState → SourceState → Results → List ℕ → Status → Type 0
-Comes words = ComesOf (way_of words)
-
 -- a status that came for its reason, and its text was written whole: no write failed
-pub record HasWritten (words : List (List ℕ)) (old new : SourceState) (before now : SinkState) (results : Results) (status : Status) : Type 0 where
+pub record HasWritten (way : Way) (old new : SourceState) (before now : SinkState) (results : Results) (status : Status) : Type 0 where
   pub text : List ℕ
-  pub comes : Comes words old new results text status
+  pub comes : ComesOf way old new results text status
   pub held : Appends before.held now.held text
   pub still : now.faults ≡ before.faults
 
 -- a status whose text was being written: the sink holds what it held and a prefix of that text
-pub record WasWriting (words : List (List ℕ)) (old new : SourceState) (before now : SinkState) (results : Results) : Type 0 where
+pub record WasWriting (way : Way) (old new : SourceState) (before now : SinkState) (results : Results) : Type 0 where
   pub status : Status
   pub text : List ℕ
-  pub comes : Comes words old new results text status
+  pub comes : ComesOf way old new results text status
   pub held : AppendsPrefix before.held now.held text
 
 -- memory was refused before anything was written: the sink holds what it held, and there are no results
@@ -256,8 +274,12 @@ pub record WasRefused (before now : SinkState) (results : Results) : Type 0 wher
   pub held : Keeps before.held now.held
   pub none : results ≡ no_results
 
--- how a call ends, of its words, of the source before and after it, and of the sink before and after it. A write failed in it only at WriteFault
+-- how a call ends, of what its words ask for, of the source before and after it, and of the sink before and after it. A write failed in it only at WriteFault
+abbrev pub EndsBy : Way → SourceState → SourceState → SinkState → SinkState → Results → Status → Type 0
+EndsBy way old new before now results WriteFault = WasWriting way old new before now results × Rose before.faults now.faults
+EndsBy way old new before now results OutOfMemory = (WasRefused before now results ⊎ WasWriting way old new before now results) × (now.faults ≡ before.faults)
+EndsBy way old new before now results status = HasWritten way old new before now results status
+
+-- how it ends, by its words
 abbrev pub EndsWith : List (List ℕ) → SourceState → SourceState → SinkState → SinkState → Results → Status → Type 0
-EndsWith words old new before now results WriteFault = WasWriting words old new before now results × Rose before.faults now.faults
-EndsWith words old new before now results OutOfMemory = (WasRefused before now results ⊎ WasWriting words old new before now results) × (now.faults ≡ before.faults)
-EndsWith words old new before now results status = HasWritten words old new before now results status
+EndsWith words = EndsBy (way_of words)

@@ -10,8 +10,9 @@ use Rattle.st_top.specs.declared.task.Task.TheVariants.{Serial, Count, Print}
 use Rattle.st_top.specs.declared.task.Reading.{Reading}
 use Rattle.st_top.specs.declared.task.Reading.TheVariants as readings
 use Rattle.st_top.specs.Ways.{Way, nothing, reads, makes, way_of, tree_doc}
-use Rattle.st_top.specs.Serial.{serial_full}
-use Rattle.st_top.specs.Output.{groups_of}
+use Rattle.st_serial.specs.Most.{HasRoom}
+use Rattle.st_serial.specs.Serial.{serial_full}
+use Rattle.st_serial.specs.Kept.{groups_of}
 use Rattle.st_top.specs.Replaying.{Replay, replay_of, AreLegal}
 
 -- a call in which a read failed tells it, unless that line could not be written, or memory was refused
@@ -55,8 +56,10 @@ pub record HasJournals (left : Option (List ℕ)) : Type 0 where
   pub declared : replay_of bytes ≡ read_ok replay
   pub legal : AreLegal (groups_of replay.doc) replay.journals
 
+-- the input of what is read: of a run by threads a document whose scripts can fill no journal
 abbrev pub CanBeRead : Reading → Option (List ℕ) → Type 0
 CanBeRead (readings.Doc task) left = HasDocument left (CanBeDoneOn task)
+CanBeRead (readings.Run form) left = HasDocument left HasRoom
 CanBeRead (readings.Journals form) left = HasJournals left
 
 -- the words ask for a task that can be done: on the document that the source gives, or on that of a fat tree

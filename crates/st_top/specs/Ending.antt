@@ -14,7 +14,6 @@ use Rattle.st_top.specs.declared.answer.Outcome.{Outcome}
 use Rattle.st_top.specs.declared.answer.Status.{Status}
 use Rattle.st_top.specs.declared.answer.Status.TheVariants as statuses
 use Rattle.st_top.specs.declared.ending.Ending.{Ending}
-use Rattle.st_top.specs.declared.running.Ran.{Ran}
 use Rattle.st_top.specs.declared.task.Task.{Task}
 use Rattle.st_top.specs.declared.task.Showing.{Showing}
 use Rattle.st_top.specs.declared.task.Showing.TheVariants.{In}
@@ -24,10 +23,12 @@ use Rattle.st_top.specs.declared.replaying.Again.TheVariants as again
 use Rattle.st_words.specs.declared.job.Form.{Form}
 use Rattle.st_report.specs.Lines.{histories}
 use Rattle.st_top.specs.Ways.{Way}
-use Rattle.st_top.specs.Serial.{Run, GroupState, states_of, serial_end, serial_full, serial_logs}
+use Rattle.st_serial.specs.Serial.{GroupState, states_of, serial_end, serial_full, serial_logs}
 use Rattle.st_top.specs.Output.{histories_of, shown}
 use Rattle.st_top.specs.Replaying.{Replay, IsFirstIllegal}
-use Rattle.st_top.specs.Answer.{Results, SourceState, SinkState, EndsOnDoc, EndsOn, EndsOnReplay, EndsOnBytes, ComesOf, no_results, fault_line, status_line}
+use Rattle.st_serial.specs.Kept.{groups_of}
+use Rattle.st_run.specs.declared.playing.Played.{Played}
+use Rattle.st_top.specs.Answer.{Results, SourceState, SinkState, EndsOnDoc, EndsOn, EndsOnRun, EndsOnRunDoc, EndsOnReplay, EndsOnBytes, ComesOf, no_results, fault_line, status_line}
 
 -- what an ending hands back
 abbrev pub results_in : Ending → Results
@@ -52,6 +53,19 @@ IsEndOnDoc task doc ending = EndsOnDoc task doc (results_in ending) ending.text 
 -- what a task ends with on what was read to its end
 abbrev pub IsEndOn : Task → Result Doc LineFault → Ending → Type 0
 IsEndOn task read ending = EndsOn task read (results_in ending) ending.text ending.status
+
+-- what a run by threads ends with on a document, and on what was read to its end
+abbrev pub IsEndOnRunDoc : Form → Doc → Ending → Type 0
+IsEndOnRunDoc form doc ending = EndsOnRunDoc form doc (results_in ending) ending.text ending.status
+
+abbrev pub IsEndOnRun : Form → Result Doc LineFault → Ending → Type 0
+IsEndOnRun form read ending = EndsOnRun form read (results_in ending) ending.text ending.status
+
+-- the status and the text of a document whose scripts threads have run: what is shown of them, or the line of the group at whose full journal one stopped
+abbrev pub IsToldOfRun : Form → Doc → Played → Status → List ℕ → Type 0
+IsToldOfRun form doc played statuses.Ok text = (played.full ≡ None) × (text ≡ shown (In form) doc (histories_of (groups_of doc) played.journals.items) played.logs.items)
+IsToldOfRun form doc played (statuses.JournalFull group) text = (played.full ≡ Some group) × (text ≡ status_line doc.groups (statuses.JournalFull group))
+IsToldOfRun form doc played _ text = ⊥
 
 -- what a replay ends with on what was read to its end
 abbrev pub IsEndOnReplay : Form → Result Replay LineFault → Ending → Type 0
@@ -86,10 +100,6 @@ IsToldAgain form doc (again.Worlds worlds) statuses.Ok text = text ≡ shown (In
 IsToldAgain form doc (again.Worlds worlds) _ text = ⊥
 IsToldAgain form doc (again.Illegal n entry) (statuses.Illegal group number) text = (group ≡ n) × (number ≡ entry) × (text ≡ status_line doc.groups (statuses.Illegal group number))
 IsToldAgain form doc (again.Illegal n entry) _ text = ⊥
-
--- the groups with their journals, and the logs, that a run has come to
-abbrev pub run_in : Ran → Run
-run_in ran = record { groups = states_of ran.sites.items; logs = ran.logs.items; full = ran.full }
 
 -- the status that is told once writing ended so
 abbrev pub told : Written → Status → Status

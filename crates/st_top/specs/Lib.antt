@@ -1,6 +1,4 @@
 pub mod Ways
-pub mod Schedule
-pub mod Serial
 pub mod Output
 pub mod Exit
 pub mod Replaying
@@ -9,5 +7,4 @@ pub mod Completeness
 pub mod PrintedRuns
 pub mod Ending
 pub mod Program
-pub mod Shares
-pub mod Most
+pub mod Trees

@@ -1,7 +1,6 @@
 -- What the tasks write.
 use Rattle.std.specs.Prelude.{ℕ, List, [], ◌∷◌, ◌++◌, length, map, flat_map, reverse, codes, decimal, sum_by}
 use Rattle.st_text.specs.Words.{line}
-use Rattle.st_net.specs.Faults.{group_of}
 use Rattle.st_net.specs.Groups.{Group}
 use Rattle.st_event.specs.declared.act.Log.{Log}
 use Rattle.st_event.specs.declared.journal.Journal.{Journal}
@@ -17,10 +16,6 @@ use Rattle.st_report.specs.Json.{report_json_of}
 use Rattle.st_report.specs.Sums.{sums_text}
 use Rattle.st_top.specs.declared.task.Showing.{Showing}
 use Rattle.st_top.specs.declared.task.Showing.TheVariants.{In, Sums}
-
--- the groups of a document, as they are built
-abbrev pub groups_of : Doc → List Group
-groups_of doc = map group_of doc.groups
 
 -- groups, each with its journal
 abbrev pub histories_of : List Group → List Journal → List History

@@ -12,7 +12,8 @@ use Rattle.st_top.specs.declared.answer.Status.{Status}
 use Rattle.st_top.specs.declared.answer.Status.TheVariants.{Ok}
 use Rattle.st_top.specs.declared.task.Showing.TheVariants.{In}
 use Rattle.st_top.specs.declared.task.Reading.TheVariants.{Journals}
-use Rattle.st_top.specs.Output.{app_names, groups_of, histories_of, shown}
+use Rattle.st_top.specs.Output.{app_names, histories_of, shown}
+use Rattle.st_serial.specs.Kept.{groups_of}
 use Rattle.st_top.specs.Replaying.{AreLegal, IsFirstIllegal, replay_of}
 use Rattle.st_top.specs.Answer.{Results, EndsOnBytes}
 use Rattle.st_top.specs.Completeness.{CanBeRead}

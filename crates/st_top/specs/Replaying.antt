@@ -13,7 +13,8 @@ use Rattle.st_journal.specs.declared.reading.JournalsRead.{JournalsRead}
 use Rattle.st_journal.specs.declared.reading.JournalsRead.TheVariants as reads
 use Rattle.st_journal.specs.JournalReading.{journals_in}
 use Rattle.st_journal.specs.Replaying.{IsFirstWrong}
-use Rattle.st_top.specs.Output.{app_names, groups_of}
+use Rattle.st_top.specs.Output.{app_names}
+use Rattle.st_serial.specs.Kept.{groups_of}
 
 -- the bytes of the journals, and the number of their first line; without journals there are no bytes
 abbrev pub journal_bytes : Option JournalAt → List ℕ → List ℕ

@@ -18,10 +18,10 @@ pub data Way : Type 0 where
   reads : Reading → Way
   makes : Task → FatTree → Way
 
--- the way to a job. `run` is not done yet
+-- the way to a job
 abbrev pub way_to : Job → Way
 way_to (jobs.Serial form) = reads (readings.Doc (Serial (In form)))
-way_to (jobs.Run form) = nothing
+way_to (jobs.Run form) = reads (readings.Run form)
 way_to (jobs.Replay form) = reads (readings.Journals form)
 way_to jobs.Check = reads (readings.Doc Count)
 way_to (jobs.Gen tree) = makes Print tree
@@ -40,6 +40,14 @@ abbrev pub is_read_on : Way → Bool
 is_read_on nothing = false
 is_read_on (reads reading) = true
 is_read_on (makes task tree) = false
+
+-- whether threads are needed on it
+abbrev pub is_run : Way → Bool
+is_run nothing = false
+is_run (reads (readings.Doc task)) = false
+is_run (reads (readings.Run form)) = true
+is_run (reads (readings.Journals form)) = false
+is_run (makes task tree) = false
 
 -- the document that is generated for a fat tree
 abbrev pub tree_doc : FatTree → Doc

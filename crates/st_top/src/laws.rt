@@ -1,14 +1,11 @@
-//! Laws of what the scripts of a document do, and of a run that is printed. A function here does nothing: its contract is the law, for
+//! Laws of the documents of fat trees, and of a run that is printed. A function here does nothing: its contract is the law, for
 //! whoever runs a document and has to say that it comes to its end, or keeps what was printed and replays it later.
 
-ghost use Rattle.st_top.specs.Most.{FewEntriesFit, JournalsAreWithinMost, TreesFit, TreesHaveRoom};
 ghost use Rattle.st_top.specs.PrintedRuns.{PrintedRunsAreReplayed};
+ghost use Rattle.st_top.specs.Trees.{TreesFit, TreesHaveRoom};
 
-/// On one thread no journal gets more entries than the commands on its group can make at the most; so where these are below
-/// 200,000 for each group no event meets a full journal. The documents of fat trees have so few.
-pub fn few_entries_fit()
-    ensures within { JournalsAreWithinMost }
-    ensures fit { FewEntriesFit }
+/// The documents of fat trees have so few commands that no event meets a full journal.
+pub fn trees_fit()
     ensures room { TreesHaveRoom }
     ensures trees { TreesFit }
 {}

@@ -5,17 +5,16 @@ mod answer;
 mod ending;
 pub mod laws;
 mod output;
+mod playing;
 mod program;
 mod replaying;
-mod running;
-mod schedule;
-mod serial;
+mod results;
 mod task;
 mod top;
 
 pub use answer::{Journals, Logs, Outcome, Status};
 pub use program::{ended, run_program};
-pub use top::statesman;
+pub use top::{statesman, statesman_alone};
 
 #[cfg(test)]
 mod tests;

@@ -8,12 +8,15 @@ ghost use Rattle.st_top.specs.Program.{words_in, ProgramEnds};
 
 use crate::answer::Outcome;
 use crate::top::statesman;
+use st_crew::NoGate;
 use st_io::{Sink, Source};
 use std::alloc::{AllocError, Global};
 use std::env::Args;
 use std::io;
 use std::io::ErrorKind;
 use std::process::ExitCode;
+use std::sync::Wait;
+use std::thread::Threads;
 
 /// The words after the first of these, which is the program's name.
 fn after_name(alloc: Global, mut args: Args) -> Result<Vec<String>, AllocError>
@@ -46,8 +49,9 @@ pub fn ended(outcome: &Outcome) -> ExitCode
 }
 
 /// The whole call on the words of these arguments, of which the first is the program's name. Where memory was refused to the
-/// arguments, nothing is read or written, and the exit status is that of want of memory.
-pub fn run_program<S: Source, K: Sink>(
+/// arguments, nothing is read or written, and the exit status is that of want of memory. The gate is the one that does nothing.
+pub fn run_program<R: Threads + Wait + Sync, S: Source, K: Sink>(
+    rt: &R,
     alloc: Global,
     args: io::Result<Args>,
     source: &mut S,
@@ -60,7 +64,7 @@ pub fn run_program<S: Source, K: Sink>(
         (record { held = K.held sink.new; faults = K.faults sink.new }) result }
 {
     match words_after(alloc, args) {
-        Ok(words) => ended(&statesman(alloc, words.as_slice(), source, sink)),
+        Ok(words) => ended(&statesman(rt, alloc, words.as_slice(), source, sink, &NoGate)),
         Err(_) => ended(&Outcome::out_of_memory(alloc)),
     }
 }

@@ -6,26 +6,27 @@ ghost use Rattle.st_net.specs.Faults.{group_of};
 ghost use Rattle.st_grammar.specs.Reading.{IsPlaceWithin};
 ghost use Rattle.st_grammar.specs.Sound.{IsSoundGroup, IsSoundDoc};
 ghost use Rattle.st_journal.specs.JournalReading.{journals_in, AreJournalsOf, HasOneOfEach, Reads as ReadsJournals};
-ghost use Rattle.st_top.specs.Output.{app_names as app_names_lem, groups_of};
+ghost use Rattle.st_top.specs.Output.{app_names as app_names_lem};
+ghost use Rattle.st_serial.specs.Kept.{groups_of};
 ghost use Rattle.st_top.specs.Replaying.{replay_of, replay_with, journal_bytes, journal_line, HasFewEntries, HaveFewEntries};
 ghost use Rattle.st_top.specs.Ending.{IsAgain, IsEndOnReplay, IsToldAgain};
 
 use crate::answer::{Journals, Logs, Status, status_line};
 use crate::ending::{Ending, bad_input};
 use crate::output::{app_names, shown_text};
-use crate::running::topo_of;
 use crate::task::Showing;
 use st_doc::{Doc, DocRead, read_doc};
 use st_event::Journal;
 use st_journal::{JournalsRead, Replayed, read_journals, replay};
 use st_net::{GroupTopo, Parts};
+use st_serial::topo_of;
 use st_text::Text;
 use st_words::Form;
 use st_world::World;
 use std::alloc::{AllocError, Global};
 
 /// A topology of each group of a document, in order.
-fn topos_of(alloc: Global, groups: &[Parts]) -> Result<Vec<GroupTopo>, AllocError>
+pub fn topos_of(alloc: Global, groups: &[Parts]) -> Result<Vec<GroupTopo>, AllocError>
     requires { All IsSoundGroup groups.now }
     ensures { IfOk result (λ topos. topos.items ≡ map group_of groups.now) }
 {
@@ -66,7 +67,7 @@ pub enum Again {
 }
 
 /// Goes through the journals of groups again, in order, up to the first entry with a reply that is not called for.
-fn replay_all(
+pub fn replay_all(
     alloc: Global,
     topos: Vec<GroupTopo>,
     journals: &[Journal],

@@ -27,6 +27,8 @@ pub enum Task {
 pub enum Reading {
     /// A task on the document that it is.
     Doc(Task),
+    /// The scripts of the document that it is are run by threads, and what came of them is shown in this form.
+    Run(Form),
     /// Its journals are gone through again, and what came of them is shown in this form.
     Journals(Form),
 }

@@ -1,17 +1,22 @@
 //! Whole calls: words and bytes in; text, status and journals out. Expected texts are worked by hand.
 
+mod gates;
 mod jobs;
 mod replays;
+mod runs;
 mod tables;
 
 use crate::{Outcome, Status, statesman};
+use st_crew::{Gate, NoGate};
 use st_doc::DocKind;
 use st_event::{Event, Reply, Verdict};
 use st_io::{MemorySink, MemorySource, SureSink, SureSource};
 use st_net::{Entity, Var};
 use std::alloc::{AllocError, Global};
 use std::process::Abort;
+use std::sync::Wait;
 use std::test::Fail;
+use std::thread::Threads;
 
 /// Two ToRs that two switches join, without promises and scripts.
 const TWO_PATHS: &[u8] =
@@ -60,16 +65,32 @@ fn words_of(alloc: Global, words: &[&str]) -> Result<Vec<String>, AllocError> {
     Ok(list)
 }
 
-/// A call over a source and a sink that never fail.
-fn call(alloc: Global, words: &[&str], parts: &[&[u8]]) -> Result<Called, AllocError> {
+/// A call over a source and a sink that never fail, with a gate.
+fn call_at<R: Threads + Wait + Sync, G: Gate + Sync>(
+    rt: &R,
+    alloc: Global,
+    words: &[&str],
+    parts: &[&[u8]],
+    gate: &G,
+) -> Result<Called, AllocError> {
     let words = words_of(alloc, words)?;
     let mut source = SureSource::new(joined(alloc, parts)?);
     let mut sink = SureSink::new(alloc);
-    let outcome = statesman(alloc, words.as_slice(), &mut source, &mut sink);
+    let outcome = statesman(rt, alloc, words.as_slice(), &mut source, &mut sink, gate);
     Ok(Called {
         outcome,
         text: sink.bytes().to_vec(alloc)?,
     })
+}
+
+/// A call over a source and a sink that never fail.
+fn call<R: Threads + Wait + Sync>(
+    rt: &R,
+    alloc: Global,
+    words: &[&str],
+    parts: &[&[u8]],
+) -> Result<Called, AllocError> {
+    call_at(rt, alloc, words, parts, &NoGate)
 }
 
 /// A word for each entry of the journals: what happened, and how it was answered.
@@ -106,8 +127,13 @@ fn ends_as(
 }
 
 /// What `serial` is to write of a document of these parts.
-fn writes(rt: &impl Abort, alloc: Global, parts: &[&[u8]], text: &[u8]) -> Result<(), AllocError> {
-    let called = call(alloc, &["serial"], parts)?;
+fn writes<R: Abort + Threads + Wait + Sync>(
+    rt: &R,
+    alloc: Global,
+    parts: &[&[u8]],
+    text: &[u8],
+) -> Result<(), AllocError> {
+    let called = call(rt, alloc, &["serial"], parts)?;
     assert_eq!(rt; called.outcome.status, Status::Ok);
     assert_eq!(rt; called.text.as_slice(), text);
     Ok(())
@@ -116,7 +142,7 @@ fn writes(rt: &impl Abort, alloc: Global, parts: &[&[u8]], text: &[u8]) -> Resul
 #[test]
 fn a_proposal_is_accepted(rt: HostRuntime) -> Result<(), Fail> {
     let alloc = rt.alloc();
-    let called = call(alloc, &["serial"], &[TWO_PATHS, HALF, FIRST])?;
+    let called = call(&rt, alloc, &["serial"], &[TWO_PATHS, HALF, FIRST])?;
     let entries = ["queued", "accepted"];
     ends_as(&rt, alloc, &called, Status::Ok, ACCEPTED, &entries)?;
     Ok(())
@@ -125,7 +151,7 @@ fn a_proposal_is_accepted(rt: HostRuntime) -> Result<(), Fail> {
 #[test]
 fn a_second_proposal_would_break_the_pair(rt: HostRuntime) -> Result<(), Fail> {
     let alloc = rt.alloc();
-    let called = call(alloc, &["serial"], &[TWO_PATHS, HALF, FIRST, SECOND])?;
+    let called = call(&rt, alloc, &["serial"], &[TWO_PATHS, HALF, FIRST, SECOND])?;
     let entries = ["queued", "queued", "accepted", "refused"];
     let text =
         b"statesman report 1\ngroup dc1\nversion 1\nentries 4\nreceipt 1 up accepted 1\nreceipt 2 up refused broken t1 t2 cutoff need 10 has 0 side t1\ntarget a1.firmware=2\nunsettled a1\nwire commands 0 reports 0 stale 0 old 0\npromises 1 start 1 now 1\nend\n";
@@ -252,7 +278,12 @@ fn a_full_queue_is_checked_first(rt: HostRuntime) -> Result<(), Fail> {
     for _line in 0..65 {
         script.extend_from_slice(b"propose dc1 a1.config=1\n")?;
     }
-    let called = call(alloc, &["serial"], &[TWO_PATHS, HALF, script.as_slice()])?;
+    let called = call(
+        &rt,
+        alloc,
+        &["serial"],
+        &[TWO_PATHS, HALF, script.as_slice()],
+    )?;
     assert_eq!(&rt; called.outcome.status, Status::Ok);
     assert_eq!(&rt; entry_words(alloc, &called.outcome)?.len(), 130);
     Ok(())
@@ -276,7 +307,7 @@ fn largest_counts(alloc: Global) -> Result<Vec<u8>, AllocError> {
 fn the_greatest_numbers_of_groups_and_applications_run(rt: HostRuntime) -> Result<(), Fail> {
     let alloc = rt.alloc();
     let bytes = largest_counts(alloc)?;
-    let called = call(alloc, &["serial"], &[bytes.as_slice()])?;
+    let called = call(&rt, alloc, &["serial"], &[bytes.as_slice()])?;
     assert_eq!(&rt; called.outcome.status, Status::Ok);
     assert_eq!(&rt; called.outcome.journals.as_slice().len(), 16);
     assert_eq!(&rt; called.outcome.logs.as_slice().len(), 32);
@@ -287,7 +318,7 @@ fn the_greatest_numbers_of_groups_and_applications_run(rt: HostRuntime) -> Resul
 #[test]
 fn a_document_without_a_group_has_an_empty_report(rt: HostRuntime) -> Result<(), Fail> {
     let alloc = rt.alloc();
-    let called = call(alloc, &["serial"], &[HEADER])?;
+    let called = call(&rt, alloc, &["serial"], &[HEADER])?;
     ends_as(
         &rt,
         alloc,
@@ -302,21 +333,26 @@ fn a_document_without_a_group_has_an_empty_report(rt: HostRuntime) -> Result<(),
 #[test]
 fn parts_are_counted(rt: HostRuntime) -> Result<(), Fail> {
     let alloc = rt.alloc();
-    let called = call(alloc, &["check"], &[TWO_PATHS, HALF_WITH_CR, FIRST])?;
+    let called = call(&rt, alloc, &["check"], &[TWO_PATHS, HALF_WITH_CR, FIRST])?;
     let line = b"ok groups 1 devices 4 links 4 promises 1 apps 1 commands 1\n";
     ends_as(&rt, alloc, &called, Status::Ok, line, &[])?;
     Ok(())
 }
 
-/// What `serial` is to write of the two paths with a promise of half their capacity, these wire lines and this script.
-fn plant_writes(
-    rt: &impl Abort,
+/// What `serial` and `run` are both to write of the two paths with a promise of half their capacity, these wire lines and this script of
+/// one application, which has only one order.
+fn plant_writes<R: Abort + Threads + Wait + Sync>(
+    rt: &R,
     alloc: Global,
     lines: &[u8],
     script: &[u8],
     text: &[u8],
 ) -> Result<Called, AllocError> {
-    let called = call(alloc, &["serial"], &[TWO_PATHS, HALF, lines, script])?;
+    let parts = [TWO_PATHS, HALF, lines, script];
+    let run = call(rt, alloc, &["run"], &parts)?;
+    assert_eq!(rt; run.outcome.status, Status::Ok);
+    assert_eq!(rt; run.text.as_slice(), text);
+    let called = call(rt, alloc, &["serial"], &parts)?;
     assert_eq!(rt; called.outcome.status, Status::Ok);
     assert_eq!(rt; called.text.as_slice(), text);
     Ok(called)
@@ -412,11 +448,13 @@ fn other_values_are_set_back_by_a_renewed_command(rt: HostRuntime) -> Result<(),
 
 #[test]
 fn a_row_that_cannot_be_set_any_more_is_blocked(rt: HostRuntime) -> Result<(), Fail> {
+    let alloc = rt.alloc();
     let script =
         b"app up\npropose dc1 a1.firmware=2\nawait dc1\napp plant\nfail dc1 a1 1\npoll dc1 a1\nsettle dc1 1\norder up up plant plant plant\n";
     let text =
         b"statesman report 1\ngroup dc1\nversion 1\nentries 9\nreceipt 1 up accepted 1\ntarget a1.firmware=2\nunsettled a1\nwire commands 0 reports 2 stale 0 old 0\npromises 1 start 1 now 1\nend\n";
-    let called = plant_writes(&rt, rt.alloc(), b"", script, text)?;
+    let called = call(&rt, alloc, &["serial"], &[TWO_PATHS, HALF, script])?;
+    assert_eq!(&rt; called.text.as_slice(), text.as_slice());
     let is_blocked = match reply_of(&called, 6) {
         Some(Reply::Blocked { row }) => row.entity == Entity::Device(2)
             && row.var == Var::Firmware
@@ -466,7 +504,12 @@ fn a_full_journal_ends_the_run(rt: HostRuntime) -> Result<(), Fail> {
     for _line in 0..782 {
         script.extend_from_slice(b"settle dc1 64\n")?;
     }
-    let called = call(alloc, &["serial"], &[TWO_PATHS, HALF, script.as_slice()])?;
+    let called = call(
+        &rt,
+        alloc,
+        &["serial"],
+        &[TWO_PATHS, HALF, script.as_slice()],
+    )?;
     assert_eq!(&rt; called.outcome.status, Status::JournalFull { group: 0 });
     assert_eq!(&rt; called.text.as_slice(), b"fault full dc1\n".as_slice());
     assert_eq!(&rt; entry_words(alloc, &called.outcome)?.len(), 200_000);
@@ -476,7 +519,7 @@ fn a_full_journal_ends_the_run(rt: HostRuntime) -> Result<(), Fail> {
 #[test]
 fn bad_input_is_told_by_its_line(rt: HostRuntime) -> Result<(), Fail> {
     let alloc = rt.alloc();
-    let called = call(alloc, &["serial"], &[])?;
+    let called = call(&rt, alloc, &["serial"], &[])?;
     let header = Status::BadInput {
         line: 1,
         kind: DocKind::Header,
@@ -489,7 +532,7 @@ fn bad_input_is_told_by_its_line(rt: HostRuntime) -> Result<(), Fail> {
         b"fault input line 1 header\n",
         &[],
     )?;
-    let called = call(alloc, &["serial"], &[TWO_PATHS, TO_A_SWITCH])?;
+    let called = call(&rt, alloc, &["serial"], &[TWO_PATHS, TO_A_SWITCH])?;
     let pair = Status::BadInput {
         line: 11,
         kind: DocKind::Pair,
@@ -509,7 +552,7 @@ fn bad_input_is_told_by_its_line(rt: HostRuntime) -> Result<(), Fail> {
 fn input_that_is_too_long_is_told(rt: HostRuntime) -> Result<(), Fail> {
     let alloc = rt.alloc();
     let long = vec![in alloc; b'\n'; 1_048_577]?;
-    let called = call(alloc, &["serial"], &[long.as_slice()])?;
+    let called = call(&rt, alloc, &["serial"], &[long.as_slice()])?;
     ends_as(&rt, alloc, &called, Status::TooLong, b"fault long\n", &[])?;
     Ok(())
 }
@@ -520,7 +563,14 @@ fn a_failing_sink_holds_a_prefix(rt: HostRuntime) -> Result<(), Fail> {
     let words = words_of(alloc, &["serial"])?;
     let mut source = SureSource::new(joined(alloc, &[TWO_PATHS, HALF, FIRST])?);
     let mut sink = MemorySink::new(alloc, 16, vec![in alloc; 3]?);
-    let outcome = statesman(alloc, words.as_slice(), &mut source, &mut sink);
+    let outcome = statesman(
+        &rt,
+        alloc,
+        words.as_slice(),
+        &mut source,
+        &mut sink,
+        &NoGate,
+    );
     assert_eq!(rt; outcome.status, Status::WriteFault);
     assert_eq!(rt;
         sink.bytes(),
@@ -538,7 +588,14 @@ fn a_failing_source_is_told(rt: HostRuntime) -> Result<(), Fail> {
     let bytes = joined(alloc, &[TWO_PATHS, HALF, FIRST])?;
     let mut source = MemorySource::new(bytes, 64, vec![in alloc; 2]?);
     let mut sink = SureSink::new(alloc);
-    let outcome = statesman(alloc, words.as_slice(), &mut source, &mut sink);
+    let outcome = statesman(
+        &rt,
+        alloc,
+        words.as_slice(),
+        &mut source,
+        &mut sink,
+        &NoGate,
+    );
     assert_eq!(rt; outcome.status, Status::ReadFault);
     assert_eq!(rt; sink.bytes(), b"fault read\n".as_slice());
     Ok(())

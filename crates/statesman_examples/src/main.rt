@@ -2,6 +2,7 @@
 //! the gate compares it with the file `stdout`. Each argument is a run as it is typed behind `./statesman`: `serial <two_path.txt`.
 #![tactic(auto)]
 
+use st_crew::NoGate;
 use st_io::{SureSink, SureSource};
 use st_top::statesman;
 use std::alloc::{AllocError, Global};
@@ -42,7 +43,14 @@ fn show(rt: &HostRuntime, typed: &str) -> io::Result<()> {
     let run = run_of(alloc, typed)?;
     let mut source = SureSource::new(input_of(rt, &run)?);
     let mut sink = SureSink::new(alloc);
-    let outcome = statesman(alloc, run.words.as_slice(), &mut source, &mut sink);
+    let outcome = statesman(
+        rt,
+        alloc,
+        run.words.as_slice(),
+        &mut source,
+        &mut sink,
+        &NoGate,
+    );
     println!(rt; "$ ./statesman {typed}")?;
     io::writer(rt).write_all(sink.bytes())?;
     println!(rt; "exit {}\n", outcome.status.exit_code())

@@ -10,5 +10,5 @@ use std::process::ExitCode;
 fn main(rt: HostRuntime) -> ExitCode {
     let mut source = StdSource::new(rt.stdin());
     let mut sink = StdSink::new(rt.stdout());
-    run_program(rt.alloc(), env::args(&rt), &mut source, &mut sink)
+    run_program(&rt, rt.alloc(), env::args(&rt), &mut source, &mut sink)
 }

@@ -4,7 +4,9 @@ use super::{ACCEPTED, FIRST, HALF, SECOND, TWO_PATHS, call, joined};
 use crate::Status;
 use std::alloc::{AllocError, Global};
 use std::process::Abort;
+use std::sync::Wait;
 use std::test::Fail;
+use std::thread::Threads;
 
 /// The document of the two paths with two proposals, as it is printed.
 pub const PRINTED: &str =
@@ -19,8 +21,12 @@ pub const REPORT: &str =
     "statesman report 1\ngroup dc1\nversion 1\nentries 4\nreceipt 1 up accepted 1\nreceipt 2 up refused broken t1 t2 cutoff need 10 has 0 side t1\ntarget a1.firmware=2\nunsettled a1\nwire commands 0 reports 0 stale 0 old 0\npromises 1 start 1 now 1\nend\n";
 
 /// How a call on words ends, over a document: whether they ask for something that is done.
-fn is_taken(rt: &impl Abort, alloc: Global, words: &[&str]) -> Result<bool, AllocError> {
-    let called = call(alloc, words, &[TWO_PATHS, HALF])?;
+fn is_taken<R: Abort + Threads + Wait + Sync>(
+    rt: &R,
+    alloc: Global,
+    words: &[&str],
+) -> Result<bool, AllocError> {
+    let called = call(rt, alloc, words, &[TWO_PATHS, HALF])?;
     let is_usage = called.outcome.status == Status::Usage;
     assert_eq!(rt;
         called.text.as_slice() == b"fault usage\n".as_slice(),
@@ -36,7 +42,7 @@ fn each_command_takes_its_options(rt: HostRuntime) -> Result<(), Fail> {
     // Whether a form may stand, and whether pods and a seed may.
     let commands = [
         ("serial", true, false),
-        ("run", false, false),
+        ("run", true, false),
         ("replay", true, false),
         ("check", false, false),
         ("gen", false, true),
@@ -102,7 +108,7 @@ fn options_stand_before_and_behind(rt: HostRuntime) -> Result<(), Fail> {
         &["serial"],
     ];
     for words in cases {
-        let called = call(alloc, words, &[TWO_PATHS, HALF, FIRST])?;
+        let called = call(&rt, alloc, words, &[TWO_PATHS, HALF, FIRST])?;
         assert_eq!(&rt; called.text.as_slice(), ACCEPTED);
     }
     Ok(())
@@ -112,6 +118,7 @@ fn options_stand_before_and_behind(rt: HostRuntime) -> Result<(), Fail> {
 fn a_report_is_one_line_of_json(rt: HostRuntime) -> Result<(), Fail> {
     let alloc = rt.alloc();
     let called = call(
+        &rt,
         alloc,
         &["serial", "--form", "json"],
         &[TWO_PATHS, HALF, FIRST],
@@ -126,6 +133,7 @@ fn a_report_is_one_line_of_json(rt: HostRuntime) -> Result<(), Fail> {
 fn a_run_is_printed_for_replay(rt: HostRuntime) -> Result<(), Fail> {
     let alloc = rt.alloc();
     let called = call(
+        &rt,
         alloc,
         &["serial", "--form", "replay"],
         &[TWO_PATHS, HALF, FIRST, SECOND],
@@ -138,7 +146,7 @@ fn a_run_is_printed_for_replay(rt: HostRuntime) -> Result<(), Fail> {
 #[test]
 fn a_fat_tree_is_run_and_summed_up(rt: HostRuntime) -> Result<(), Fail> {
     let alloc = rt.alloc();
-    let called = call(alloc, &["demo", "--pods", "4", "--seed", "0"], &[])?;
+    let called = call(&rt, alloc, &["demo", "--pods", "4", "--seed", "0"], &[])?;
     let text =
         b"demo pods 4 seed 0\ndevices 20 links 32 promises 28\nentries 48 version 2 accepted 2 refused 1\ncommands 8 reports 8 unsettled 0\nstart 28 now 28\nend\n";
     assert_eq!(&rt; called.text.as_slice(), text.as_slice());
@@ -148,8 +156,8 @@ fn a_fat_tree_is_run_and_summed_up(rt: HostRuntime) -> Result<(), Fail> {
 #[test]
 fn a_printed_fat_tree_is_counted(rt: HostRuntime) -> Result<(), Fail> {
     let alloc = rt.alloc();
-    let printed = call(alloc, &["gen"], &[])?;
-    let counted = call(alloc, &["check"], &[printed.text.as_slice()])?;
+    let printed = call(&rt, alloc, &["gen"], &[])?;
+    let counted = call(&rt, alloc, &["check"], &[printed.text.as_slice()])?;
     assert_eq!(&rt;
         counted.text.as_slice(),
         b"ok groups 1 devices 20 links 32 promises 28 apps 2 commands 11\n".as_slice()
@@ -165,8 +173,8 @@ fn has_line(text: &[u8], line: &[u8]) -> bool {
 #[test]
 fn a_printed_fat_tree_of_a_seed_is_run(rt: HostRuntime) -> Result<(), Fail> {
     let alloc = rt.alloc();
-    let printed = call(alloc, &["gen", "--pods", "4", "--seed", "7"], &[])?;
-    let run = call(alloc, &["serial"], &[printed.text.as_slice()])?;
+    let printed = call(&rt, alloc, &["gen", "--pods", "4", "--seed", "7"], &[])?;
+    let run = call(&rt, alloc, &["serial"], &[printed.text.as_slice()])?;
     let lines = [
         "read te dc1 p0a0.firmware version 1 value 9",
         "receipt 3 up refused broken p0e0 p3e0 cutoff need 10 has 0 side p0e0 p0e1 p0a0 p0a1 p1e0 p1e1 p1a0 p1a1 p2e0 p2e1 p2a0 p2a1 c0 c1 c2 c3",

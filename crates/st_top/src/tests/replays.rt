@@ -3,11 +3,14 @@
 use super::jobs::{JOURNAL, PRINTED, REPORT};
 use super::{Called, FIRST, HALF, SECOND, TWO_PATHS, call, ends_as, entry_words, joined, words_of};
 use crate::{Status, statesman};
+use st_crew::NoGate;
 use st_doc::DocKind;
 use st_io::{MemorySink, SureSource};
 use std::alloc::{AllocError, Global};
 use std::process::Abort;
+use std::sync::Wait;
 use std::test::Fail;
+use std::thread::Threads;
 
 /// The lines of the journal's entries.
 const ENTRIES: [&str; 4] = [
@@ -34,14 +37,14 @@ fn altered(alloc: Global, entry: u32, line: &str) -> Result<Vec<u8>, AllocError>
 }
 
 /// What `replay` is to end with on a text that it refuses: a status, and one line.
-fn refused(
-    rt: &impl Abort,
+fn refused<R: Abort + Threads + Wait + Sync>(
+    rt: &R,
     alloc: Global,
     parts: &[&[u8]],
     status: Status,
     line: &str,
 ) -> Result<(), AllocError> {
-    let called = call(alloc, &["replay"], parts)?;
+    let called = call(rt, alloc, &["replay"], parts)?;
     assert_eq!(rt; called.outcome.status, status);
     assert_eq!(rt; called.text.as_slice(), line.as_bytes());
     Ok(())
@@ -61,7 +64,7 @@ fn a_printed_run_is_replayed_in_each_form(rt: HostRuntime) -> Result<(), Fail> {
     ];
     let entries = ["queued", "queued", "accepted", "refused"];
     for (words, text) in cases {
-        let called = call(alloc, words, &[printed.as_slice()])?;
+        let called = call(&rt, alloc, words, &[printed.as_slice()])?;
         ends_as(&rt, alloc, &called, Status::Ok, text, &entries)?;
         assert_eq!(&rt; called.outcome.logs.as_slice().len(), 0);
     }
@@ -73,12 +76,12 @@ fn what_was_read_is_not_replayed(rt: HostRuntime) -> Result<(), Fail> {
     let alloc = rt.alloc();
     let script = b"await dc1\nread dc1 a1.firmware\nreadat dc1 0 a1.firmware\n";
     let parts: [&[u8]; 5] = [TWO_PATHS, HALF, FIRST, SECOND, script];
-    let run = call(alloc, &["serial"], &parts)?;
+    let run = call(&rt, alloc, &["serial"], &parts)?;
     let ends =
         "promises 1 start 1 now 1\nread up dc1 a1.firmware version 1 value 2\nread up dc1 a1.firmware at 0 value 1\nend\n";
     assert!(&rt; run.text.as_slice().ends_with(ends.as_bytes()));
-    let printed = call(alloc, &["serial", "--form", "replay"], &parts)?;
-    let again = call(alloc, &["replay"], &[printed.text.as_slice()])?;
+    let printed = call(&rt, alloc, &["serial", "--form", "replay"], &parts)?;
+    let again = call(&rt, alloc, &["replay"], &[printed.text.as_slice()])?;
     assert_eq!(&rt; again.text.as_slice(), REPORT.as_bytes());
     Ok(())
 }
@@ -88,14 +91,14 @@ fn a_fat_tree_is_run_and_replayed(rt: HostRuntime) -> Result<(), Fail> {
     let alloc = rt.alloc();
     let report =
         "statesman report 1\ngroup dc1\nversion 2\nentries 48\nlock te c0 high granted\nunlock te c0 high released\nreceipt 1 up accepted 1\nreceipt 2 up accepted 2\nreceipt 3 up refused broken p0e0 p0e1 cutoff need 10 has 0 side p0e0\ntarget p0a0.firmware=2\ntarget p0a1.firmware=2\ntarget p1a0.firmware=2\ntarget p1a1.firmware=2\ntarget p2a0.firmware=2\ntarget p2a1.firmware=2\ntarget p3a0.firmware=2\ntarget p3a1.firmware=2\nwire commands 8 reports 8 stale 0 old 0\npromises 28 start 28 now 28\n";
-    let made = call(alloc, &["gen", "--seed", "0"], &[])?;
+    let made = call(&rt, alloc, &["gen", "--seed", "0"], &[])?;
     let document = made.text.as_slice();
-    let run = call(alloc, &["serial"], &[document])?;
+    let run = call(&rt, alloc, &["serial"], &[document])?;
     let read = b"read te dc1 p0a0.firmware version 1 value 2\n";
     let whole = joined(alloc, &[report.as_bytes(), read, b"end\n"])?;
     assert_eq!(&rt; run.text.as_slice(), whole.as_slice());
-    let printed = call(alloc, &["serial", "--form=replay"], &[document])?;
-    let again = call(alloc, &["replay"], &[printed.text.as_slice()])?;
+    let printed = call(&rt, alloc, &["serial", "--form=replay"], &[document])?;
+    let again = call(&rt, alloc, &["replay"], &[printed.text.as_slice()])?;
     let rest = joined(alloc, &[report.as_bytes(), b"end\n"])?;
     assert_eq!(&rt; again.text.as_slice(), rest.as_slice());
     Ok(())
@@ -106,7 +109,7 @@ fn an_untold_failure_is_replayed(rt: HostRuntime) -> Result<(), Fail> {
     let alloc = rt.alloc();
     let journal =
         b"app up\njournal dc1\n1 fail a2 0 power=1 firmware=1 config=1 routing=1 : changed\n2 submit up a1.routing=0 : queued 1\n3 check : receipt 1 accepted 1\n4 send a1 : sent 1\n5 deliver 1 : begun\n6 finish a1 : done\n7 report a1 : reported 1\n8 hear 1 : taken\n";
-    let called = call(alloc, &["replay"], &[TWO_PATHS, HALF, journal])?;
+    let called = call(&rt, alloc, &["replay"], &[TWO_PATHS, HALF, journal])?;
     let text =
         b"statesman report 1\ngroup dc1\nversion 1\nentries 8\nreceipt 1 up accepted 1\ntarget a1.routing=0\nwire commands 1 reports 1 stale 0 old 0\npromises 1 start 1 now 0\nlost t1 t2\nend\n";
     assert_eq!(&rt; called.text.as_slice(), text.as_slice());
@@ -187,6 +190,7 @@ fn the_first_group_that_is_not_legal_is_named(rt: HostRuntime) -> Result<(), Fai
     )?;
     let text = "journal h\n1 send a : settled\n";
     let called = call(
+        &rt,
         alloc,
         &["replay"],
         &[TWO_GROUPS.as_bytes(), text.as_bytes()],
@@ -282,7 +286,12 @@ fn other_commands_take_no_journal(rt: HostRuntime) -> Result<(), Fail> {
         kind: DocKind::Word,
     };
     for command in ["serial", "check"] {
-        let called = call(alloc, &[command], &[PRINTED.as_bytes(), JOURNAL.as_bytes()])?;
+        let called = call(
+            &rt,
+            alloc,
+            &[command],
+            &[PRINTED.as_bytes(), JOURNAL.as_bytes()],
+        )?;
         ends_as(
             &rt,
             alloc,
@@ -310,7 +319,7 @@ fn every_beginning_of_a_printed_run_is_replayed_or_refused(rt: HostRuntime) -> R
     let alloc = rt.alloc();
     let text = joined(alloc, &[PRINTED.as_bytes(), JOURNAL.as_bytes()])?;
     for n in 0..text.len() {
-        let called = call(alloc, &["replay"], &[&text.as_slice()[..n]])?;
+        let called = call(&rt, alloc, &["replay"], &[&text.as_slice()[..n]])?;
         let is_well = is_beginning(alloc, &called)?;
         assert!(&rt; is_well);
     }
@@ -323,7 +332,14 @@ fn a_failing_sink_leaves_the_journals(rt: HostRuntime) -> Result<(), Fail> {
     let words = words_of(alloc, &["replay"])?;
     let mut source = SureSource::new(joined(alloc, &[PRINTED.as_bytes(), JOURNAL.as_bytes()])?);
     let mut sink = MemorySink::new(alloc, 16, vec![in alloc; 2]?);
-    let outcome = statesman(alloc, words.as_slice(), &mut source, &mut sink);
+    let outcome = statesman(
+        &rt,
+        alloc,
+        words.as_slice(),
+        &mut source,
+        &mut sink,
+        &NoGate,
+    );
     assert_eq!(rt; outcome.status, Status::WriteFault);
     assert_eq!(rt; sink.bytes(), b"statesman report".as_slice());
     let told = entry_words(alloc, &outcome)?;

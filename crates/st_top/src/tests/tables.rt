@@ -32,7 +32,12 @@ fn each_kind_of_bad_line_has_its_word(rt: HostRuntime) -> Result<(), Fail> {
         (SMALL, sixteen, "fault input line 20 limit\n"),
     ];
     for (before, line, text) in cases {
-        let called = call(alloc, &["check"], &[before.as_bytes(), line.as_bytes()])?;
+        let called = call(
+            &rt,
+            alloc,
+            &["check"],
+            &[before.as_bytes(), line.as_bytes()],
+        )?;
         assert_eq!(&rt; called.text.as_slice(), text.as_bytes());
     }
     Ok(())
@@ -94,7 +99,7 @@ fn the_program_ends_with_the_exit_status_of_its_call(rt: HostRuntime) -> Result<
         let args = words_of(alloc, args)?.into_iter();
         let mut source = SureSource::new(input.as_bytes().to_vec(alloc)?);
         let mut sink = SureSink::new(alloc);
-        let code = run_program(alloc, Ok(args), &mut source, &mut sink);
+        let code = run_program(&rt, alloc, Ok(args), &mut source, &mut sink);
         assert_eq!(&rt; code, ExitCode::from(exit));
         assert_eq!(&rt; sink.bytes(), text.as_bytes());
     }
@@ -108,7 +113,7 @@ fn an_input_of_the_most_bytes_is_read(rt: HostRuntime) -> Result<(), Fail> {
     for _ in bytes.len()..1_048_576 {
         bytes.push(b'\n')?;
     }
-    let called = call(alloc, &["serial"], &[bytes.as_slice()])?;
+    let called = call(&rt, alloc, &["serial"], &[bytes.as_slice()])?;
     ends_as(
         &rt,
         alloc,
@@ -117,7 +122,7 @@ fn an_input_of_the_most_bytes_is_read(rt: HostRuntime) -> Result<(), Fail> {
         ACCEPTED,
         &["queued", "accepted"],
     )?;
-    let called = call(alloc, &["serial"], &[bytes.as_slice(), b"\n"])?;
+    let called = call(&rt, alloc, &["serial"], &[bytes.as_slice(), b"\n"])?;
     ends_as(&rt, alloc, &called, Status::TooLong, b"fault long\n", &[])?;
     Ok(())
 }
@@ -130,7 +135,12 @@ fn a_proposal_has_at_most_sixteen_rows(rt: HostRuntime) -> Result<(), Fail> {
     let text =
         b"statesman report 1\ngroup dc1\nversion 1\nentries 2\nreceipt 1 up accepted 1\ntarget t1.firmware=2\ntarget t1.config=3\ntarget t2.firmware=2\ntarget t2.config=3\ntarget a1.firmware=2\ntarget a1.config=3\ntarget a2.firmware=2\ntarget a2.config=3\nunsettled t1\nunsettled t2\nunsettled a1\nunsettled a2\nwire commands 0 reports 0 stale 0 old 0\npromises 0 start 0 now 0\nend\n";
     writes(&rt, alloc, &[TWO_PATHS, rows, b"\n"], text)?;
-    let called = call(alloc, &["serial"], &[TWO_PATHS, rows, b" l1.power=1\n"])?;
+    let called = call(
+        &rt,
+        alloc,
+        &["serial"],
+        &[TWO_PATHS, rows, b" l1.power=1\n"],
+    )?;
     let limit = Status::BadInput {
         line: 12,
         kind: DocKind::Limit,

@@ -1,8 +1,8 @@
 use Rattle.std.proofs.Common.{◌≡◌, ◌∙◌, ap, sym, map}
 use Rattle.st_report.specs.Lines.{histories}
-use Rattle.st_top.specs.Serial.{GroupState, serial_end}
+use Rattle.st_serial.specs.Serial.{GroupState, serial_end}
 use Rattle.st_top.specs.Output.{shown}
-use Rattle.st_top.proofs.Worlds.{histories_are}
+use Rattle.st_top.proofs.Histories.{histories_are}
 use Rattle.st_top.proofs.ending.ran_text.Goals as goal
 
 pub returns-in_ok-shown_text-in-None : goal.returns-in_ok-shown_text-in-None

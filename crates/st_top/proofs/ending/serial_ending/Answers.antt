@@ -1,8 +1,8 @@
 use Rattle.std.proofs.Common.{◌∙◌, ap, length, arith}
-use Rattle.st_top.specs.Serial.{Run}
-use Rattle.st_top.specs.Ending.{run_in}
-use Rattle.st_top.proofs.Runs.{serial_many, serial_count, of_scripts, ends_told}
-use Rattle.st_top.proofs.Worlds.{states_many}
+use Rattle.st_serial.specs.Serial.{Run, run_in}
+use Rattle.st_serial.proofs.Runs.{serial_many, serial_count}
+use Rattle.st_top.proofs.HandedBack.{of_scripts, ends_told}
+use Rattle.st_serial.proofs.Worlds.{states_many}
 use Rattle.st_top.proofs.ending.serial_ending.Goals as goal
 
 pub logs_of-requires : goal.logs_of-requires

@@ -1,6 +1,6 @@
 use Rattle.std.proofs.Common.{length, ap, ◌∙◌, ◌++◌}
 use Rattle.std.specs.Prelude.{codes, sum_by}
-use Rattle.st_top.proofs.Limits.{devices_fit, links_fit, promises_fit, commands_fit}
+use Rattle.st_serial.proofs.Limits.{devices_fit, links_fit, promises_fit, commands_fit}
 use Rattle.st_top.proofs.Lines.{counted_line}
 use Rattle.st_top.proofs.output.check_text.Goals as goal
 

@@ -1,5 +1,5 @@
 use Rattle.st_report.specs.Sums.{sums_text}
-use Rattle.st_top.proofs.Worlds.{text_next}
+use Rattle.st_top.proofs.Histories.{text_next}
 use Rattle.st_top.proofs.output.print_all_sums.Goals as goal
 
 pub loop-world-preserved : goal.loop-world-preserved

@@ -1,0 +1,121 @@
+-- The tickets that a legal journal gives: only to proposals, and to each the number of those before it and itself.
+use Rattle.std.proofs.Common.{◌≡◌, ◌⊎◌, inl, inr, ℕ, ◌+◌, ◌≤◌, List, [], ◌∷◌, ◌++◌, length, refl, ap, sym, subst, ◌∙◌, arith, length-append}
+use Rattle.std.specs.Prelude.{Bool, true, false, nat_lt, Option, Some, None, if◌then◌else◌}
+use Rattle.std.specs.Option.{option_or}
+use Rattle.st_net.specs.declared.entity.AppId.{AppId}
+use Rattle.st_net.specs.declared.entity.Entity.{Entity}
+use Rattle.st_net.specs.declared.entity.Row.{Row}
+use Rattle.st_net.specs.declared.message.Command.{Command}
+use Rattle.st_net.specs.declared.message.Report.{Report}
+use Rattle.st_net.specs.Groups.{Group}
+use Rattle.st_net.specs.Holders.{is_free_for, is_held_by}
+use Rattle.st_net.specs.Numbered.{nth}
+use Rattle.st_event.specs.declared.event.Event.{Event}
+use Rattle.st_event.specs.declared.event.Event.TheVariants.{Submit, Check, Lock, Unlock, Send, Deliver, Finish, Report as make_report, Hear, Fail}
+use Rattle.st_event.specs.declared.event.Proposal.{Proposal}
+use Rattle.st_event.specs.declared.reply.Lack.{Lack}
+use Rattle.st_event.specs.declared.reply.Reply.{Reply}
+use Rattle.st_event.specs.declared.reply.Reply.TheVariants.{Queued, Full, Decided, Granted, Held, Released, Settled, Begun, Stale, Done, NotBusy, Taken, Old}
+use Rattle.st_event.specs.declared.journal.Entry.{Entry}
+use Rattle.st_event.specs.declared.journal.TheConstants.{MAX_PENDING}
+use Rattle.st_event.specs.Legal.{IsNext}
+use Rattle.st_event.specs.Locks.{holder}
+use Rattle.st_event.specs.Moments.{busy, commands, fence, reports}
+use Rattle.st_event.specs.Observed.{is_settled, observed}
+use Rattle.st_event.specs.Proposals.{deciders, deciders_after, pending, proposals, proposals_after}
+use Rattle.st_event.specs.Replies.{reply, check_reply, lock_reply, blocked_or_sent, deliver_reply, hear_reply}
+use Rattle.st_run.specs.Requests.{is_submit}
+use Rattle.st_service.specs.Tickets.{ticket_in, last_ticket}
+use Rattle.st_run.proofs.CommandEntries.{IsChecked}
+use Rattle.st_run.proofs.DidLaws.{Each}
+
+-- an answer of a choice gives no ticket where neither does
+either_none : (b : Bool) (x y : Reply) → ticket_in x ≡ None → ticket_in y ≡ None → ticket_in (if b then x else y) ≡ None
+either_none true x y p q = p
+either_none false x y p q = q
+
+check_none : (g : Group) (past : List Entry) (queue : List Proposal) → ticket_in (check_reply g past queue) ≡ None
+check_none g past [] = refl
+check_none g past (p ∷ ps) = refl
+
+lock_none : (app : AppId) (holder : Option AppId) → ticket_in (lock_reply app holder) ≡ None
+lock_none app None = refl
+lock_none app (Some other) = either_none (is_free_for app (Some other)) Granted (Held other) refl refl
+
+blocked_none : (lack : Option Lack) (row : Row) (sent : ℕ) → ticket_in (blocked_or_sent lack row sent) ≡ None
+blocked_none None row sent = refl
+blocked_none (Some lack) row sent = refl
+
+deliver_none : (fences : Entity → ℕ) (sent : ℕ) (o : Option Command) → ticket_in (deliver_reply fences sent o) ≡ None
+deliver_none fences sent None = refl
+deliver_none fences sent (Some c) = either_none (nat_lt (fences c.entity) c.stamp) Begun (Stale (fences c.entity)) refl refl
+
+hear_none : (seen : Entity → Report) (made : ℕ) (o : Option Report) → ticket_in (hear_reply seen made o) ≡ None
+hear_none seen made None = refl
+hear_none seen made (Some r) = either_none (nat_lt (seen r.entity).number r.number) Taken (Old (seen r.entity).number) refl refl
+
+pub no_ticket : (g : Group) (past : List Entry) (event : Event) → is_submit event ≡ false → ticket_in (reply g past event) ≡ None
+no_ticket g past (Submit app rows) other = absurd (cc other)
+no_ticket g past Check other = check_none g past (pending past)
+no_ticket g past (Lock app e prio) other = lock_none app (holder past e prio)
+no_ticket g past (Unlock app e prio) other = either_none (is_held_by app (holder past e prio)) Released _ refl refl
+no_ticket g past (Send e) other = either_none (is_settled g past e) Settled _ refl (blocked_none _ _ _)
+no_ticket g past (Deliver n) other = deliver_none (fence g past) (length (commands g past)) (nth (commands g past) n)
+no_ticket g past (Finish e) other = either_none (busy g past e) Done NotBusy refl refl
+no_ticket g past (make_report e) other = refl
+no_ticket g past (Hear n) other = hear_none (observed g past) (length (reports g past)) (nth (reports g past) n)
+no_ticket g past (Fail e vals health) other = refl
+
+-- an entry that gives no ticket is no proposal that was queued, and one that does gives the number of the proposals
+abbrev pub IsCounted : List Entry → Event → Reply → Type 0
+IsCounted past event answer = ((ticket_in answer ≡ None) × (length (proposals_after event answer (proposals past)) ≡ length (proposals past))) ⊎ (ticket_in answer ≡ Some (length (proposals_after event answer (proposals past))))
+
+submit_counted : (past : List Entry) (app : AppId) (rows : List Row) (answer : Reply) (b : Bool) → answer ≡ (if b then Queued (length (proposals past) + 1) else Full (length (pending past))) → IsCounted past (Submit app rows) answer
+submit_counted past app rows answer true is = subst (IsCounted past (Submit app rows)) (sym is) (inr (ap Some (sym (length-append (proposals past) (record { app = app; rows = rows } ∷ [])))))
+submit_counted past app rows answer false is = subst (IsCounted past (Submit app rows)) (sym is) (inl (refl, refl))
+
+other_none : (g : Group) (past : List Entry) (event : Event) (answer : Reply) → is_submit event ≡ false → answer ≡ reply g past event → ticket_in answer ≡ None
+other_none g past event answer other is = ap ticket_in is ∙ no_ticket g past event other
+
+counted_by : (g : Group) (past : List Entry) (event : Event) (answer : Reply) → answer ≡ reply g past event → IsCounted past event answer
+counted_by g past (Submit app rows) answer is = submit_counted past app rows answer (nat_lt (length (pending past)) MAX_PENDING) is
+counted_by g past Check answer is = inl (other_none g past Check answer refl is, refl)
+counted_by g past (Lock app e prio) answer is = inl (other_none g past (Lock app e prio) answer refl is, refl)
+counted_by g past (Unlock app e prio) answer is = inl (other_none g past (Unlock app e prio) answer refl is, refl)
+counted_by g past (Send e) answer is = inl (other_none g past (Send e) answer refl is, refl)
+counted_by g past (Deliver n) answer is = inl (other_none g past (Deliver n) answer refl is, refl)
+counted_by g past (Finish e) answer is = inl (other_none g past (Finish e) answer refl is, refl)
+counted_by g past (make_report e) answer is = inl (other_none g past (make_report e) answer refl is, refl)
+counted_by g past (Hear n) answer is = inl (other_none g past (Hear n) answer refl is, refl)
+counted_by g past (Fail e vals health) answer is = inl (other_none g past (Fail e vals health) answer refl is, refl)
+
+pub counted : (g : Group) (past : List Entry) (entry : Entry) → IsNext g past entry → IsCounted past entry.event entry.reply
+counted g past entry next = counted_by g past entry.event entry.reply next.answer
+
+-- checks give none
+pub checks_none : (g : Group) (es : List Entry) → Each (IsChecked g) es → last_ticket es ≡ None
+checks_none g [] e = refl
+checks_none g (x ∷ es) e = rw (checks_none g es e.1) (ap (λ (y : Entry). ticket_in y.reply) e.0.1 ∙ check_none g e.0.0 (pending e.0.0))
+
+-- the last ticket of two lists
+or_assoc : (a b c : Option ℕ) → option_or (option_or a b) c ≡ option_or a (option_or b c)
+or_assoc (Some n) b c = refl
+or_assoc None b c = refl
+
+or_none : (o : Option ℕ) → option_or o None ≡ o
+or_none (Some n) = refl
+or_none None = refl
+
+pub last_append : (xs ys : List Entry) → last_ticket (xs ++ ys) ≡ option_or (last_ticket ys) (last_ticket xs)
+last_append [] ys = sym (or_none (last_ticket ys))
+last_append (x ∷ xs) ys = ap (λ (o : Option ℕ). option_or o (ticket_in x.reply)) (last_append xs ys) ∙ or_assoc (last_ticket ys) (last_ticket xs) (ticket_in x.reply)
+
+-- a journal that goes on has no fewer verdicts
+decided_more : (event : Event) (answer : Reply) (n : ℕ) (ds : List ℕ) → length ds ≤ length (deciders_after event answer n ds)
+decided_more Check (Decided receipt) n ds = omega (arith, length-append ds (n ∷ []))
+decided_more Check answer n ds = omega arith
+decided_more event answer n ds = omega arith
+
+pub decided_grows : (more past : List Entry) → length (deciders past) ≤ length (deciders (more ++ past))
+decided_grows [] past = omega arith
+decided_grows (e ∷ more) past = let r = decided_grows more past in let s = decided_more e.event e.reply (length (more ++ past) + 1) (deciders (more ++ past)) in omega (arith, r, s)

@@ -1,0 +1,120 @@
+-- Nothing is pending behind the awaits of all passes.
+use Rattle.std.proofs.Common.{◌≡◌, ℕ, zero, suc, ◌<◌, ◌≤◌, List, [], ◌∷◌, ◌++◌, length, map, refl, ap, sym, subst, ◌∙◌, arith, append_assoc}
+use Rattle.std.specs.Prelude.{Option, Some, None, slice_get, reverse}
+use Rattle.std.specs.Option.{option_or}
+use Rattle.std.proofs.Math.ListN.{drop_of_length-le}
+use Rattle.std.proofs.lemmas.List.{map-append, reverse-append, reverse-reverse}
+use mathlib.Core.List.{IsPrefix}
+use Rattle.st_net.specs.Groups.{Group}
+use Rattle.st_event.specs.declared.act.Act.{Act}
+use Rattle.st_event.specs.declared.act.Act.TheVariants.{Await}
+use Rattle.st_event.specs.declared.journal.Entry.{Entry}
+use Rattle.st_event.specs.Legal.{IsLegal}
+use Rattle.st_event.specs.Proposals.{deciders, pending, proposals}
+use Rattle.st_event.proofs.Standings.{length-deciders}
+use Rattle.st_wire.specs.declared.line.WireLine.{WireLine}
+use Rattle.st_service.specs.Awaits.{Awaits}
+use Rattle.st_service.specs.Closed.{IsWhole}
+use Rattle.st_run.specs.Jobs.{HaveRun, awaits_on}
+use Rattle.st_service.specs.Kept.{AllWithin}
+use Rattle.st_service.specs.Made.{Made, past_in}
+use Rattle.st_service.specs.Passes.{Holder, front_at, mine_at}
+use Rattle.st_service.specs.Tickets.{last_ticket, latest_in}
+use Rattle.st_service.specs.Works.{IsDecided}
+use Rattle.st_run.proofs.CommandEntries.{awaits_checked}
+use Rattle.st_run.proofs.DidLaws.{Ended, GoesOn, ended, did_at, did_goes, did_others, awaits_around}
+use Rattle.st_run.proofs.GivenTickets.{checks_none, decided_grows, last_append}
+use Rattle.st_run.proofs.OwnEntries.{entries_at, entries_longer}
+use Rattle.st_run.proofs.OwnTickets.{own, entries_positions, latest_is, made_by_passes, newest}
+use Rattle.st_run.proofs.RunEntries.{each_reverse}
+
+-- a longer front decides no less
+pub decided_prefix : (xs ys : List Made) → IsPrefix xs ys → length (deciders (past_in xs)) ≤ length (deciders (past_in ys))
+decided_prefix xs ys p =
+    let more = reverse (map (λ (m : Made). m.entry) p.0) in
+    let is : past_in ys ≡ more ++ past_in xs = ap past_in (sym p.1) ∙ (ap reverse (map-append (λ (m : Made). m.entry) xs p.0) ∙ reverse-append (map (λ (m : Made). m.entry) xs) (map (λ (m : Made). m.entry) p.0)) in
+    let grows = decided_grows more (past_in xs) in
+    omega (arith, grows, ap (λ (l : List Entry). length (deciders l)) is)
+
+low_within : (lo hi : ℕ) (ns : List ℕ) → AllWithin lo hi ns → AllWithin 0 hi ns
+low_within lo hi [] w = tt
+low_within lo hi (n ∷ ns) w = (omega arith, w.1, low_within lo hi ns w.2)
+
+-- the places of a pass that began with none
+goes_within : (n : ℕ) (old new : Holder) → mine_at old.mines n ≡ [] → GoesOn n old new → AllWithin 0 (length (front_at new.fronts n)) (mine_at new.mines n)
+goes_within n old new none g =
+    let is : mine_at new.mines n ≡ g.grows.1.0 = g.grows.1.1 ∙ ap (λ (l : List ℕ). l ++ g.grows.1.0) none in
+    subst (AllWithin 0 (length (front_at new.fronts n))) (sym is) (low_within (length (front_at old.fronts n)) (length (front_at new.fronts n)) g.grows.1.0 g.grows.1.3)
+
+or_none : (o : Option ℕ) → option_or None o ≡ o
+or_none (Some n) = refl
+or_none None = refl
+
+-- an await on a pass's latest ticket, which no check changes
+awaited : (g : Group) (number : ℕ) (before : List Made) (was : List ℕ) (after : List Made) (now : List ℕ) (ticket : ℕ) (latest : Option ℕ) → latest_in before was ≡ latest → AllWithin 0 (length before) was → last_ticket (entries_at after now) ≡ Some ticket
+    → Awaits latest g number before was after now → IsDecided ticket (past_in after)
+awaited g number before was after now ticket latest at within last a = by latest at a
+  where
+    same : (o : Option ℕ) → latest_in before was ≡ o → Awaits o g number before was after now → o ≡ Some ticket
+    same o is w =
+        let c = awaits_checked g number o before was after now w in
+        sym is ∙ (latest_is before was ∙ (sym (or_none (last_ticket (entries_at before was)))
+        ∙ (ap (λ (x : Option ℕ). option_or x (last_ticket (entries_at before was))) (sym (checks_none g c.entries c.each))
+        ∙ (sym (last_append (entries_at before was) c.entries) ∙ (ap last_ticket (sym (c.adds.made within)) ∙ last)))))
+
+    by : (o : Option ℕ) → latest_in before was ≡ o → Awaits o g number before was after now → IsDecided ticket (past_in after)
+    by (Some t) is w = let e : Some t ≡ Some ticket = same (Some t) is w in let n : t ≡ ticket = cc e in subst (λ (k : ℕ). IsDecided k (past_in after)) n w.3
+    by None is w = let e : None ≡ Some ticket = same None is w in absurd (cc e)
+
+-- what the last ticket of a pass's entries is, when its script and the awaits are done: it is decided
+pub own_decided : (groups : ℕ → Group) (lines : ℕ → List WireLine) (rooms number n : ℕ) (acts : List Act) (front : List Made) (p : Holder) (ticket : ℕ) → n < rooms → Ended groups lines rooms number n acts front p → last_ticket (own number front) ≡ Some ticket
+    → ticket ≤ length (deciders (past_in front))
+own_decided groups lines rooms number n acts front p ticket within e last =
+    let a = awaits_around rooms n within in
+    let split : acts ++ awaits_on rooms ≡ (acts ++ awaits_on n) ++ Await n ∷ a.behind = ap (λ (l : List Act). acts ++ l) a.are ∙ sym (append_assoc acts (awaits_on n) (Await n ∷ a.behind)) in
+    let d = did_at groups lines (acts ++ awaits_on rooms) (acts ++ awaits_on n) (Await n) a.behind e.start p split e.did in
+    let o = did_others groups lines n a.behind d.mid p a.apart d.behind_it in
+    let old = goes_within n e.start d.old (e.fresh.unmade n) (did_goes groups lines n (acts ++ awaits_on n) e.start d.old d.before_it) in
+    let all = goes_within n e.start p (e.fresh.unmade n) (did_goes groups lines n (acts ++ awaits_on rooms) e.start p e.did) in
+    let here : entries_at (front_at d.mid.fronts n) (mine_at d.mid.mines n) ≡ own number front =
+    ap (λ (f : List Made). entries_at f (mine_at d.mid.mines n)) (sym o.0)
+    ∙ (ap (entries_at (front_at p.fronts n)) (sym o.1)
+    ∙ (sym (entries_longer (front_at p.fronts n) front (mine_at p.mines n) e.stands.begins all)
+    ∙ (ap (entries_at front) e.made ∙ entries_positions number [] front))) in
+    let decided : IsDecided ticket (past_in (front_at d.mid.fronts n)) = awaited (groups n) d.old.number (front_at d.old.fronts n) (mine_at d.old.mines n) (front_at d.mid.fronts n) (mine_at d.mid.mines n) ticket
+    (latest_in (front_at d.old.fronts n) (mine_at d.old.mines n)) refl old (ap last_ticket here ∙ last) d.does.done.entered in
+    let grows = decided_prefix (front_at d.mid.fronts n) front (subst (λ (f : List Made). IsPrefix f front) o.0 e.stands.begins) in
+    omega (arith, decided, grows)
+
+get_some : {X : Type 0} (xs : List X) (k : ℕ) → k < length xs → (x : X) × (slice_get xs k ≡ Some x)
+get_some [] k lt = absurd (omega (arith, lt))
+get_some (x ∷ xs) zero lt = (x, refl)
+get_some (x ∷ xs) (suc k) lt = get_some xs k (omega (arith, lt))
+
+map_reverse : (ms : List Made) → map (λ (m : Made). m.entry) (reverse ms) ≡ reverse (map (λ (m : Made). m.entry) ms)
+map_reverse [] = refl
+map_reverse (m ∷ ms) =
+    ap (map (λ (x : Made). x.entry)) (reverse-append (m ∷ []) ms)
+    ∙ (map-append (λ (x : Made). x.entry) (reverse ms) (m ∷ [])
+    ∙ (ap (λ (l : List Entry). l ++ m.entry ∷ []) (map_reverse ms) ∙ sym (reverse-append (m.entry ∷ []) (map (λ (x : Made). x.entry) ms))))
+
+-- each ticket of the journal is decided
+all_decided : (groups : ℕ → Group) (lines : ℕ → List WireLine) (rooms : ℕ) (scripts : List (List Act)) (passes : List Holder) (n : ℕ) (entries : List Entry) (front : List Made) (count : ℕ) → length (proposals (past_in front)) ≡ count
+    → HaveRun groups lines rooms scripts passes → n < rooms → IsWhole (groups n) passes n entries front → count ≤ length (deciders (past_in front))
+all_decided groups lines rooms scripts passes n entries front zero is run within whole = omega arith
+all_decided groups lines rooms scripts passes n entries front (suc k) is run within whole =
+    let ms = reverse front in
+    let past : map (λ (m : Made). m.entry) ms ≡ past_in front = map_reverse front in
+    let b = newest (groups n) (length passes) ms (subst (IsLegal (groups n)) (sym past) whole.legal) (omega (arith, is, ap (λ (l : List Entry). length (proposals l)) past))
+    (each_reverse (λ (m : Made). m.by < length passes) front (made_by_passes (groups n) passes n entries front whole)) in
+    let p = get_some passes b.0 b.1 in
+    let acts = get_some scripts b.0 (omega (arith, b.1, run.count)) in
+    let e = ended groups lines rooms scripts passes n entries front b.0 acts.0 p.0 run whole acts.1 p.1 in
+    let last : last_ticket (own b.0 front) ≡ Some (suc k) = ap (λ (l : List Made). last_ticket (own b.0 l)) (sym (reverse-reverse front)) ∙ (b.2 ∙ ap Some (ap (λ (l : List Entry). length (proposals l)) past ∙ is)) in
+    own_decided groups lines rooms b.0 n acts.0 front p.0 (suc k) within e last
+
+pub none_pending : (groups : ℕ → Group) (lines : ℕ → List WireLine) (rooms : ℕ) (scripts : List (List Act)) (passes : List Holder) (n : ℕ) (entries : List Entry) (front : List Made)
+    → HaveRun groups lines rooms scripts passes → n < rooms → IsWhole (groups n) passes n entries front → pending (reverse entries) ≡ []
+none_pending groups lines rooms scripts passes n entries front run within whole =
+    let all = all_decided groups lines rooms scripts passes n entries front (length (proposals (past_in front))) refl run within whole in
+    ap pending (sym whole.journal) ∙ drop_of_length-le (proposals (past_in front)) (omega (arith, all, length-deciders (past_in front)))

@@ -1,0 +1,43 @@
+-- The scripts are played on the service, which is then closed.
+use Rattle.std.proofs.Common.{ℕ, sym, subst, ◌∙◌}
+use Rattle.std.specs.Prelude.{Option, IfSome}
+use Rattle.st_run.specs.Played.{AreClosed, WasFull}
+use Rattle.st_run.proofs.PlayLaws.{is_played, numbers_are, ok_then2}
+use Rattle.st_run.proofs.playing.play.Goals as goal
+
+pub play_on-requires-clause-rooms : goal.play_on-requires-clause-rooms
+play_on-requires-clause-rooms g c = λ κs lives. c.requires.rooms
+
+pub play_on-requires-clause-apps : goal.play_on-requires-clause-apps
+play_on-requires-clause-apps g c = λ κs lives. (c.requires.apps.0, c.requires.apps.2)
+
+pub play_on-requires-clause-fresh : goal.play_on-requires-clause-fresh
+play_on-requires-clause-fresh g c = λ κs lives. c.requires.fresh
+
+pub play_on-requires-clause-acts : goal.play_on-requires-clause-acts
+play_on-requires-clause-acts g c = λ κs lives. c.requires.acts
+
+pub close_played-requires-clause-all : goal.close_played-requires-clause-all
+close_played-requires-clause-all g c = c.in-Ok.ensures.count ∙ sym c.requires.apps.1
+
+pub close_played-requires-clause-numbers : goal.close_played-requires-clause-numbers
+close_played-requires-clause-numbers g c = λ n p lt.
+    (numbers_are g.J.Naming.group g.J.Naming.lines c.args.rooms c.args.apps.now c.in-Ok.passes.items c.in-Ok.ensures.count c.in-Ok.ensures.went n p lt).0
+
+pub close_played-requires-clause-rooms : goal.close_played-requires-clause-rooms
+close_played-requires-clause-rooms g c = λ n p lt.
+    (numbers_are g.J.Naming.group g.J.Naming.lines c.args.rooms c.args.apps.now c.in-Ok.passes.items c.in-Ok.ensures.count c.in-Ok.ensures.went n p lt).1 ∙ c.requires.rooms.0
+
+pub close_played-requires-clause-apps : goal.close_played-requires-clause-apps
+close_played-requires-clause-apps g c = c.requires.apps.0 ∙ sym c.in-Ok.ensures.count
+
+pub returns-in-Ok : goal.returns-in-Ok
+returns-in-Ok g c =
+    let passes = c.in-Ok.passes.items in
+    ok_then2 c.close_played.result c.close_played.ensures.full c.close_played.ensures.closed (λ played full closed. (
+      passes,
+      is_played g.J.Naming.group g.J.Naming.lines c.args.rooms c.args.apps.now played.full played.journals.items played.logs.items passes c.in-Ok.ensures.count c.requires.acts c.in-Ok.ensures.went
+          (λ e. c.in-Ok.ensures.none (sym full ∙ e))
+          (subst (λ (o : Option ℕ). IfSome o (λ m. WasFull passes m)) (sym full) c.in-Ok.ensures.one)
+          (subst (λ (k : ℕ). AreClosed g.J.Naming.group k passes played.journals.items played.logs.items) (sym c.requires.rooms.0) closed),
+    ))

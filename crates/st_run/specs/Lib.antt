@@ -1,0 +1,13 @@
+pub mod Requests
+pub mod Stands
+pub mod Failures
+pub mod Logs
+pub mod CarriedOn
+pub mod CarriedOut
+pub mod Jobs
+pub mod CarriedLaws
+pub mod Went
+pub mod Played
+pub mod Running
+pub mod Isolation
+pub mod ShareLaws

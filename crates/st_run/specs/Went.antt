@@ -1,0 +1,34 @@
+-- What commands leave with a pass, whatever became of them, and what they leave where each was done.
+use Rattle.std.specs.Prelude.{ℕ, ◌≡◌, ◌+◌, ◌≤◌, ◌<◌, ◌==◌, List, length, sum_by, if◌then◌else◌}
+use mathlib.Core.List.{IsPrefix}
+use Rattle.st_net.specs.Groups.{Group}
+use Rattle.st_event.specs.declared.act.Act.{Act}
+use Rattle.st_event.specs.declared.journal.TheConstants.{MAX_ENTRIES}
+use Rattle.st_wire.specs.declared.line.WireLine.{WireLine}
+use Rattle.st_world.specs.Acts.{group_number}
+use Rattle.st_service.specs.Passes.{Holder, front_at, mine_at}
+use Rattle.st_service.specs.Shares.{act_share}
+use Rattle.st_run.specs.declared.application.Came.{Came}
+use Rattle.st_run.specs.declared.application.Came.TheVariants.{Through, ToFull, OutOfMemory}
+use Rattle.st_run.specs.Jobs.{Did}
+
+-- how many entries commands add on group n at the most
+abbrev pub shares_on : ℕ → Group → List WireLine → List Act → ℕ
+shares_on n g lines acts = sum_by (λ act. if group_number act == n then act_share act g lines else 0) acts
+
+-- the pass is the same, of as many groups; its fronts went on, and on each group it made no more entries than the shares of these commands
+pub record Went (groups : ℕ → Group) (lines : ℕ → List WireLine) (acts : List Act) (old new : Holder) : Type 0 where
+  pub number : new.number ≡ old.number
+  pub rooms : (length new.fronts ≡ length old.fronts) × (length new.mines ≡ length old.mines)
+  pub fronts : (n : ℕ) → IsPrefix (front_at old.fronts n) (front_at new.fronts n)
+  pub few : (n : ℕ) → length (mine_at new.mines n) ≤ length (mine_at old.mines n) + shares_on n (groups n) (lines n) acts
+
+-- what the pass has seen of group n fills its journal
+abbrev pub HasFull : Holder → ℕ → Type 0
+HasFull p n = (n < length p.fronts) × (MAX_ENTRIES ≤ length (front_at p.fronts n))
+
+-- of how far the pass came: through all of the commands, or to a full journal
+abbrev pub CameTo : Came → (ℕ → Group) → (ℕ → List WireLine) → List Act → Holder → Holder → Type 0
+CameTo Through groups lines acts old new = Did groups lines acts old new
+CameTo (ToFull n) groups lines acts old new = HasFull new n
+CameTo OutOfMemory groups lines acts old new = Unit {0}

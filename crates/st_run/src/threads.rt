@@ -1,0 +1,80 @@
+//! The scripts of a document run by threads: a service over the groups' worlds, and a job for each application.
+
+ghost use Rattle.std.specs.Prelude.{◌≡◌, ◌+◌, ◌≤◌, List, length, IfOk};
+ghost use Rattle.st_grammar.specs.Sound.{IsSoundDoc};
+ghost use Rattle.st_service.specs.Opened.{AreLinesOf, AreWorldsOf};
+ghost use Rattle.st_service.specs.Passes.{Holder};
+ghost use Rattle.st_run.specs.Played.{AllCanBeDone, IsPlayed, acts_of};
+ghost use Rattle.st_run.specs.Running.{IsRunOf};
+
+use crate::playing::{Played, play};
+use st_crew::Gate;
+use st_grammar::{Doc, Script};
+use st_serial::open_worlds;
+use st_service::{Naming, RoomLines, Service};
+use st_world::World;
+use std::alloc::{AllocError, Global};
+use std::marker::Brand;
+use std::sync::Wait;
+use std::sync::ledger::{Blank, Ledger};
+use std::thread::Threads;
+
+/// New lines for so many rooms.
+fn lines_of(alloc: Global, rooms: usize) -> Result<Vec<RoomLines>, AllocError>
+    ensures { IfOk result (λ lines. length lines.items ≡ rooms) }
+{
+    let mut lines = Vec::new(alloc);
+    for _room in 0..rooms {
+        lines.push(RoomLines::new())?;
+    }
+    Ok(lines)
+}
+
+/// The scripts of a document on a service over its worlds, under names that are picked for this run.
+fn run_named<
+    J: Naming + Send + Sync,
+    L: Ledger + Send + Sync,
+    R: Threads + Wait + Sync,
+    G: Gate + Sync,
+>(
+    rt: &R,
+    alloc: Global,
+    worlds: Vec<World>,
+    lines: Vec<RoomLines>,
+    blank: Blank,
+    apps: &[Script],
+    gate: &G,
+) -> Result<Played, AllocError>
+    requires lines { (length lines.items ≡ length worlds.items) × AreLinesOf J.book J.board lines.items }
+    requires worlds { AreWorldsOf J.group J.lines worlds.items }
+    requires ledger { (blank.name ≡ L.name) × (blank.parts ≡ L.parts) }
+    requires parts { blank.parts ≡ length apps.now + length worlds.items + 1 }
+    requires few { (length worlds.items ≤ 16) × (length apps.now ≤ 512) }
+    requires acts { AllCanBeDone J.group (length worlds.items) apps.now }
+    ensures { IfOk result (λ played. (ends : List Holder) × IsPlayed J.group J.lines (length worlds.items) (acts_of apps.now) played.full played.journals.items played.logs.items ends) }
+{
+    let rooms = worlds.len();
+    let count = apps.len() as u32;
+    let (service, passes) = Service::<J, L, &R>::start(rt, alloc, worlds, lines, blank, count, 0)?;
+    play(rt, alloc, service, rooms, passes, apps, gate)
+}
+
+/// Runs the scripts of a document by threads, one for each application, over a service of its groups, and calls the gate behind each
+/// read. The order in which the commands of different applications come is free. Where no event met a full journal the scripts were
+/// carried out. Else the first group is named at whose full journal an application stopped; the others went on. Journals and logs stand
+/// in the order of the document. It waits for its threads. At `Err`, which is want of memory alone, nothing is handed back.
+pub fn run_scripts<R: Threads + Wait + Sync, G: Gate + Sync>(
+    rt: &R,
+    alloc: Global,
+    doc: &Doc,
+    gate: &G,
+) -> Result<Played, AllocError>
+    requires { IsSoundDoc doc.now }
+    ensures { IfOk result (λ played. IsRunOf doc.now played.full played.journals.items played.logs.items) }
+{
+    let worlds = open_worlds(alloc, doc.groups.as_slice(), doc.wires.as_slice())?;
+    let lines = lines_of(alloc, worlds.len())?;
+    let apps = doc.apps.as_slice();
+    let blank = Blank::new(apps.len() as u64 + worlds.len() as u64 + 1);
+    run_named::<Brand, Brand, R, G>(rt, alloc, worlds, lines, blank, apps, gate)
+}

@@ -1,0 +1,9 @@
+pub mod Limits
+pub mod Lists
+pub mod Schedules
+pub mod Runs
+pub mod Worlds
+pub mod Weights
+pub mod Shares
+pub mod Fitting
+pub mod Worked

@@ -1,0 +1,5 @@
+pub mod Schedule
+pub mod Serial
+pub mod Shares
+pub mod Most
+pub mod Kept

@@ -1,0 +1,114 @@
+//! The scripts of a document run on one thread, and what comes of them: worlds and logs.
+
+ghost use Rattle.std.specs.Prelude.{◌≡◌, ◌<◌, ◌^◌, [], All, replicate, length, IfOk};
+ghost use Rattle.st_net.specs.Faults.{group_of};
+ghost use Rattle.st_grammar.specs.Sound.{IsSoundGroup, IsSoundDoc};
+ghost use Rattle.st_serial.specs.Serial.{all_opened, scripts_done as scripts_done_lem, decided as decided_lem, serial_end, states_of, run_in};
+
+use crate::schedule::schedule;
+use crate::serial::{decide_all, places_done};
+use st_event::LogEntries;
+use st_grammar::{Doc, WireLines};
+use st_net::{Built, GroupTopo, Parts};
+use st_wire::{LossPlan, WireLine};
+use st_world::World;
+use std::alloc::{AllocError, Global};
+
+/// The topology of a group of a document that was read: nothing is wrong with its parts.
+pub fn topo_of(alloc: Global, parts: &Parts) -> Result<GroupTopo, AllocError>
+    requires { IsSoundGroup parts.now }
+    ensures { IfOk result (λ topo. topo ≡ group_of parts.now) }
+{
+    match GroupTopo::build(alloc, parts)? {
+        Built::Topo(topo) => Ok(topo),
+        Built::Fault(_) => unreachable!(),
+    }
+}
+
+/// The plan of these wire lines.
+fn plan_of(alloc: Global, lines: &[WireLine]) -> Result<LossPlan, AllocError>
+    ensures { IfOk result (λ plan. plan ≡ lines.now) }
+{
+    Ok(LossPlan::from_lines(alloc, lines.to_vec(alloc)?))
+}
+
+/// The worlds of a document's groups at their opening, in order, each with the plan of its wire lines.
+pub fn open_worlds(
+    alloc: Global,
+    groups: &[Parts],
+    wires: &[WireLines],
+) -> Result<Vec<World>, AllocError>
+    requires sound { All IsSoundGroup groups.now }
+    requires each { length wires.now ≡ length groups.now }
+    ensures { IfOk result (λ sites. states_of sites.items ≡ all_opened groups.now wires.now) }
+{
+    let mut sites = Vec::new(alloc);
+    for (i, parts) in groups.iter().enumerate() {
+        let plan = plan_of(alloc, wires[i].as_slice())?;
+        sites.push(World::start(alloc, topo_of(alloc, parts)?, plan)?)?;
+    }
+    Ok(sites)
+}
+
+/// An empty log for each application.
+fn empty_logs(alloc: Global, count: usize) -> Result<Vec<LogEntries>, AllocError>
+    ensures { IfOk result (λ logs. logs.items ≡ replicate count []) }
+{
+    let mut logs = Vec::new(alloc);
+    for _app in 0..count {
+        logs.push(LogEntries::none(alloc))?;
+    }
+    Ok(logs)
+}
+
+/// A document after the commands of its scripts: the groups, what the applications saw, and the group at whose full journal the run
+/// stopped, if it did.
+#[derive(Drop)]
+pub struct Ran {
+    pub sites: Vec<World>,
+    pub logs: Vec<LogEntries>,
+    pub full: Option<u32>,
+}
+
+/// Does the commands of a document's scripts.
+fn scripts_done(alloc: Global, doc: &Doc) -> Result<Ran, AllocError>
+    requires { IsSoundDoc doc.now }
+    ensures { IfOk result (λ ran. run_in ran ≡ scripts_done_lem doc.now) }
+{
+    let apps = doc.apps.as_slice();
+    let places = schedule(alloc, apps, doc.order.as_slice())?;
+    let mut sites = open_worlds(alloc, doc.groups.as_slice(), doc.wires.as_slice())?;
+    let mut logs = empty_logs(alloc, apps.len())?;
+    let full = places_done(
+        sites.as_mut_slice(),
+        logs.as_mut_slice(),
+        apps,
+        places.as_slice(),
+    )?;
+    Ok(Ran { sites, logs, full })
+}
+
+/// Decides what is still pending in each group, where no journal was met full.
+fn decided(ran: Ran) -> Result<Ran, AllocError>
+    requires { length ran.sites.items < 2 ^ 32 }
+    ensures { IfOk result (λ end. run_in end ≡ decided_lem (run_in ran)) }
+{
+    let Ran {
+        mut sites,
+        logs,
+        full,
+    } = ran;
+    let full = match full {
+        Some(group) => Some(group),
+        None => decide_all(sites.as_mut_slice())?,
+    };
+    Ok(Ran { sites, logs, full })
+}
+
+/// Runs the scripts of a document, and decides what is pending in the end, as far as no event meets a full journal.
+pub fn serial_done(alloc: Global, doc: &Doc) -> Result<Ran, AllocError>
+    requires { IsSoundDoc doc.now }
+    ensures { IfOk result (λ ran. run_in ran ≡ serial_end doc.now) }
+{
+    decided(scripts_done(alloc, doc)?)
+}

@@ -1,0 +1,103 @@
+-- What the scripts of a document come to is what is shown of it, and its journals and logs are handed back.
+use Rattle.std.proofs.Common.{◌≡◌, ℕ, suc, ◌+◌, List, [], ◌∷◌, ◌++◌, length, refl, ap, sym, ◌∙◌, subst, arith}
+use Rattle.std.specs.Prelude.{reverse, map}
+use Rattle.std.proofs.lemmas.List.{reverse-reverse}
+use Rattle.st_event.specs.declared.act.Log.{Log}
+use Rattle.st_event.specs.declared.act.LogEntry.{LogEntry}
+use Rattle.st_event.specs.declared.journal.Journal.{Journal}
+use Rattle.st_event.specs.Legal.{IsLegal, AtEach}
+use Rattle.st_event.specs.Network.{KeepsPromises}
+use Rattle.st_grammar.specs.declared.doc.Doc.{Doc}
+use Rattle.st_grammar.specs.Sound.{IsSoundDoc}
+use Rattle.st_top.specs.declared.answer.Status.{Status}
+use Rattle.st_top.specs.declared.answer.Status.TheVariants as statuses
+use Rattle.st_top.specs.declared.task.Showing.{Showing}
+use Rattle.st_top.specs.declared.task.Task.TheVariants.{Serial}
+use Rattle.st_serial.specs.Serial.{GroupState, Run, groups_in, journals_from, logs_from, serial_end, serial_logs, serial_run}
+use Rattle.st_top.specs.Output.{histories_of, shown}
+use Rattle.st_serial.specs.Kept.{groups_of, AreKept, IsKept}
+use Rattle.st_top.specs.Answer.{Results, AreOfScripts, EndsOnDoc}
+use Rattle.st_top.specs.Ending.{AreKeptSites, IsKeptHistory, IsToldOf}
+use Rattle.st_serial.proofs.Runs.{serial_groups}
+
+-- journals of groups that are kept
+kept_all : (n : ℕ) (ss : List GroupState) → AreKeptSites ss → AreKept (groups_in ss) (journals_from n ss)
+kept_all n [] kept = tt
+kept_all n (s ∷ ss) kept =
+    let past = s.history.past in
+    let turned = reverse-reverse past in
+    let here : IsKept s.history.group (record { group = n; entries = reverse past }) = record {
+      sound = kept.0.sound;
+      legal = subst (λ p. IsLegal s.history.group p) (sym turned) kept.0.legal;
+      promises = subst (λ p. AtEach (KeepsPromises s.history.group) p) (sym turned) kept.0.promises;
+    } in
+    (here, kept_all (n + 1) ss kept.1)
+
+-- what a document comes to is what its scripts do
+pub of_scripts : (doc : Doc) (run : Run) (journals : List Journal) (logs : List Log) → IsSoundDoc doc → run ≡ serial_end doc → journals ≡ journals_from 0 run.groups → AreKeptSites run.groups → logs ≡ logs_from 0 run.logs → AreOfScripts doc (record { journals = journals; logs = logs })
+of_scripts doc run journals logs sound is journals_are kept logs_are =
+    let journals_end : journals ≡ serial_run doc = journals_are ∙ ap (λ (r : Run). journals_from 0 r.groups) is in
+    let kept_end : AreKeptSites (serial_end doc).groups = subst (λ (r : Run). AreKeptSites r.groups) is kept in
+    record {
+      order = journals_end;
+      seen = logs_are ∙ ap (λ (r : Run). logs_from 0 r.logs) is;
+      kept = subst (AreKept (groups_of doc)) (sym journals_end) (subst (λ gs. AreKept gs (serial_run doc)) (serial_groups doc sound) (kept_all 0 (serial_end doc).groups kept_end));
+    }
+
+-- the groups of a run with their journals
+histories_same : (n : ℕ) (ss : List GroupState) → map (λ s. s.history) ss ≡ histories_of (groups_in ss) (journals_from n ss)
+histories_same n [] = refl
+histories_same n (s ∷ ss) =
+    let g = s.history.group in
+    let past = s.history.past in
+    ap (λ p. record { group = g; past = p } ∷ map (λ (x : GroupState). x.history) ss) (sym (reverse-reverse past))
+    ∙ ap (λ hs. record { group = g; past = reverse (reverse past) } ∷ hs) (histories_same (n + 1) ss)
+
+-- what is shown of them is shown of the groups of the document with its journals
+shown_same : (showing : Showing) (doc : Doc) (results : Results) → IsSoundDoc doc → AreOfScripts doc results → shown showing doc (map (λ s. s.history) (serial_end doc).groups) (serial_logs doc) ≡ shown showing doc (histories_of (groups_of doc) results.journals) results.logs
+shown_same showing doc results sound scripts =
+    let end = serial_end doc in
+    let same : map (λ s. s.history) end.groups ≡ histories_of (groups_of doc) results.journals =
+    histories_same 0 end.groups ∙ ap (λ gs. histories_of gs (journals_from 0 end.groups)) (serial_groups doc sound) ∙ ap (histories_of (groups_of doc)) (sym scripts.order) in
+    ap (λ hs. shown showing doc hs (serial_logs doc)) same ∙ ap (shown showing doc (histories_of (groups_of doc) results.journals)) (sym scripts.seen)
+
+-- so the call ends on what was told
+pub ends_told : (showing : Showing) (doc : Doc) (results : Results) (status : Status) (text : List ℕ) → IsSoundDoc doc → AreOfScripts doc results → IsToldOf showing doc status text → EndsOnDoc (Serial showing) doc results text status
+ends_told showing doc results statuses.Ok text sound scripts told = record { scripts = scripts; room = told.0; report = told.1 ∙ shown_same showing doc results sound scripts }
+ends_told showing doc results (statuses.JournalFull group) text sound scripts told = (tt, record { scripts = scripts; full = told.0; told = told.1 })
+ends_told showing doc results _ text sound scripts told = absurd told
+
+-- one group more at the end
+pub kept_more : (ss : List GroupState) (s : GroupState) → AreKeptSites ss → IsKeptHistory s.history → AreKeptSites (ss ++ s ∷ [])
+kept_more [] s kept here = (here, tt)
+kept_more (first ∷ ss) s kept here = (kept.0, kept_more ss s kept.1 here)
+
+journals_more : (n : ℕ) (ss : List GroupState) (s : GroupState) → journals_from n (ss ++ s ∷ []) ≡ journals_from n ss ++ record { group = n + length ss; entries = reverse s.history.past } ∷ []
+journals_more n [] s = ap (λ m. record { group = m; entries = reverse s.history.past } ∷ []) (omega arith)
+journals_more n (first ∷ ss) s = ap (λ js. record { group = n; entries = reverse first.history.past } ∷ js) (journals_more (n + 1) ss s ∙ ap (λ m. journals_from (n + 1) ss ++ record { group = m; entries = reverse s.history.past } ∷ []) (omega arith))
+
+pub journals_long : (n : ℕ) (ss : List GroupState) → length (journals_from n ss) ≡ length ss
+journals_long n [] = refl
+journals_long n (s ∷ ss) = ap suc (journals_long (n + 1) ss)
+
+logs_more : (n : ℕ) (logs : List (List LogEntry)) (log : List LogEntry) → logs_from n (logs ++ log ∷ []) ≡ logs_from n logs ++ record { app = record { 0 = n + length logs }; entries = log } ∷ []
+logs_more n [] log = ap (λ m. record { app = record { 0 = m }; entries = log } ∷ []) (omega arith)
+logs_more n (first ∷ logs) log = ap (λ ls. record { app = record { 0 = n }; entries = first } ∷ ls) (logs_more (n + 1) logs log ∙ ap (λ m. logs_from (n + 1) logs ++ record { app = record { 0 = m }; entries = log } ∷ []) (omega arith))
+
+pub logs_long : (n : ℕ) (logs : List (List LogEntry)) → length (logs_from n logs) ≡ length logs
+logs_long n [] = refl
+logs_long n (log ∷ logs) = ap suc (logs_long (n + 1) logs)
+
+-- one journal, and one log, more
+pub journal_next : (ss : List GroupState) (s : GroupState) (n : ℕ) (journal : Journal) (journals more : List Journal) → n ≡ length journals → journal.group ≡ n → reverse journal.entries ≡ s.history.past → journals ≡ journals_from 0 ss → more ≡ journals ++ journal ∷ [] → more ≡ journals_from 0 (ss ++ s ∷ [])
+journal_next ss s n journal journals more number numbered turned was adds =
+    let long : n ≡ length ss = number ∙ ap length was ∙ journals_long 0 ss in
+    let count : journal.group ≡ 0 + length ss = omega (arith, long, numbered) in
+    let is : journal.entries ≡ reverse s.history.past = sym (reverse-reverse journal.entries) ∙ ap reverse turned in
+    adds ∙ ap (λ js. js ++ journal ∷ []) was ∙ ap (λ m. journals_from 0 ss ++ record { group = m; entries = journal.entries } ∷ []) count ∙ ap (λ es. journals_from 0 ss ++ record { group = 0 + length ss; entries = es } ∷ []) is ∙ sym (journals_more 0 ss s)
+
+pub log_next : (logs : List (List LogEntry)) (log : List LogEntry) (n : ℕ) (all more : List Log) → n ≡ length all → all ≡ logs_from 0 logs → more ≡ all ++ record { app = record { 0 = n }; entries = log } ∷ [] → more ≡ logs_from 0 (logs ++ log ∷ [])
+log_next logs log n all more number was adds =
+    let long : n ≡ length logs = number ∙ ap length was ∙ logs_long 0 logs in
+    let count : n ≡ 0 + length logs = omega (arith, long) in
+    adds ∙ ap (λ ls. ls ++ record { app = record { 0 = n }; entries = log } ∷ []) was ∙ ap (λ m. logs_from 0 logs ++ record { app = record { 0 = m }; entries = log } ∷ []) count ∙ sym (logs_more 0 logs log)

@@ -1,0 +1,40 @@
+//! The journals and the logs that a run hands back.
+
+ghost use Rattle.std.specs.Prelude.{◌≡◌, ◌<◌, ◌^◌, length, IfOk};
+ghost use Rattle.st_serial.specs.Serial.{states_of, journals_from, logs_from};
+ghost use Rattle.st_top.specs.Ending.{AreKeptSites};
+
+use crate::answer::{Journals, Logs};
+use st_event::{Log, LogEntries};
+use st_net::AppId;
+use st_world::World;
+use std::alloc::{AllocError, Global};
+
+/// The journals of groups, in order.
+pub fn journals_of(alloc: Global, sites: Vec<World>) -> Result<Journals, AllocError>
+    requires { length sites.items < 2 ^ 32 }
+    ensures journals { IfOk result (λ journals. journals ≡ journals_from 0 (states_of sites.items)) }
+    ensures kept { IfOk result (λ journals. AreKeptSites (states_of sites.items)) }
+{
+    let mut journals = Vec::new(alloc);
+    for site in sites {
+        site.is_legal();
+        site.keeps_promises();
+        let group = journals.len() as u32;
+        journals.push(site.into_journal(group))?;
+    }
+    Ok(Journals::new(journals))
+}
+
+/// The logs of applications, in order.
+pub fn logs_of(alloc: Global, logs: Vec<LogEntries>) -> Result<Logs, AllocError>
+    requires { length logs.items < 2 ^ 32 }
+    ensures { IfOk result (λ all. all ≡ logs_from 0 logs.items) }
+{
+    let mut all = Vec::new(alloc);
+    for entries in logs {
+        let app = AppId(all.len() as u32);
+        all.push(Log { app, entries })?;
+    }
+    Ok(Logs::new(all))
+}
