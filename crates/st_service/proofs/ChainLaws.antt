@@ -158,3 +158,7 @@ share_next k w = grind arith
 
 pub shares_within : (m n w : ℕ) → m ≤ n → m * w ≤ w * n
 shares_within m n w le = grind (arith, le)
+
+-- one turn more, of those that are due
+pub kept_turn : (a b c : Holder) (g k n w : ℕ) → k < n → Kept a b g (k * w) → Kept b c g w → Kept a c g (n * w)
+kept_turn a b c g k n w lt p q = let f = share_fits k n w lt in kept_on a b c g (k * w) w (n * w) f p q

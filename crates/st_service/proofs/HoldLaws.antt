@@ -84,6 +84,22 @@ taken number most from old new es a at since =
 pub line_goes : (number most : ℕ) (old new es : List Entry) (front after : List Made) → Taken number most old new es → past_in front ≡ old → after ≡ front ++ tagged number es → past_in after ≡ new
 line_goes number most old new es front after t kept is = ap past_in is ∙ (past_more front number es ∙ (ap (λ past. reverse es ++ past) kept ∙ t.back))
 
+-- what a hold left: what its room made, at whose places in its pass's list, and the line as it is then
+pub record Held (number most : ℕ) (old new es : List Entry) (mid before : List Made) (was : List ℕ) (after : List Made) (now : List ℕ) : Type 0 where
+  pub taken : Taken number most old new es
+  pub puts : Puts number es mid before was after now
+  pub line : past_in after ≡ new
+
+pub held : (number most from : ℕ) (old new es : List Entry) (mid before : List Made) (was got : List ℕ) (after : List Made) (now : List ℕ) → past_in mid ≡ old → Adds number most old new → from ≡ length old
+    → ((more past : List Entry) → new ≡ more ++ past → length past ≡ from → es ≡ reverse more) → got ≡ was → Puts number es mid before got after now → Held number most old new es mid before was after now
+held number most from old new es mid before was got after now kept a at since same p =
+    let t = taken number most from old new es a at since in
+    record {
+      taken = t;
+      puts = subst (λ (l : List ℕ). Puts number es mid before l after now) same p;
+      line = line_goes number most old new es mid after t kept p.1;
+    }
+
 -- a hold whose course was entered, or met a full journal
 pub enters_all : {E : Type 0} (r : Result Going E) (going : Going) (course : List Entry → Run) (number most : ℕ) (old new es : List Entry) (mid before : List Made) (was : List ℕ) (after : List Made) (now : List ℕ) → r ≡ Ok going
     → IfOk r (λ s. course old ≡ record { past = new; stopped = is_full s }) → IfOk r (λ s. is_full s ≡ true → length new ≡ MAX_ENTRIES)

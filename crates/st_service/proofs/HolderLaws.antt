@@ -1,5 +1,5 @@
 -- A pass of which one place was written.
-use Rattle.std.proofs.Common.{◌≡◌, ℕ, zero, suc, ◌<◌, List, [], ◌∷◌, length, map, get_or, set, refl, sym, subst, ◌∙◌, arith}
+use Rattle.std.proofs.Common.{◌≡◌, ℕ, zero, suc, ◌<◌, List, [], ◌∷◌, length, map, get_or, set, refl, ap, sym, subst, ◌∙◌, arith}
 use Rattle.std.proofs.lemmas.List.{length-map, length-set}
 use mathlib.Core.List.{IsPrefix}
 use Rattle.st_event.specs.declared.act.LogEntry.{LogEntry}
@@ -32,3 +32,11 @@ kept_set log mine reader number lines more ps i most x y lt at grows reads = rec
   grows = rw (item_was log ps i x [] lt at, item_was mine ps i x [] lt at, item_is log ps i y [] lt, item_is mine ps i y [] lt) grows;
   readers = λ k. pairs_set reader (λ (a b : Published). IsPrefix a.proposals b.proposals) ps i x y no_reader (λ a. prefix_self a.proposals) lt at reads k;
 }
+
+-- the same, of a pass that is seen so
+pub kept_place : {X : Type 0} (log : X → List Made) (mine : X → List ℕ) (reader : X → Published) (number : ℕ) (lines more : List LogEntry) (ps : List X) (i most : ℕ) (x y : X) (h : Holder)
+    → holder log mine reader number ps lines ≡ h → i < length h.fronts → x ≡ get_or ps i x → Grows most (log x) (mine x) (log y) (mine y) → IsPrefix (reader x).proposals (reader y).proposals
+    → Kept h (holder log mine reader number (set ps i y) more) i most
+kept_place log mine reader number lines more ps i most x y h view lt at grows reads =
+    let there : i < length ps = omega (arith, lt, ap (λ (p : Holder). length p.fronts) view, length-map ps log) in
+    subst (λ (p : Holder). Kept p (holder log mine reader number (set ps i y) more) i most) view (kept_set log mine reader number lines more ps i most x y there at grows reads)

@@ -1,5 +1,5 @@
 -- What holds of each place of a pass, and what its lists sum to, where one place was written or added.
-use Rattle.std.proofs.Common.{◌≡◌, ℕ, zero, suc, ◌+◌, ◌<◌, List, [], ◌∷◌, ◌++◌, length, get_or, set, sum_by, ap, arith}
+use Rattle.std.proofs.Common.{◌≡◌, ℕ, zero, suc, ◌+◌, ◌<◌, List, [], ◌∷◌, ◌++◌, length, get_or, set, sum_by, ap, sym, subst, arith}
 use Rattle.std.proofs.lemmas.List.Sums.{sum_by-set, sum_by-append, sum_by-cons}
 
 -- what holds of each item by its number, and of the one that was written
@@ -20,3 +20,13 @@ units_set f xs i x y before after lt at was now = let s = sum_by-set f xs i y x 
 -- and they stay where the place that is added has nothing
 pub units_more : {X : Type 0} (f : X → ℕ) (xs : List X) (x : X) (before : ℕ) → f x ≡ 0 → before ≡ sum_by f xs → before ≡ sum_by f (xs ++ x ∷ [])
 units_more f xs x before none was = let all = sum_by-append f xs (x ∷ []) in let one = sum_by-cons f x [] in omega (arith, all, one, none, was)
+
+-- a look changes neither what holds of each place nor what the lists sum to
+pub look_stays : {X : Type 0} (P : ℕ → X → Type 0) (f : X → ℕ) (xs : List X) (i : ℕ) (x y : X) (parts amount : ℕ) → i < length xs → x ≡ get_or xs i x
+    → ((k : ℕ) (d : X) → k < length xs → P k (get_or xs k d)) × (parts ≡ 1) × (amount ≡ sum_by f xs) → (P i x → P i y) → f y ≡ f x
+    → ((k : ℕ) (d : X) → k < length (set xs i y) → P k (get_or (set xs i y) k d)) × (parts ≡ 1) × (amount ≡ sum_by f (set xs i y))
+look_stays P f xs i x y parts amount lt at inv goes same = (
+  items_set P xs i y lt inv.0 (goes (subst (P i) (sym at) (inv.0 i x lt))),
+  inv.1,
+  units_set f xs i x y amount amount lt at inv.2 (omega (arith, same)),
+)

@@ -25,10 +25,10 @@ use Rattle.st_board.specs.Published.{Published}
 use Rattle.st_board.proofs.Prefixes.{prefix_self, prefix_trans}
 use Rattle.st_service.specs.declared.work.Work.{Work}
 use Rattle.st_service.specs.declared.work.Work.TheVariants.{CheckFor}
-use Rattle.st_service.specs.Rooms.{IsRoom}
+use Rattle.st_service.specs.Rooms.{Adds, IsRoom, RoomView}
 use Rattle.st_service.specs.Shares.{work_share}
 use Rattle.st_service.specs.Works.{WorkFits, course_at, decides}
-use Rattle.st_service.proofs.CourseLaws.{Went, work-ran, ran_part}
+use Rattle.st_service.proofs.CourseLaws.{Went, work-ran, ran_part, went_adds}
 
 -- the course of a work from where a world stands
 abbrev pub course_in : ℕ → Work → WorldView → Run
@@ -51,6 +51,18 @@ work_went (Ok going) number work old new ok err fits =
 work_went (Err e) number work old new ok err fits =
     ran_part (decides work) number (work_share work old.history.group old.lines) old.history.past new.history.past (course_in number work old)
     err.began err.part (work-ran work number old.history.group old.lines old.history.past fits)
+
+-- the same, where the room is seen so
+pub went_from : {E : Type 0} (r : Result Going E) (number : ℕ) (work : Work) (old new : WorldView) (b : Published) (spent : Bool) (room : RoomView) → record { history = old.history; lines = old.lines; published = b; spent = spent } ≡ room
+    → IfOk r (λ going. course_in number work old ≡ record { past = new.history.past; stopped = is_full going }) → OnErr r (IsPartOf old new (course_in number work old))
+    → WorkFits work room.history.group → Went (decides work) number (work_share work old.history.group old.lines) old.history.past new.history.past
+went_from r number work old new b spent room view ok err fits = work_went r number work old new ok err (subst (λ (v : RoomView). WorkFits work v.history.group) (sym view) fits)
+
+pub adds_from : {E : Type 0} (r : Result Going E) (number : ℕ) (work : Work) (old new : WorldView) (b : Published) (spent : Bool) (room : RoomView) → record { history = old.history; lines = old.lines; published = b; spent = spent } ≡ room
+    → IfOk r (λ going. course_in number work old ≡ record { past = new.history.past; stopped = is_full going }) → OnErr r (IsPartOf old new (course_in number work old))
+    → WorkFits work room.history.group → Adds number (work_share work room.history.group room.lines) room.history.past new.history.past
+adds_from r number work old new b spent room view ok err fits = subst (λ (v : RoomView). Adds number (work_share work v.history.group v.lines) v.history.past new.history.past) view
+    (went_adds (decides work) number (work_share work old.history.group old.lines) old.history.past new.history.past (went_from r number work old new b spent room view ok err fits))
 
 -- where as much was accepted as before, a room stands
 pub room_stands : (old new : History) (b : Published) (spent : Bool) → new.group ≡ old.group → accepted new.past ≡ accepted old.past → IsRoom old b spent → IsRoom new b spent
@@ -81,6 +93,10 @@ room_spends old new b c spent group more is r = rw is (record {
   begun = prefix_trans b.proposals (accepted old.past) (accepted new.past) r.begun (first_rows (pending old.past) ∷ [], sym more);
   whole = λ e. absurd cc;
 })
+
+-- then more is accepted than it had
+pub refused_more : (old new : History) (b : Published) (spent : Bool) → accepted new.past ≡ accepted old.past ++ first_rows (pending old.past) ∷ [] → spent ≡ false → IsRoom old b spent → length b.proposals < length (accepted new.past)
+refused_more old new b spent more open_still r = omega (arith, ap length (r.whole open_still), ap length more, length-append (accepted old.past) (first_rows (pending old.past) ∷ []))
 
 -- a run that met a full journal left it full
 pub work_full : {E : Type 0} (r : Result Going E) (number : ℕ) (work : Work) (old new : WorldView)

@@ -1,5 +1,5 @@
 -- Worked examples on works and acts: their courses, how many entries they may add, and what an act leaves with its pass.
-use Rattle.std.proofs.Common.{◌≡◌, ℕ, ◌+◌, ◌<◌, ◌≤◌, List, [], ◌∷◌, length, refl, ap, sym, subst, ◌∙◌, arith, length-append}
+use Rattle.std.proofs.Common.{◌≡◌, ℕ, ◌+◌, ◌<◌, ◌≤◌, List, [], ◌∷◌, ◌++◌, length, refl, ap, sym, subst, ◌∙◌, arith, length-append}
 use Rattle.std.specs.Prelude.{true, false, map}
 use Rattle.std.specs.Borrow.{Bor}
 use Rattle.st_net.specs.declared.entity.Entity.TheVariants.{Device, Link}
@@ -16,6 +16,7 @@ use Rattle.st_event.specs.declared.event.Event.{Event}
 use Rattle.st_event.specs.declared.event.Event.TheVariants.{Check, Submit, Lock as lock_event, Unlock as unlock_event, Report, Hear, Fail as fail_event}
 use Rattle.st_event.specs.declared.journal.Entry.{Entry}
 use Rattle.st_event.specs.declared.journal.TheConstants.{MAX_ENTRIES}
+use Rattle.st_event.specs.Proposals.{accepted}
 use Rattle.st_event.specs.Services.{entry_after}
 use Rattle.st_board.specs.Published.{Published}
 use Rattle.st_wire.specs.declared.line.WireKind.TheVariants.{Command}
@@ -377,18 +378,35 @@ answers_done = lock_done
 pub not_answered_done : Acts Done (Lock 0 a1 Low) small [] old old → ⊥
 not_answered_done d = not_an_idle_lock d.entered
 
-pub answers_full : (after : List Made) → length after ≡ MAX_ENTRIES → Acts (JournalFull 0) (Lock 0 a1 Low) small [] old (pass after (0 ∷ []) (firmware 2 ∷ []) [])
-answers_full after full = (refl, full, refl)
+-- a full journal is one that the pass has seen, of which its reader is taught
+abbrev at_full : List Made → List (List Row) → List LogEntry → Holder
+at_full after proposals log = pass after (0 ∷ []) proposals log
+
+pub answers_full : (after : List Made) → length after ≡ MAX_ENTRIES → accepted (past_in after) ≡ firmware 2 ∷ [] → Acts (JournalFull 0) (Lock 0 a1 Low) small [] old (at_full after (firmware 2 ∷ []) [])
+answers_full after full same = (refl, record { enters = tt; full = full; taught = ([], ap (λ ps. ps ++ []) same); logged = refl })
 
 -- another group's number, a journal that has room, or a line in the log
-pub not_full_elsewhere : (after : List Made) → Acts (JournalFull 1) (Lock 0 a1 Low) small [] old (pass after (0 ∷ []) (firmware 2 ∷ []) []) → ⊥
+pub not_full_elsewhere : (after : List Made) → Acts (JournalFull 1) (Lock 0 a1 Low) small [] old (at_full after (firmware 2 ∷ []) []) → ⊥
 not_full_elsewhere after d = absurd (omega (arith, d.0))
 
 pub not_full_with_room : Acts (JournalFull 0) (Lock 0 a1 Low) small [] old old → ⊥
-not_full_with_room d = absurd (omega (arith, d.1))
+not_full_with_room d = absurd (omega (arith, d.1.full))
 
-pub not_full_with_a_line : (after : List Made) → Acts (JournalFull 0) (Lock 0 a1 Low) small [] old (pass after (0 ∷ []) (firmware 2 ∷ []) (line (Seen 1 2) ∷ [])) → ⊥
-not_full_with_a_line after d = absurd (cc (d.2))
+pub not_full_with_a_line : (after : List Made) → Acts (JournalFull 0) (Lock 0 a1 Low) small [] old (at_full after (firmware 2 ∷ []) (line (Seen 1 2) ∷ [])) → ⊥
+not_full_with_a_line after d = absurd (cc (d.1.logged))
+
+-- a reader that lacks what the journal accepts
+pub not_full_untaught : (after : List Made) → accepted (past_in after) ≡ firmware 2 ∷ [] → Acts (JournalFull 0) (Lock 0 a1 Low) small [] old (at_full after [] []) → ⊥
+not_full_untaught after same d =
+    let more : firmware 2 ∷ d.1.taught.0 ≡ [] = ap (λ ps. ps ++ d.1.taught.0) (sym same) ∙ d.1.taught.1 in
+    absurd (cc more)
+
+-- of an act that only reads
+pub not_full_by_a_read : (new : Holder) → Acts (JournalFull 0) (Read 0 a1 Firmware) small [] old new → ⊥
+not_full_by_a_read new d = d.1.enters
+
+pub not_full_by_a_read_at : (new : Holder) → Acts (JournalFull 0) (ReadAt 0 1 a1 Firmware) small [] old new → ⊥
+not_full_by_a_read_at new d = d.1.enters
 
 -- Acts that may be done
 

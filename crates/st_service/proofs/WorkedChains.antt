@@ -18,7 +18,8 @@ use Rattle.st_service.specs.Awaits.{WentOn, ChecksFor, Waits, WaitsOut, Awaits, 
 use Rattle.st_service.specs.Lines.{tagged}
 use Rattle.st_service.specs.Made.{Made, past_in, maker}
 use Rattle.st_service.specs.Puts.{Puts}
-use Rattle.st_service.specs.Turns.{Turns, Turned, RoundOf, RoundTold, RoundsMade, Settles, Settled}
+use Rattle.st_service.specs.Turns.{Turns, Turned, RoundOf, RoundTold, RoundsMade, WasSettled, Settles, Settled}
+use Rattle.st_service.proofs.ChainLaws.{rounds_later}
 use Rattle.st_service.proofs.WorkedJournals.{small, a1, app, firmware, idle, made, then_by, proposed, decided, turned}
 
 -- Turns
@@ -195,39 +196,41 @@ not_an_empty_round was now r =
 
 -- A settle
 
--- as many rounds as were asked, or fewer since all was settled
+-- as many rounds as were asked, or fewer since all was settled behind them
 pub as_many_as_asked : Settles small [] 0 1 decided (0 ∷ []) turned (0 ∷ 2 ∷ 3 ∷ 4 ∷ 5 ∷ 6 ∷ [])
-as_many_as_asked = (1, omega arith, one_round, inl refl)
+as_many_as_asked = (1, omega arith, turned, one_round, ([], refl), inl refl)
 
 pub settled_before_the_last : Settles small [] 0 9 decided (0 ∷ []) turned (0 ∷ 2 ∷ 3 ∷ 4 ∷ 5 ∷ 6 ∷ [])
-settled_before_the_last = (1, omega arith, one_round, inr (turned, (tagged 0 of_turn, refl), ([], refl), refl))
+settled_before_the_last = (1, omega arith, turned, one_round, ([], refl), inr (turned, ([], refl), ([], refl), refl))
 
-no_round_of_none : (k : ℕ) → k ≤ 0 → RoundsMade small [] 0 k decided (0 ∷ []) turned (0 ∷ 2 ∷ 3 ∷ 4 ∷ 5 ∷ 6 ∷ []) → ⊥
-no_round_of_none zero le r = not_without_rounds r
-no_round_of_none (suc k) le r = absurd (omega (arith, le))
+no_round_of_none : (k : ℕ) (mid : List Made) → k ≤ 0 → RoundsMade small [] 0 k decided (0 ∷ []) mid (0 ∷ 2 ∷ 3 ∷ 4 ∷ 5 ∷ 6 ∷ []) → ⊥
+no_round_of_none zero mid le r = absurd (cc (r.1))
+no_round_of_none (suc k) mid le r = absurd (omega (arith, le))
 
 -- a round more than was asked
 pub not_a_round_more : Settles small [] 0 0 decided (0 ∷ []) turned (0 ∷ 2 ∷ 3 ∷ 4 ∷ 5 ∷ 6 ∷ []) → ⊥
-not_a_round_more s = no_round_of_none s.0 s.1 s.2
+not_a_round_more s = no_round_of_none s.0 s.2 s.1 s.3
 
--- a round less, though the switch was not settled
-abbrev EndsWell : ℕ → Type 0
-EndsWell k = (k ≡ 1) ⊎ ((f : List Made) × IsPrefix decided f × IsPrefix f decided × (unsettled small (past_in f) ≡ []))
+-- all was settled behind the turn
+pub settled_behind_it : WasSettled small turned turned
+settled_behind_it = (turned, ([], refl), ([], refl), refl)
 
-ends_not : EndsWell 0 → ⊥
-ends_not (inl e) = absurd (omega (arith, e))
-ends_not (inr s) =
+-- it was so before the verdict, which is no front behind it
+pub not_settled_before_it : WasSettled small decided decided → ⊥
+not_settled_before_it s =
     let same : s.0 ≡ decided = sym (prefix_whole decided s.0 s.1 (prefix_length s.0 decided s.2)) in
     let none : a1 ∷ [] ≡ [] = subst (λ (f : List Made). unsettled small (past_in f) ≡ []) same s.3 in
     absurd (cc none)
 
-no_round_less : (k : ℕ) → k ≤ 1 → RoundsMade small [] 0 k decided (0 ∷ []) decided (0 ∷ []) → EndsWell k → ⊥
-no_round_less zero le r well = ends_not well
-no_round_less (suc zero) le r well = not_an_empty_round (0 ∷ []) (0 ∷ []) r
-no_round_less (suc (suc k)) le r well = absurd (omega (arith, le))
+-- a round less, though the switch was not settled
+no_round_less : (k : ℕ) (mid : List Made) → k ≤ 1 → RoundsMade small [] 0 k decided (0 ∷ []) mid (0 ∷ []) → IsPrefix mid decided → ((k ≡ 1) ⊎ WasSettled small mid decided) → ⊥
+no_round_less zero mid le r p (inl e) = absurd (omega (arith, e))
+no_round_less zero mid le r p (inr s) = not_settled_before_it (s.0, prefix_trans decided mid s.0 r.0 s.1, s.2, s.3)
+no_round_less (suc zero) mid le r p well = not_an_empty_round (0 ∷ []) (0 ∷ []) (rounds_later small [] 0 1 decided mid decided (0 ∷ []) (0 ∷ []) r p)
+no_round_less (suc (suc k)) mid le r p well = absurd (omega (arith, le))
 
 pub not_a_round_less : Settles small [] 0 1 decided (0 ∷ []) decided (0 ∷ []) → ⊥
-not_a_round_less s = no_round_less s.0 s.1 s.2 s.3
+not_a_round_less s = no_round_less s.0 s.2 s.1 s.3 s.4 s.5
 
 pub settled_on : Settled On small [] 0 1 decided (0 ∷ []) turned (0 ∷ 2 ∷ 3 ∷ 4 ∷ 5 ∷ 6 ∷ [])
 settled_on = as_many_as_asked

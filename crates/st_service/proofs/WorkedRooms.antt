@@ -1,6 +1,6 @@
 -- Worked examples on rooms, on how a service starts, and on what it hands out once it is closed.
-use Rattle.std.proofs.Common.{◌≡◌, ℕ, zero, suc, ◌+◌, ◌<◌, List, [], ◌∷◌, length, slice_index_or, refl, ap, sym, subst, ◌∙◌, arith, length-append}
-use Rattle.std.specs.Prelude.{true, false, sum_by}
+use Rattle.std.proofs.Common.{◌≡◌, ℕ, zero, suc, ◌+◌, ◌<◌, List, [], ◌∷◌, length, slice_index_or, inl, inr, refl, ap, sym, subst, ◌∙◌, arith, length-append}
+use Rattle.std.specs.Prelude.{Bool, true, false, sum_by}
 use Rattle.std.proofs.lemmas.List.{append-nil}
 use Rattle.logbook.specs.Pages.{Book}
 use Rattle.st_net.specs.declared.entity.Row.{Row}
@@ -23,7 +23,7 @@ use Rattle.st_service.specs.Closed.{positions, Stands, entered, IsWhole}
 use Rattle.st_service.specs.Made.{Made, past_in}
 use Rattle.st_service.specs.Opened.{AreLinesOf, AreWorldsOf, IsFresh}
 use Rattle.st_service.specs.Passes.{Holder, front_at, mine_at, reader_at}
-use Rattle.st_service.specs.Rooms.{RoomView, IsRoom, IsSameRoom, Adds}
+use Rattle.st_service.specs.Rooms.{RoomView, IsRoom, IsSameRoom, IsShut, IsOpen, WasRefused, Adds}
 use Rattle.st_service.proofs.WorkedJournals.{small, a1, firmware, lock, unlock, idle, made, decided}
 use Rattle.st_service.proofs.WorkedLines.{three, places, no_places, one_place}
 
@@ -90,6 +90,40 @@ not_another_plan s = absurd (omega (arith, ap length s.lines))
 
 pub not_another_board : IsSameRoom (view small [] 0) (view small [] 1) → ⊥
 not_another_board s = absurd (omega (arith, ap (λ (b : Book). b.number) s.board))
+
+-- the publication of the firmware was refused
+abbrev accepts : List (List Row) → Bool → RoomView
+accepts proposals spent = record { history = history; lines = []; published = published proposals; spent = spent }
+
+pub was_refused : WasRefused (accepts [] false) (accepts [] true)
+was_refused = record { board = refl; more = omega arith }
+
+-- it was published, or nothing was accepted
+pub not_published : WasRefused (accepts [] false) (accepts (firmware 2 ∷ []) true) → ⊥
+not_published r = absurd (omega (arith, ap (λ (b : Published). length b.proposals) r.board))
+
+pub not_without_more : WasRefused (accepts (firmware 2 ∷ []) false) (accepts (firmware 2 ∷ []) true) → ⊥
+not_without_more r = let more : 1 < 1 = r.more in absurd (omega (arith, more))
+
+-- a spent room is shut, and so is one whose line lacks an entry
+pub shut_as_spent : IsShut false (accepts [] true)
+shut_as_spent = inr refl
+
+pub shut_as_lost : IsShut true (accepts [] false)
+shut_as_lost = inl refl
+
+pub not_shut : IsShut false (accepts [] false) → ⊥
+not_shut (inl lost) = absurd (cc lost)
+not_shut (inr spent) = absurd (cc spent)
+
+pub open_room : IsOpen false (accepts [] false)
+open_room = (refl, refl)
+
+pub not_open_as_spent : IsOpen false (accepts [] true) → ⊥
+not_open_as_spent o = absurd (cc (o.1))
+
+pub not_open_as_lost : IsOpen true (accepts [] false) → ⊥
+not_open_as_lost o = absurd (cc (o.0))
 
 -- What a call adds to a journal
 

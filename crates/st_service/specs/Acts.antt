@@ -56,10 +56,23 @@ pub record ActDone (act : Act) (g : Group) (lines : List WireLine) (old new : Ho
   pub logged : ActLogs act g old new
   pub taught : ActTeaches act new
 
+-- an act that only reads enters nothing, so that it meets no full journal
+abbrev pub MayMeetFull : Act → Type 0
+MayMeetFull (Read n entity var) = ⊥
+MayMeetFull (ReadAt n version entity var) = ⊥
+MayMeetFull _ = Unit {0}
+
+-- an act of which an event met a full journal: the pass has seen it so, its reader is taught, and nothing is logged
+pub record ActFull (act : Act) (old new : Holder) : Type 0 where
+  pub enters : MayMeetFull act
+  pub full : length (front_at new.fronts (group_number act)) ≡ MAX_ENTRIES
+  pub taught : IsTaught new (group_number act)
+  pub logged : new.log ≡ old.log
+
 -- of an answer to an act
 abbrev pub Acts : Acted → Act → Group → List WireLine → Holder → Holder → Type 0
 Acts Done act g lines old new = ActDone act g lines old new
-Acts (JournalFull n) act g lines old new = (n ≡ group_number act) × (length (front_at new.fronts (group_number act)) ≡ MAX_ENTRIES) × (new.log ≡ old.log)
+Acts (JournalFull n) act g lines old new = (n ≡ group_number act) × ActFull act old new
 
 -- an act that may be done on so many rooms, which are of these groups
 abbrev pub CanDo : (ℕ → Group) → ℕ → Act → Type 0

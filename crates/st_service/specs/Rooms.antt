@@ -1,5 +1,5 @@
 -- What lies in a room: a group's world, and the board by which its target is published.
-use Rattle.std.specs.Prelude.{◌≡◌, ℕ, ◌≤◌, Bool, true, false, List, ◌++◌, length}
+use Rattle.std.specs.Prelude.{◌≡◌, ◌⊎◌, ℕ, ◌<◌, ◌≤◌, Bool, true, false, List, ◌++◌, length}
 use mathlib.Core.List.{IsPrefix}
 use Rattle.st_event.specs.declared.journal.Entry.{Entry}
 use Rattle.st_event.specs.History.{History}
@@ -14,6 +14,14 @@ pub record RoomView : Type 0 where
   pub lines : List WireLine
   pub published : Published
   pub spent : Bool
+
+-- nothing more is entered in a room whose line lacks an entry, or that is spent
+abbrev pub IsShut : Bool → RoomView → Type 0
+IsShut lost room = (lost ≡ true) ⊎ (room.spent ≡ true)
+
+-- it is neither
+abbrev pub IsOpen : Bool → RoomView → Type 0
+IsOpen lost room = (lost ≡ false) × (room.spent ≡ false)
 
 -- the same once nothing more is published
 pub record EndedView : Type 0 where
@@ -32,6 +40,11 @@ pub record IsSameRoom (old new : RoomView) : Type 0 where
   pub group : new.history.group ≡ old.history.group
   pub lines : new.lines ≡ old.lines
   pub board : new.published.book ≡ old.published.book
+
+-- a publication was refused: the board is as it was, and more is accepted than it has
+pub record WasRefused (old new : RoomView) : Type 0 where
+  pub board : new.published ≡ old.published
+  pub more : length old.published.proposals < length (accepted new.history.past)
 
 -- a journal went on by at most so many entries, none of which is the request of another than this application
 pub record Adds (number most : ℕ) (old new : List Entry) : Type 0 where

@@ -41,10 +41,14 @@ abbrev pub RoundsMade : Group → List WireLine → ℕ → ℕ → List Made �
 RoundsMade g lines number zero before was after now = IsPrefix before after × (now ≡ was)
 RoundsMade g lines number (suc k) before was after now = (mid : List Made) × (got : List ℕ) × RoundOf Whole g lines number before was mid got × RoundsMade g lines number k mid got after now
 
--- as many rounds as were asked, or fewer where every entity was settled in a front that was seen
+-- every entity was settled in a front that was seen behind this one
+abbrev pub WasSettled : Group → List Made → List Made → Type 0
+WasSettled g mid after = (f : List Made) × IsPrefix mid f × IsPrefix f after × (unsettled g (past_in f) ≡ [])
+
+-- as many rounds as were asked, or fewer where every entity was settled behind them
 abbrev pub Settles : Group → List WireLine → ℕ → ℕ → List Made → List ℕ → List Made → List ℕ → Type 0
 Settles g lines number asked before was after now =
-    (k : ℕ) × (k ≤ asked) × RoundsMade g lines number k before was after now × ((k ≡ asked) ⊎ ((f : List Made) × IsPrefix before f × IsPrefix f after × (unsettled g (past_in f) ≡ [])))
+    (k : ℕ) × (k ≤ asked) × (mid : List Made) × RoundsMade g lines number k before was mid now × IsPrefix mid after × ((k ≡ asked) ⊎ WasSettled g mid after)
 
 -- of an answer to so many rounds
 abbrev pub Settled : Going → Group → List WireLine → ℕ → ℕ → List Made → List ℕ → List Made → List ℕ → Type 0

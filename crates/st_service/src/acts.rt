@@ -5,7 +5,7 @@ ghost use Rattle.st_net.specs.Groups.{IsEntityOf};
 ghost use Rattle.st_event.specs.declared.journal.TheConstants.{MAX_ENTRIES};
 ghost use Rattle.st_world.specs.Acts.{group_number as group_number_lem, seen_at as seen_at_lem};
 ghost use Rattle.st_world.specs.declared.world.rounds.Going.TheVariants.{On as all_done, Full as met_full};
-ghost use Rattle.st_service.specs.Acts.{ActDone, Acts, CanDo};
+ghost use Rattle.st_service.specs.Acts.{ActDone, ActFull, Acts, CanDo};
 ghost use Rattle.st_service.specs.Kept.{Kept};
 ghost use Rattle.st_service.specs.Made.{past_in};
 ghost use Rattle.st_service.specs.Passes.{front_at, IsTaught};
@@ -34,9 +34,9 @@ pub enum Acted {
 
 impl<J: Naming, L: Ledger, H: Wait + Drop> Service<J, L, H> {
     /// Does an act for the pass of an application. An act that takes the lock of a room teaches the pass the room's latest front, and
-    /// what that accepts; a read takes no lock, and the gate is called behind it. Where a publication is refused the room is spent: this
-    /// call and each later one on it answers want of memory, and no later one enters anything. Entries made before a refusal stand, and
-    /// are in the pass's list. It may wait for the room, and for readers.
+    /// what that accepts; a read takes no lock, and the gate is called behind it. Entries made before a refusal stand, and are in the
+    /// pass's list. Where a publication is refused the room is spent: this call answers want of memory, and so does each later call that
+    /// takes its lock, which enters nothing. A read goes on. It may wait for the room, and for readers.
     pub fn step_app<R: Wait, G: Gate>(
         &self,
         rt: &R,
@@ -72,7 +72,7 @@ impl<J: Naming, L: Ledger, H: Wait + Drop> Service<J, L, H> {
         requires act { CanDo J.group (length self.now.rooms.items) act.now }
         ensures kept { Kept pass.old pass.new (group_number_lem act.now) (act_share act.now (J.group (group_number_lem act.now)) (J.lines (group_number_lem act.now))) }
         ensures done { IfOk result (λ going. going ≡ all_done → ActDone act.now (J.group (group_number_lem act.now)) (J.lines (group_number_lem act.now)) pass.old pass.new) }
-        ensures full { IfOk result (λ going. going ≡ met_full → (length (front_at pass.new.fronts (group_number_lem act.now)) ≡ MAX_ENTRIES) × (pass.new.log ≡ pass.old.log)) }
+        ensures full { IfOk result (λ going. going ≡ met_full → ActFull act.now pass.old pass.new) }
         ensures err { OnErr result (pass.new.log ≡ pass.old.log) }
     {
         let group = group_number(act) as usize;

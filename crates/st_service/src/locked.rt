@@ -1,7 +1,7 @@
 //! What lies under a room's lock: the room, and the line that tells which pass made each entry of its journal. Every hold of the lock is a
 //! call of this type, which is lent a pass's place.
 
-ghost use Rattle.std.specs.Prelude.{◌≡◌, ◌+◌, ◌<◌, true, false, ◌≤◌, length, IfOk, OnErr, MatchBool};
+ghost use Rattle.std.specs.Prelude.{◌≡◌, ◌+◌, ◌<◌, true, false, ◌≤◌, length, IfOk, IsErr, OnOk, OnErr, MatchBool};
 ghost use mathlib.Core.List.{IsPrefix};
 ghost use Rattle.st_net.specs.Groups.{IsEntityOf};
 ghost use Rattle.st_event.specs.Legal.{IsLegal};
@@ -12,6 +12,7 @@ ghost use Rattle.st_service.specs.Kept.{Grows};
 ghost use Rattle.st_service.specs.Lines.{flat};
 ghost use Rattle.st_service.specs.Made.{past_in};
 ghost use Rattle.st_service.specs.Puts.{Enters, EntersOrNot};
+ghost use Rattle.st_service.specs.Rooms.{IsOpen, IsShut, WasRefused};
 ghost use Rattle.st_service.specs.Shares.{work_share};
 ghost use Rattle.st_service.specs.Works.{WorkFits, course_at};
 
@@ -52,7 +53,8 @@ impl<J: Naming, L: Ledger, H: Wait + Drop> Locked<J, L, H> {
     }
 
     /// Does a work for a pass, and teaches it the journal and what is published. At `Full` an event met a full journal; then, and at
-    /// `Err`, a part of the events was entered, from the first, and stands. What was entered is the pass's, whatever the answer.
+    /// `Err`, a part of the events was entered, from the first, and stands. What was entered is the pass's, whatever the answer. A room
+    /// that is spent, or lost, stays as it is.
     pub fn work(
         &mut self,
         alloc: Global,
@@ -67,7 +69,12 @@ impl<J: Naming, L: Ledger, H: Wait + Drop> Locked<J, L, H> {
         ensures place { (place.new.group ≡ place.old.group) × (place.new.number ≡ place.old.number) }
         ensures share { (share.new.parts ≡ share.old.parts) × (share.new.amount + length place.old.mine.items ≡ share.old.amount + length place.new.mine.items) }
         ensures entered { IfOk result (λ going. Enters (course_at place.old.number work.entry (J.group self.old.group) (J.lines self.old.group)) going place.old.number (flat self.old.makers.seen.log) (flat place.old.seen.log) place.old.mine.items (flat place.new.seen.log) place.new.mine.items) }
+        ensures journal { IfOk result (λ _. past_in (flat place.new.seen.log) ≡ self.new.room.history.past) }
         ensures refused { OnErr result (EntersOrNot (course_at place.old.number work.entry (J.group self.old.group) (J.lines self.old.group)) place.old.number (flat self.old.makers.seen.log) (flat place.old.seen.log) place.old.mine.items (flat place.new.seen.log) place.new.mine.items) }
+        ensures open { OnOk result (IsOpen self.old.lost self.old.room) }
+        ensures shut { IsShut self.old.lost self.old.room → (self.new.room ≡ self.old.room) × (self.new.lost ≡ self.old.lost) }
+        ensures spent { self.old.room.spent ≡ false → self.new.room.spent ≡ true → WasRefused self.old.room self.new.room × IsErr result }
+        ensures lost { self.old.lost ≡ false → self.new.lost ≡ true → (length (flat self.new.makers.seen.log) < length self.new.room.history.past) × IsErr result }
         ensures grows { Grows (work_share work.entry (J.group self.old.group) (J.lines self.old.group)) (flat place.old.seen.log) place.old.mine.items (flat place.new.seen.log) place.new.mine.items }
         ensures legal { IsLegal (J.group self.old.group) (past_in (flat place.old.seen.log)) → IsLegal (J.group self.old.group) (past_in (flat place.new.seen.log)) }
         ensures reader { IsPrefix place.old.reader.proposals place.new.reader.proposals }
@@ -98,6 +105,7 @@ impl<J: Naming, L: Ledger, H: Wait + Drop> Locked<J, L, H> {
         ensures place { (place.new.group ≡ place.old.group) × (place.new.number ≡ place.old.number) × (place.new.mine ≡ place.old.mine) }
         ensures seen { IsPrefix (flat place.old.seen.log) (flat place.new.seen.log) }
         ensures journal { IfOk result (λ _. past_in (flat place.new.seen.log) ≡ self.now.room.history.past) }
+        ensures open { OnOk result (IsOpen self.now.lost self.now.room) }
         ensures legal { IsLegal (J.group self.now.group) (past_in (flat place.old.seen.log)) → IsLegal (J.group self.now.group) (past_in (flat place.new.seen.log)) }
         ensures reader { IsPrefix place.old.reader.proposals place.new.reader.proposals }
         ensures reads { IfOk result (λ _. IsPrefix (accepted (past_in (flat place.new.seen.log))) place.new.reader.proposals) }
@@ -117,6 +125,7 @@ impl<J: Naming, L: Ledger, H: Wait + Drop> Locked<J, L, H> {
         ensures place { (place.new.group ≡ place.old.group) × (place.new.number ≡ place.old.number) × (place.new.mine ≡ place.old.mine) }
         ensures seen { IsPrefix (flat place.old.seen.log) (flat place.new.seen.log) }
         ensures entities { IfOk result (λ entities. entities.items ≡ unsettled_lem (J.group self.now.group) (past_in (flat place.new.seen.log))) }
+        ensures open { OnOk result (IsOpen self.now.lost self.now.room) }
         ensures legal { IsLegal (J.group self.now.group) (past_in (flat place.old.seen.log)) → IsLegal (J.group self.now.group) (past_in (flat place.new.seen.log)) }
         ensures reader { IsPrefix place.old.reader.proposals place.new.reader.proposals }
         ensures reads { IfOk result (λ _. IsPrefix (accepted (past_in (flat place.new.seen.log))) place.new.reader.proposals) }
@@ -138,6 +147,7 @@ impl<J: Naming, L: Ledger, H: Wait + Drop> Locked<J, L, H> {
         ensures place { (place.new.group ≡ place.old.group) × (place.new.number ≡ place.old.number) × (place.new.mine ≡ place.old.mine) }
         ensures seen { IsPrefix (flat place.old.seen.log) (flat place.new.seen.log) }
         ensures saw { IfOk result (λ saw. saw ≡ seen_at_lem (record { group = J.group self.now.group; past = past_in (flat place.new.seen.log) }) version entity var) }
+        ensures open { OnOk result (IsOpen self.now.lost self.now.room) }
         ensures legal { IsLegal (J.group self.now.group) (past_in (flat place.old.seen.log)) → IsLegal (J.group self.now.group) (past_in (flat place.new.seen.log)) }
         ensures reader { IsPrefix place.old.reader.proposals place.new.reader.proposals }
         ensures reads { IfOk result (λ _. IsPrefix (accepted (past_in (flat place.new.seen.log))) place.new.reader.proposals) }

@@ -110,6 +110,7 @@ impl<J: Naming, L: Ledger> Makers<J, L> {
         ensures units { MatchBool result ((self.new.units.amount + length entries.now ≡ self.old.units.amount) × (share.new.amount ≡ share.old.amount + length entries.now)) (share.new.amount ≡ share.old.amount) }
         ensures puts { MatchBool result (Puts place.old.number entries.now (flat self.old.seen.log) (flat place.old.seen.log) place.old.mine.items (flat place.new.seen.log) place.new.mine.items) (place.new ≡ place.old) }
         ensures journal { MatchBool result (place.new.seen.log ≡ self.new.seen.log) (Unit {0}) }
+        ensures missed { MatchBool result (Unit {0}) ((self.new.seen.log ≡ self.old.seen.log) × (0 < length entries.now)) }
     {
         if entries.is_empty() {
             place.look(&self.seen, self.batches);

@@ -94,7 +94,7 @@ impl<J: Naming, L: Ledger> Pass<J, L> {
         &self.log
     }
 
-    /// The ticket of its last proposal in a room.
+    /// The ticket of its last proposal in a room, which is one of its own; `None` where it made no proposal there. It takes no lock.
     pub fn latest(&self, group: usize) -> Option<u32>
         requires { group < length self.now.fronts }
         ensures latest { result ≡ latest_in (front_at self.now.fronts group) (mine_at self.now.mines group) }
@@ -173,7 +173,8 @@ impl<J: Naming, L: Ledger> Pass<J, L> {
         })
     }
 
-    /// Reads a variable's value in the published target of a group, and logs it. It takes no lock, and waits for nobody.
+    /// Reads a variable's value in the published target of a group, which is one of its rooms', and logs it with the target's version.
+    /// It takes no lock, and waits for nobody. At `Err` nothing is logged; what its reader has caught up with stays.
     pub fn read(&mut self, group: usize, entity: Entity, var: Var) -> Result<(), AllocError>
         requires room { (group < length self.old.fronts) × (group < 16) }
         requires fits { IsEntityOf (J.group group) entity }

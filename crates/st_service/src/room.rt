@@ -1,7 +1,7 @@
 //! A room: a group's world with the board by which its target is published. It lies behind a lock, and every event of the group is
 //! entered here.
 
-ghost use Rattle.std.specs.Prelude.{ℕ, ◌≡◌, ◌≤◌, ◌++◌, List, [], true, false, IfOk, OnOk, OnErr, length, reverse};
+ghost use Rattle.std.specs.Prelude.{ℕ, ◌≡◌, ◌≤◌, ◌++◌, List, [], true, false, IfOk, IsErr, OnOk, OnErr, length, reverse};
 ghost use Rattle.st_event.specs.declared.journal.Entry.{Entry as entry};
 ghost use Rattle.st_net.specs.Groups.{IsEntityOf};
 ghost use Rattle.st_board.specs.Published.{IsMergeOf};
@@ -10,7 +10,7 @@ ghost use Rattle.st_event.specs.Proposals.{first_rows, pending, accepted};
 ghost use Rattle.st_world.specs.Acts.{seen_at as seen_at_lem};
 ghost use Rattle.st_world.specs.Rounds.{HasSamePlant, IsPartOf, is_full, unsettled as unsettled_lem};
 ghost use Rattle.st_world.specs.World.{IsBeginning};
-ghost use Rattle.st_service.specs.Rooms.{Adds, IsSameRoom};
+ghost use Rattle.st_service.specs.Rooms.{Adds, IsSameRoom, WasRefused};
 ghost use Rattle.st_service.specs.Shares.{work_share};
 ghost use Rattle.st_service.specs.Works.{WorkFits, check_course, course_at, decides, is_decided as is_decided_lem};
 
@@ -110,6 +110,7 @@ impl<H: Wait + Drop> Room<H> {
         ensures ok { IfOk result (λ going. course_at number work.entry self.old.history.group self.old.lines self.old.history.past ≡ record { past = self.new.history.past; stopped = is_full going }) }
         ensures full { IfOk result (λ going. is_full going ≡ true → length self.new.history.past ≡ MAX_ENTRIES) }
         ensures open { OnOk result (self.new.spent ≡ false) }
+        ensures spent { self.new.spent ≡ true → WasRefused self.old self.new × IsErr result }
         ensures part { IsBeginning self.new.history.past (course_at number work.entry self.old.history.group self.old.lines self.old.history.past).past }
         ensures adds { Adds number (work_share work.entry self.old.history.group self.old.lines) self.old.history.past self.new.history.past }
         ensures room { IsSameRoom self.old self.new }

@@ -10,12 +10,11 @@ use Rattle.st_board.proofs.Prefixes.{prefix_self}
 use Rattle.st_service.specs.declared.place.Place.{Place}
 use Rattle.st_service.specs.Lines.{flat}
 use Rattle.st_service.specs.Made.{IsMine, past_in}
-use Rattle.st_service.specs.Puts.{Puts}
 use Rattle.st_service.specs.Shares.{work_share}
 use Rattle.st_service.specs.Tickets.{latest_in}
 use Rattle.st_service.specs.Works.{WorkFits, course_at}
-use Rattle.st_service.proofs.HoldLaws.{taken, line_goes, enters_all, enters_part, puts_grows, look_grows, length_past}
-use Rattle.st_service.proofs.HeldLaws.{legal_taught, reads_taught, puts_share, on_err, ok_open}
+use Rattle.st_service.proofs.HoldLaws.{taken, held, enters_all, enters_part, puts_grows, look_grows, length_past}
+use Rattle.st_service.proofs.HeldLaws.{legal_taught, reads_taught, puts_share, on_err, ok_open, open_not_shut, lacks}
 use Rattle.st_service.proofs.locked.Locked.work.Goals as goal
 
 pub returns-then-is_shut_to-clause-group : goal.returns-then-is_shut_to-clause-group
@@ -32,6 +31,21 @@ returns-then-is_shut_to-clause-entered g c = tt
 
 pub returns-then-is_shut_to-clause-refused : goal.returns-then-is_shut_to-clause-refused
 returns-then-is_shut_to-clause-refused g c = inl (refl, refl)
+
+pub returns-then-is_shut_to-clause-journal : goal.returns-then-is_shut_to-clause-journal
+returns-then-is_shut_to-clause-journal g c = tt
+
+pub returns-then-is_shut_to-clause-open : goal.returns-then-is_shut_to-clause-open
+returns-then-is_shut_to-clause-open g c = tt
+
+pub returns-then-is_shut_to-clause-shut : goal.returns-then-is_shut_to-clause-shut
+returns-then-is_shut_to-clause-shut g c = λ shut. (refl, refl)
+
+pub returns-then-is_shut_to-clause-spent : goal.returns-then-is_shut_to-clause-spent
+returns-then-is_shut_to-clause-spent g c = λ was is. absurd (cc (was, is))
+
+pub returns-then-is_shut_to-clause-lost : goal.returns-then-is_shut_to-clause-lost
+returns-then-is_shut_to-clause-lost g c = λ was is. absurd (cc (was, is))
 
 pub returns-then-is_shut_to-clause-grows : goal.returns-then-is_shut_to-clause-grows
 returns-then-is_shut_to-clause-grows g c =
@@ -88,6 +102,21 @@ returns-in_err-reserve-clause-entered g c = IfOk-from_err c.from_residual.result
 
 pub returns-in_err-reserve-clause-refused : goal.returns-in_err-reserve-clause-refused
 returns-in_err-reserve-clause-refused g c = on_err c.from_residual.result (inl (refl, c.reserve.ensures.items))
+
+pub returns-in_err-reserve-clause-journal : goal.returns-in_err-reserve-clause-journal
+returns-in_err-reserve-clause-journal g c = IfOk-from_err c.from_residual.result _ c.from_residual.ensures.0
+
+pub returns-in_err-reserve-clause-open : goal.returns-in_err-reserve-clause-open
+returns-in_err-reserve-clause-open g c = IfOk-from_err c.from_residual.result _ c.from_residual.ensures.0
+
+pub returns-in_err-reserve-clause-shut : goal.returns-in_err-reserve-clause-shut
+returns-in_err-reserve-clause-shut g c = λ shut. (refl, refl)
+
+pub returns-in_err-reserve-clause-spent : goal.returns-in_err-reserve-clause-spent
+returns-in_err-reserve-clause-spent g c = λ was is. absurd (cc (was, is))
+
+pub returns-in_err-reserve-clause-lost : goal.returns-in_err-reserve-clause-lost
+returns-in_err-reserve-clause-lost g c = λ was is. absurd (cc (was, is))
 
 pub returns-in_err-reserve-clause-grows : goal.returns-in_err-reserve-clause-grows
 returns-in_err-reserve-clause-grows g c =
@@ -205,6 +234,30 @@ returns-then-not-take_in-clause-refused g c =
     let same = c.if-not-take_in.ensures.puts in
     inl (ap (λ (p : Place g.row.J.Denot g.J.Naming). flat p.seen.log) same, ap (λ (p : Place g.row.J.Denot g.J.Naming). p.mine.items) same ∙ c.reserve.ensures.items)
 
+pub returns-then-not-take_in-clause-journal : goal.returns-then-not-take_in-clause-journal
+returns-then-not-take_in-clause-journal g c = tt
+
+pub returns-then-not-take_in-clause-open : goal.returns-then-not-take_in-clause-open
+returns-then-not-take_in-clause-open g c = tt
+
+pub returns-then-not-take_in-clause-shut : goal.returns-then-not-take_in-clause-shut
+returns-then-not-take_in-clause-shut g c = λ shut. absurd (open_not_shut c.args.self.now.lost c.args.self.now.room (c.if-is_shut_to.ensures.0, c.if-is_shut_to.ensures.1) shut)
+
+pub returns-then-not-take_in-clause-spent : goal.returns-then-not-take_in-clause-spent
+returns-then-not-take_in-clause-spent g c = λ was is. ((c.work-going.ensures.spent is).0, refl)
+
+pub returns-then-not-take_in-clause-lost : goal.returns-then-not-take_in-clause-lost
+returns-then-not-take_in-clause-lost g c =
+    let room = c.args.self.now in
+    let place = c.args.place.now in
+    let old = room.room.history in
+    let new = c.work-going.new.self.history in
+    let es = c.since-entries.result.now in
+    let most = work_share c.args.work old.group room.room.lines in
+    let t = taken place.number most c.count-from.result old.past new.past es c.work-going.ensures.adds c.count-from.ensures.count c.since-entries.ensures in
+    let missed = c.if-not-take_in.ensures.missed in
+    λ was is. (lacks old.past new.past es (flat room.makers.seen.log) (flat c.take_in.new.self.seen.log) (room.kept c.if-is_shut_to.ensures.0) t.count (ap flat missed.0) missed.1, refl)
+
 pub returns-then-not-take_in-clause-grows : goal.returns-then-not-take_in-clause-grows
 returns-then-not-take_in-clause-grows g c =
     let place = c.args.place.now in
@@ -231,18 +284,16 @@ invariant_of-self-else-not-take_in g c =
     let new = c.work-going.new.self.history in
     let es = c.since-entries.result.now in
     let most = work_share c.args.work old.group room.room.lines in
-    let t = taken place.number most c.count-from.result old.past new.past es c.work-going.ensures.adds c.count-from.ensures.count c.since-entries.ensures in
     let q = c.take_in.new.place in
-    let puts : Puts place.number es (flat room.makers.seen.log) (flat place.seen.log) place.mine.items (flat q.seen.log) q.mine.items =
-    subst (λ (was : List ℕ). Puts place.number es (flat room.makers.seen.log) (flat place.seen.log) was (flat q.seen.log) q.mine.items) c.reserve.ensures.items c.if-not-take_in.ensures.puts in
-    let line : past_in (flat q.seen.log) ≡ new.past = line_goes place.number most old.past new.past es (flat room.makers.seen.log) (flat q.seen.log) t (room.kept c.if-is_shut_to.ensures.0) puts.1 in
-    let left : c.take_in.new.self.units.amount + length new.past ≡ 200000 = omega (arith, c.if-not-take_in.ensures.units.0, room.left c.if-is_shut_to.ensures.0, t.count) in
+    let h = held place.number most c.count-from.result old.past new.past es (flat room.makers.seen.log) (flat place.seen.log) place.mine.items c.reserve.new.self.items (flat q.seen.log) q.mine.items
+    (room.kept c.if-is_shut_to.ensures.0) c.work-going.ensures.adds c.count-from.ensures.count c.since-entries.ensures c.reserve.ensures.items c.if-not-take_in.ensures.puts in
+    let left : c.take_in.new.self.units.amount + length new.past ≡ 200000 = omega (arith, c.if-not-take_in.ensures.units.0, room.left c.if-is_shut_to.ensures.0, h.taken.count) in
     record {
       of_group = c.take_in.ensures.group ∙ room.of_group;
       group_is = c.work-going.ensures.room.group ∙ room.group_is;
       lines_are = c.work-going.ensures.room.lines ∙ room.lines_are;
       board_is = c.work-going.ensures.room.board ∙ room.board_is;
-      kept = λ ok. ap (λ l. past_in (flat l)) (sym c.if-not-take_in.ensures.journal) ∙ line;
+      kept = λ ok. ap (λ l. past_in (flat l)) (sym c.if-not-take_in.ensures.journal) ∙ h.line;
       left = λ ok. left;
     }
 
@@ -260,11 +311,25 @@ returns-in_err-going-clause-share g c =
     let new = c.work-going.new.self.history in
     let es = c.since-entries.result.now in
     let most = work_share c.args.work old.group room.room.lines in
-    let t = taken place.number most c.count-from.result old.past new.past es c.work-going.ensures.adds c.count-from.ensures.count c.since-entries.ensures in
     let q = c.take_in.new.place in
-    let puts : Puts place.number es (flat room.makers.seen.log) (flat place.seen.log) place.mine.items (flat q.seen.log) q.mine.items =
-    subst (λ (was : List ℕ). Puts place.number es (flat room.makers.seen.log) (flat place.seen.log) was (flat q.seen.log) q.mine.items) c.reserve.ensures.items c.if-not-take_in.ensures.puts in
-    (c.take_in.ensures.parts, puts_share place.number es (flat room.makers.seen.log) (flat place.seen.log) place.mine.items (flat q.seen.log) q.mine.items c.args.share.now.amount c.take_in.new.share.amount puts c.if-not-take_in.ensures.units.1)
+    let h = held place.number most c.count-from.result old.past new.past es (flat room.makers.seen.log) (flat place.seen.log) place.mine.items c.reserve.new.self.items (flat q.seen.log) q.mine.items
+    (room.kept c.if-is_shut_to.ensures.0) c.work-going.ensures.adds c.count-from.ensures.count c.since-entries.ensures c.reserve.ensures.items c.if-not-take_in.ensures.puts in
+    (c.take_in.ensures.parts, puts_share place.number es (flat room.makers.seen.log) (flat place.seen.log) place.mine.items (flat q.seen.log) q.mine.items c.args.share.now.amount c.take_in.new.share.amount h.puts c.if-not-take_in.ensures.units.1)
+
+pub returns-in_err-going-clause-journal : goal.returns-in_err-going-clause-journal
+returns-in_err-going-clause-journal g c = IfOk-from_err c.from_residual-in_err-going.result _ c.from_residual-in_err-going.ensures.0
+
+pub returns-in_err-going-clause-open : goal.returns-in_err-going-clause-open
+returns-in_err-going-clause-open g c = IfOk-from_err c.from_residual-in_err-going.result _ c.from_residual-in_err-going.ensures.0
+
+pub returns-in_err-going-clause-shut : goal.returns-in_err-going-clause-shut
+returns-in_err-going-clause-shut g c = λ shut. absurd (open_not_shut c.args.self.now.lost c.args.self.now.room (c.if-is_shut_to.ensures.0, c.if-is_shut_to.ensures.1) shut)
+
+pub returns-in_err-going-clause-spent : goal.returns-in_err-going-clause-spent
+returns-in_err-going-clause-spent g c = λ was is. ((c.work-going.ensures.spent is).0, c.from_residual-in_err-going.ensures.0)
+
+pub returns-in_err-going-clause-lost : goal.returns-in_err-going-clause-lost
+returns-in_err-going-clause-lost g c = λ was is. absurd (cc (was, is))
 
 pub returns-in_err-going-clause-grows : goal.returns-in_err-going-clause-grows
 returns-in_err-going-clause-grows g c =
@@ -274,11 +339,10 @@ returns-in_err-going-clause-grows g c =
     let new = c.work-going.new.self.history in
     let es = c.since-entries.result.now in
     let most = work_share c.args.work old.group room.room.lines in
-    let t = taken place.number most c.count-from.result old.past new.past es c.work-going.ensures.adds c.count-from.ensures.count c.since-entries.ensures in
     let q = c.take_in.new.place in
-    let puts : Puts place.number es (flat room.makers.seen.log) (flat place.seen.log) place.mine.items (flat q.seen.log) q.mine.items =
-    subst (λ (was : List ℕ). Puts place.number es (flat room.makers.seen.log) (flat place.seen.log) was (flat q.seen.log) q.mine.items) c.reserve.ensures.items c.if-not-take_in.ensures.puts in
-    rw (← room.group_is, ← room.lines_are) (puts_grows place.number most es (flat room.makers.seen.log) (flat place.seen.log) place.mine.items (flat q.seen.log) q.mine.items t.few puts)
+    let h = held place.number most c.count-from.result old.past new.past es (flat room.makers.seen.log) (flat place.seen.log) place.mine.items c.reserve.new.self.items (flat q.seen.log) q.mine.items
+    (room.kept c.if-is_shut_to.ensures.0) c.work-going.ensures.adds c.count-from.ensures.count c.since-entries.ensures c.reserve.ensures.items c.if-not-take_in.ensures.puts in
+    rw (← room.group_is, ← room.lines_are) (puts_grows place.number most es (flat room.makers.seen.log) (flat place.seen.log) place.mine.items (flat q.seen.log) q.mine.items h.taken.few h.puts)
 
 pub returns-in_err-going-clause-legal : goal.returns-in_err-going-clause-legal
 returns-in_err-going-clause-legal g c =
@@ -288,12 +352,10 @@ returns-in_err-going-clause-legal g c =
     let new = c.work-going.new.self.history in
     let es = c.since-entries.result.now in
     let most = work_share c.args.work old.group room.room.lines in
-    let t = taken place.number most c.count-from.result old.past new.past es c.work-going.ensures.adds c.count-from.ensures.count c.since-entries.ensures in
     let q = c.take_in.new.place in
-    let puts : Puts place.number es (flat room.makers.seen.log) (flat place.seen.log) place.mine.items (flat q.seen.log) q.mine.items =
-    subst (λ (was : List ℕ). Puts place.number es (flat room.makers.seen.log) (flat place.seen.log) was (flat q.seen.log) q.mine.items) c.reserve.ensures.items c.if-not-take_in.ensures.puts in
-    let line : past_in (flat q.seen.log) ≡ new.past = line_goes place.number most old.past new.past es (flat room.makers.seen.log) (flat q.seen.log) t (room.kept c.if-is_shut_to.ensures.0) puts.1 in
-    λ _. legal_taught (g.J.Naming.group room.group) new.group (flat q.seen.log) new.past line (c.work-going.ensures.room.group ∙ room.group_is) c.is_legal.ensures
+    let h = held place.number most c.count-from.result old.past new.past es (flat room.makers.seen.log) (flat place.seen.log) place.mine.items c.reserve.new.self.items (flat q.seen.log) q.mine.items
+    (room.kept c.if-is_shut_to.ensures.0) c.work-going.ensures.adds c.count-from.ensures.count c.since-entries.ensures c.reserve.ensures.items c.if-not-take_in.ensures.puts in
+    λ _. legal_taught (g.J.Naming.group room.group) new.group (flat q.seen.log) new.past h.line (c.work-going.ensures.room.group ∙ room.group_is) c.is_legal.ensures
 
 pub returns-in_err-going-clause-entered : goal.returns-in_err-going-clause-entered
 returns-in_err-going-clause-entered g c = IfOk-from_err c.from_residual-in_err-going.result _ c.from_residual-in_err-going.ensures.0
@@ -306,12 +368,11 @@ returns-in_err-going-clause-refused g c =
     let new = c.work-going.new.self.history in
     let es = c.since-entries.result.now in
     let most = work_share c.args.work old.group room.room.lines in
-    let t = taken place.number most c.count-from.result old.past new.past es c.work-going.ensures.adds c.count-from.ensures.count c.since-entries.ensures in
     let q = c.take_in.new.place in
-    let puts : Puts place.number es (flat room.makers.seen.log) (flat place.seen.log) place.mine.items (flat q.seen.log) q.mine.items =
-    subst (λ (was : List ℕ). Puts place.number es (flat room.makers.seen.log) (flat place.seen.log) was (flat q.seen.log) q.mine.items) c.reserve.ensures.items c.if-not-take_in.ensures.puts in
+    let h = held place.number most c.count-from.result old.past new.past es (flat room.makers.seen.log) (flat place.seen.log) place.mine.items c.reserve.new.self.items (flat q.seen.log) q.mine.items
+    (room.kept c.if-is_shut_to.ensures.0) c.work-going.ensures.adds c.count-from.ensures.count c.since-entries.ensures c.reserve.ensures.items c.if-not-take_in.ensures.puts in
     let course : List Entry → _ = course_at place.number c.args.work old.group room.room.lines in
-    on_err c.from_residual-in_err-going.result (inr (rw (← room.group_is, ← room.lines_are) (enters_part course place.number most old.past new.past es (flat room.makers.seen.log) (flat place.seen.log) place.mine.items (flat q.seen.log) q.mine.items c.work-going.ensures.part t (room.kept c.if-is_shut_to.ensures.0) puts)))
+    on_err c.from_residual-in_err-going.result (inr (rw (← room.group_is, ← room.lines_are) (enters_part course place.number most old.past new.past es (flat room.makers.seen.log) (flat place.seen.log) place.mine.items (flat q.seen.log) q.mine.items c.work-going.ensures.part h.taken (room.kept c.if-is_shut_to.ensures.0) h.puts)))
 
 pub returns-in_err-going-clause-reader : goal.returns-in_err-going-clause-reader
 returns-in_err-going-clause-reader g c = subst (λ (r : Published). IsPrefix c.args.place.now.reader.proposals r.proposals) (sym c.take_in.ensures.place.2) (prefix_self c.args.place.now.reader.proposals)
@@ -327,18 +388,16 @@ invariant_of-self-2 g c =
     let new = c.work-going.new.self.history in
     let es = c.since-entries.result.now in
     let most = work_share c.args.work old.group room.room.lines in
-    let t = taken place.number most c.count-from.result old.past new.past es c.work-going.ensures.adds c.count-from.ensures.count c.since-entries.ensures in
     let q = c.take_in.new.place in
-    let puts : Puts place.number es (flat room.makers.seen.log) (flat place.seen.log) place.mine.items (flat q.seen.log) q.mine.items =
-    subst (λ (was : List ℕ). Puts place.number es (flat room.makers.seen.log) (flat place.seen.log) was (flat q.seen.log) q.mine.items) c.reserve.ensures.items c.if-not-take_in.ensures.puts in
-    let line : past_in (flat q.seen.log) ≡ new.past = line_goes place.number most old.past new.past es (flat room.makers.seen.log) (flat q.seen.log) t (room.kept c.if-is_shut_to.ensures.0) puts.1 in
-    let left : c.take_in.new.self.units.amount + length new.past ≡ 200000 = omega (arith, c.if-not-take_in.ensures.units.0, room.left c.if-is_shut_to.ensures.0, t.count) in
+    let h = held place.number most c.count-from.result old.past new.past es (flat room.makers.seen.log) (flat place.seen.log) place.mine.items c.reserve.new.self.items (flat q.seen.log) q.mine.items
+    (room.kept c.if-is_shut_to.ensures.0) c.work-going.ensures.adds c.count-from.ensures.count c.since-entries.ensures c.reserve.ensures.items c.if-not-take_in.ensures.puts in
+    let left : c.take_in.new.self.units.amount + length new.past ≡ 200000 = omega (arith, c.if-not-take_in.ensures.units.0, room.left c.if-is_shut_to.ensures.0, h.taken.count) in
     record {
       of_group = c.take_in.ensures.group ∙ room.of_group;
       group_is = c.work-going.ensures.room.group ∙ room.group_is;
       lines_are = c.work-going.ensures.room.lines ∙ room.lines_are;
       board_is = c.work-going.ensures.room.board ∙ room.board_is;
-      kept = λ ok. ap (λ l. past_in (flat l)) (sym c.if-not-take_in.ensures.journal) ∙ line;
+      kept = λ ok. ap (λ l. past_in (flat l)) (sym c.if-not-take_in.ensures.journal) ∙ h.line;
       left = λ ok. left;
     }
 
@@ -376,18 +435,16 @@ invariant_of-self-3 g c =
     let new = c.work-going.new.self.history in
     let es = c.since-entries.result.now in
     let most = work_share c.args.work old.group room.room.lines in
-    let t = taken place.number most c.count-from.result old.past new.past es c.work-going.ensures.adds c.count-from.ensures.count c.since-entries.ensures in
     let q = c.take_in.new.place in
-    let puts : Puts place.number es (flat room.makers.seen.log) (flat place.seen.log) place.mine.items (flat q.seen.log) q.mine.items =
-    subst (λ (was : List ℕ). Puts place.number es (flat room.makers.seen.log) (flat place.seen.log) was (flat q.seen.log) q.mine.items) c.reserve.ensures.items c.if-not-take_in.ensures.puts in
-    let line : past_in (flat q.seen.log) ≡ new.past = line_goes place.number most old.past new.past es (flat room.makers.seen.log) (flat q.seen.log) t (room.kept c.if-is_shut_to.ensures.0) puts.1 in
-    let left : c.take_in.new.self.units.amount + length new.past ≡ 200000 = omega (arith, c.if-not-take_in.ensures.units.0, room.left c.if-is_shut_to.ensures.0, t.count) in
+    let h = held place.number most c.count-from.result old.past new.past es (flat room.makers.seen.log) (flat place.seen.log) place.mine.items c.reserve.new.self.items (flat q.seen.log) q.mine.items
+    (room.kept c.if-is_shut_to.ensures.0) c.work-going.ensures.adds c.count-from.ensures.count c.since-entries.ensures c.reserve.ensures.items c.if-not-take_in.ensures.puts in
+    let left : c.take_in.new.self.units.amount + length new.past ≡ 200000 = omega (arith, c.if-not-take_in.ensures.units.0, room.left c.if-is_shut_to.ensures.0, h.taken.count) in
     record {
       of_group = c.take_in.ensures.group ∙ room.of_group;
       group_is = c.work-going.ensures.room.group ∙ room.group_is;
       lines_are = c.work-going.ensures.room.lines ∙ room.lines_are;
       board_is = c.work-going.ensures.room.board ∙ room.board_is;
-      kept = λ ok. ap (λ l. past_in (flat l)) (sym c.if-not-take_in.ensures.journal) ∙ line;
+      kept = λ ok. ap (λ l. past_in (flat l)) (sym c.if-not-take_in.ensures.journal) ∙ h.line;
       left = λ ok. left;
     }
 
@@ -405,11 +462,37 @@ returns-clause-share g c =
     let new = c.work-going.new.self.history in
     let es = c.since-entries.result.now in
     let most = work_share c.args.work old.group room.room.lines in
-    let t = taken place.number most c.count-from.result old.past new.past es c.work-going.ensures.adds c.count-from.ensures.count c.since-entries.ensures in
     let q = c.take_in.new.place in
-    let puts : Puts place.number es (flat room.makers.seen.log) (flat place.seen.log) place.mine.items (flat q.seen.log) q.mine.items =
-    subst (λ (was : List ℕ). Puts place.number es (flat room.makers.seen.log) (flat place.seen.log) was (flat q.seen.log) q.mine.items) c.reserve.ensures.items c.if-not-take_in.ensures.puts in
-    (c.take_in.ensures.parts, puts_share place.number es (flat room.makers.seen.log) (flat place.seen.log) place.mine.items (flat q.seen.log) q.mine.items c.args.share.now.amount c.take_in.new.share.amount puts c.if-not-take_in.ensures.units.1)
+    let h = held place.number most c.count-from.result old.past new.past es (flat room.makers.seen.log) (flat place.seen.log) place.mine.items c.reserve.new.self.items (flat q.seen.log) q.mine.items
+    (room.kept c.if-is_shut_to.ensures.0) c.work-going.ensures.adds c.count-from.ensures.count c.since-entries.ensures c.reserve.ensures.items c.if-not-take_in.ensures.puts in
+    (c.take_in.ensures.parts, puts_share place.number es (flat room.makers.seen.log) (flat place.seen.log) place.mine.items (flat q.seen.log) q.mine.items c.args.share.now.amount c.take_in.new.share.amount h.puts c.if-not-take_in.ensures.units.1)
+
+pub returns-clause-journal : goal.returns-clause-journal
+returns-clause-journal g c =
+    let room = c.args.self.now in
+    let place = c.args.place.now in
+    let old = room.room.history in
+    let new = c.work-going.new.self.history in
+    let es = c.since-entries.result.now in
+    let most = work_share c.args.work old.group room.room.lines in
+    let q = c.take_in.new.place in
+    let h = held place.number most c.count-from.result old.past new.past es (flat room.makers.seen.log) (flat place.seen.log) place.mine.items c.reserve.new.self.items (flat q.seen.log) q.mine.items
+    (room.kept c.if-is_shut_to.ensures.0) c.work-going.ensures.adds c.count-from.ensures.count c.since-entries.ensures c.reserve.ensures.items c.if-not-take_in.ensures.puts in
+    h.line
+
+pub returns-clause-open : goal.returns-clause-open
+returns-clause-open g c = (c.if-is_shut_to.ensures.0, c.if-is_shut_to.ensures.1)
+
+pub returns-clause-shut : goal.returns-clause-shut
+returns-clause-shut g c = λ shut. absurd (open_not_shut c.args.self.now.lost c.args.self.now.room (c.if-is_shut_to.ensures.0, c.if-is_shut_to.ensures.1) shut)
+
+pub returns-clause-spent : goal.returns-clause-spent
+returns-clause-spent g c =
+    let still_open : c.work-going.new.self.spent ≡ false = ok_open c.work-going.result c.in_ok-going.going c.in_ok-going.was c.work-going.ensures.open in
+    λ was is. absurd (cc (still_open, is))
+
+pub returns-clause-lost : goal.returns-clause-lost
+returns-clause-lost g c = λ was is. absurd (cc (was, is))
 
 pub returns-clause-grows : goal.returns-clause-grows
 returns-clause-grows g c =
@@ -419,11 +502,10 @@ returns-clause-grows g c =
     let new = c.work-going.new.self.history in
     let es = c.since-entries.result.now in
     let most = work_share c.args.work old.group room.room.lines in
-    let t = taken place.number most c.count-from.result old.past new.past es c.work-going.ensures.adds c.count-from.ensures.count c.since-entries.ensures in
     let q = c.take_in.new.place in
-    let puts : Puts place.number es (flat room.makers.seen.log) (flat place.seen.log) place.mine.items (flat q.seen.log) q.mine.items =
-    subst (λ (was : List ℕ). Puts place.number es (flat room.makers.seen.log) (flat place.seen.log) was (flat q.seen.log) q.mine.items) c.reserve.ensures.items c.if-not-take_in.ensures.puts in
-    rw (← room.group_is, ← room.lines_are) (puts_grows place.number most es (flat room.makers.seen.log) (flat place.seen.log) place.mine.items (flat q.seen.log) q.mine.items t.few puts)
+    let h = held place.number most c.count-from.result old.past new.past es (flat room.makers.seen.log) (flat place.seen.log) place.mine.items c.reserve.new.self.items (flat q.seen.log) q.mine.items
+    (room.kept c.if-is_shut_to.ensures.0) c.work-going.ensures.adds c.count-from.ensures.count c.since-entries.ensures c.reserve.ensures.items c.if-not-take_in.ensures.puts in
+    rw (← room.group_is, ← room.lines_are) (puts_grows place.number most es (flat room.makers.seen.log) (flat place.seen.log) place.mine.items (flat q.seen.log) q.mine.items h.taken.few h.puts)
 
 pub returns-clause-legal : goal.returns-clause-legal
 returns-clause-legal g c =
@@ -433,12 +515,10 @@ returns-clause-legal g c =
     let new = c.work-going.new.self.history in
     let es = c.since-entries.result.now in
     let most = work_share c.args.work old.group room.room.lines in
-    let t = taken place.number most c.count-from.result old.past new.past es c.work-going.ensures.adds c.count-from.ensures.count c.since-entries.ensures in
     let q = c.take_in.new.place in
-    let puts : Puts place.number es (flat room.makers.seen.log) (flat place.seen.log) place.mine.items (flat q.seen.log) q.mine.items =
-    subst (λ (was : List ℕ). Puts place.number es (flat room.makers.seen.log) (flat place.seen.log) was (flat q.seen.log) q.mine.items) c.reserve.ensures.items c.if-not-take_in.ensures.puts in
-    let line : past_in (flat q.seen.log) ≡ new.past = line_goes place.number most old.past new.past es (flat room.makers.seen.log) (flat q.seen.log) t (room.kept c.if-is_shut_to.ensures.0) puts.1 in
-    λ _. legal_taught (g.J.Naming.group room.group) new.group (flat q.seen.log) new.past line (c.work-going.ensures.room.group ∙ room.group_is) c.is_legal.ensures
+    let h = held place.number most c.count-from.result old.past new.past es (flat room.makers.seen.log) (flat place.seen.log) place.mine.items c.reserve.new.self.items (flat q.seen.log) q.mine.items
+    (room.kept c.if-is_shut_to.ensures.0) c.work-going.ensures.adds c.count-from.ensures.count c.since-entries.ensures c.reserve.ensures.items c.if-not-take_in.ensures.puts in
+    λ _. legal_taught (g.J.Naming.group room.group) new.group (flat q.seen.log) new.past h.line (c.work-going.ensures.room.group ∙ room.group_is) c.is_legal.ensures
 
 pub returns-clause-entered : goal.returns-clause-entered
 returns-clause-entered g c =
@@ -448,12 +528,11 @@ returns-clause-entered g c =
     let new = c.work-going.new.self.history in
     let es = c.since-entries.result.now in
     let most = work_share c.args.work old.group room.room.lines in
-    let t = taken place.number most c.count-from.result old.past new.past es c.work-going.ensures.adds c.count-from.ensures.count c.since-entries.ensures in
     let q = c.take_in.new.place in
-    let puts : Puts place.number es (flat room.makers.seen.log) (flat place.seen.log) place.mine.items (flat q.seen.log) q.mine.items =
-    subst (λ (was : List ℕ). Puts place.number es (flat room.makers.seen.log) (flat place.seen.log) was (flat q.seen.log) q.mine.items) c.reserve.ensures.items c.if-not-take_in.ensures.puts in
+    let h = held place.number most c.count-from.result old.past new.past es (flat room.makers.seen.log) (flat place.seen.log) place.mine.items c.reserve.new.self.items (flat q.seen.log) q.mine.items
+    (room.kept c.if-is_shut_to.ensures.0) c.work-going.ensures.adds c.count-from.ensures.count c.since-entries.ensures c.reserve.ensures.items c.if-not-take_in.ensures.puts in
     let course : List Entry → _ = course_at place.number c.args.work old.group room.room.lines in
-    rw (← room.group_is, ← room.lines_are) (enters_all c.work-going.result c.in_ok-going.going course place.number most old.past new.past es (flat room.makers.seen.log) (flat place.seen.log) place.mine.items (flat q.seen.log) q.mine.items c.in_ok-going.was c.work-going.ensures.ok c.work-going.ensures.full t (room.kept c.if-is_shut_to.ensures.0) puts)
+    rw (← room.group_is, ← room.lines_are) (enters_all c.work-going.result c.in_ok-going.going course place.number most old.past new.past es (flat room.makers.seen.log) (flat place.seen.log) place.mine.items (flat q.seen.log) q.mine.items c.in_ok-going.was c.work-going.ensures.ok c.work-going.ensures.full h.taken (room.kept c.if-is_shut_to.ensures.0) h.puts)
 
 pub returns-clause-refused : goal.returns-clause-refused
 returns-clause-refused g c = tt
@@ -469,10 +548,8 @@ returns-clause-reads g c =
     let new = c.work-going.new.self.history in
     let es = c.since-entries.result.now in
     let most = work_share c.args.work old.group room.room.lines in
-    let t = taken place.number most c.count-from.result old.past new.past es c.work-going.ensures.adds c.count-from.ensures.count c.since-entries.ensures in
     let q = c.take_in.new.place in
-    let puts : Puts place.number es (flat room.makers.seen.log) (flat place.seen.log) place.mine.items (flat q.seen.log) q.mine.items =
-    subst (λ (was : List ℕ). Puts place.number es (flat room.makers.seen.log) (flat place.seen.log) was (flat q.seen.log) q.mine.items) c.reserve.ensures.items c.if-not-take_in.ensures.puts in
-    let line : past_in (flat q.seen.log) ≡ new.past = line_goes place.number most old.past new.past es (flat room.makers.seen.log) (flat q.seen.log) t (room.kept c.if-is_shut_to.ensures.0) puts.1 in
+    let h = held place.number most c.count-from.result old.past new.past es (flat room.makers.seen.log) (flat place.seen.log) place.mine.items c.reserve.new.self.items (flat q.seen.log) q.mine.items
+    (room.kept c.if-is_shut_to.ensures.0) c.work-going.ensures.adds c.count-from.ensures.count c.since-entries.ensures c.reserve.ensures.items c.if-not-take_in.ensures.puts in
     let still_open : c.work-going.new.self.spent ≡ false = ok_open c.work-going.result c.in_ok-going.going c.in_ok-going.was c.work-going.ensures.open in
-    reads_taught (flat q.seen.log) new.past c.note.result.proposals c.learn-2.new.self.proposals line (c.note.ensures.whole still_open) c.learn-2.ensures.note
+    reads_taught (flat q.seen.log) new.past c.note.result.proposals c.learn-2.new.self.proposals h.line (c.note.ensures.whole still_open) c.learn-2.ensures.note

@@ -1,5 +1,5 @@
 -- What a read of a version leaves with a pass: its place of the room goes on, it is taught what the room accepts, and the log has one line more.
-use Rattle.std.proofs.Common.{ℕ, ◌≡◌, ◌<◌, ◌+◌, ◌++◌, ◌∷◌, length, List, [], map, set, sym, ap, subst, ◌∙◌, arith, Result, Ok, Err}
+use Rattle.std.proofs.Common.{ℕ, ◌≡◌, ◌<◌, ◌++◌, ◌∷◌, length, List, [], map, ap, subst, ◌∙◌, arith, Result, Ok, Err}
 use Rattle.std.specs.Prelude.{OnOk}
 use Rattle.std.proofs.lemmas.List.{length-map}
 use Rattle.st_event.specs.Legal.{IsLegal}
@@ -7,14 +7,13 @@ use Rattle.st_event.specs.declared.act.LogEntry.{LogEntry}
 use Rattle.st_event.specs.declared.act.LogSaw.{LogSaw}
 use Rattle.st_world.specs.Acts.{seen_at}
 use Rattle.st_service.specs.declared.place.Place.{Place}
-use Rattle.st_service.specs.Kept.{Kept}
 use Rattle.st_service.specs.Lines.{flat}
 use Rattle.st_service.specs.Made.{Made, past_in}
 use Rattle.st_service.specs.Passes.{Holder, no_reader}
 use Rattle.st_service.proofs.HoldLaws.{look_grows}
-use Rattle.st_service.proofs.HolderLaws.{holder, kept_set}
+use Rattle.st_service.proofs.HolderLaws.{kept_place}
 use Rattle.st_service.proofs.Mines.{wrote_at, item_is}
-use Rattle.st_service.proofs.PlaceItems.{items_set, units_set}
+use Rattle.st_service.proofs.PlaceItems.{look_stays}
 use Rattle.st_service.proofs.pass.Pass.read_at_in.Goals as goal
 
 ok_any : {A E : Type 0} (r : Result A E) (P : Type 0) → P → OnOk r P
@@ -26,30 +25,20 @@ returns-clause-kept g c =
     let log = λ (q : Place g.row.J.Denot g.J.Naming). flat q.seen.log in
     let mine = λ (q : Place g.row.J.Denot g.J.Naming). q.mine.items in
     let reader = λ (q : Place g.row.J.Denot g.J.Naming). q.reader in
-    let places = c.self.inside.places.items in
-    let n = c.args.room.now.group in
     let old = c.index_mut.result.now in
     let new = c.seen_at.new.place in
-    let fronts : map log places ≡ c.args.self.now.fronts = ap (λ (h : Holder). h.fronts) c.self.view_is in
-    let there : n < length places = omega (arith, c.requires.room.0, ap length fronts, length-map places log) in
     let grows = look_grows 0 (flat old.seen.log) (flat new.seen.log) old.mine.items new.mine.items c.seen_at.ensures.seen (ap (λ v. v.items) c.seen_at.ensures.place.2) in
-    subst (λ (h : Holder). Kept h (holder log mine reader c.self.inside.number (set places n new) c.add.new.self) n 0) c.self.view_is
-    (kept_set log mine reader c.self.inside.number c.self.inside.log c.add.new.self places n 0 old new there c.index_mut.ensures.value grows c.seen_at.ensures.reader)
+    kept_place log mine reader c.self.inside.number c.self.inside.log c.add.new.self c.self.inside.places.items c.args.room.now.group 0 old new c.args.self.now c.self.view_is c.requires.room.0 c.index_mut.ensures.value grows c.seen_at.ensures.reader
 
 pub returns-in_err-saw-clause-kept : goal.returns-in_err-saw-clause-kept
 returns-in_err-saw-clause-kept g c =
     let log = λ (q : Place g.row.J.Denot g.J.Naming). flat q.seen.log in
     let mine = λ (q : Place g.row.J.Denot g.J.Naming). q.mine.items in
     let reader = λ (q : Place g.row.J.Denot g.J.Naming). q.reader in
-    let places = c.self.inside.places.items in
-    let n = c.args.room.now.group in
     let old = c.index_mut.result.now in
     let new = c.seen_at.new.place in
-    let fronts : map log places ≡ c.args.self.now.fronts = ap (λ (h : Holder). h.fronts) c.self.view_is in
-    let there : n < length places = omega (arith, c.requires.room.0, ap length fronts, length-map places log) in
     let grows = look_grows 0 (flat old.seen.log) (flat new.seen.log) old.mine.items new.mine.items c.seen_at.ensures.seen (ap (λ v. v.items) c.seen_at.ensures.place.2) in
-    subst (λ (h : Holder). Kept h (holder log mine reader c.self.inside.number (set places n new) c.self.inside.log) n 0) c.self.view_is
-    (kept_set log mine reader c.self.inside.number c.self.inside.log c.self.inside.log places n 0 old new there c.index_mut.ensures.value grows c.seen_at.ensures.reader)
+    kept_place log mine reader c.self.inside.number c.self.inside.log c.self.inside.log c.self.inside.places.items c.args.room.now.group 0 old new c.args.self.now c.self.view_is c.requires.room.0 c.index_mut.ensures.value grows c.seen_at.ensures.reader
 
 pub returns-clause-reads : goal.returns-clause-reads
 returns-clause-reads g c =
@@ -85,15 +74,10 @@ invariant_of-self g c =
     let n = c.args.room.now.group in
     let old = c.index_mut.result.now in
     let new = c.seen_at.new.place in
-    let at = c.index_mut.ensures.value in
-    let inv = c.self.invariant in
-    let fronts : map log places ≡ c.args.self.now.fronts = ap (λ (h : Holder). h.fronts) c.self.view_is in
-    let there : n < length places = omega (arith, c.requires.room.0, ap length fronts, length-map places log) in
-    let was : good n old = subst (good n) (sym at) (inv.0 n old there) in
     let same = c.seen_at.ensures.place in
-    let here : good n new = (same.0 ∙ was.0, same.1 ∙ was.1, c.seen_at.ensures.legal was.2) in
-    let before = c.self.inside.share.amount in
-    (items_set good places n new there inv.0 here, inv.1, units_set units places n old new before before there at inv.2 (ap (λ v. before + length v.items) (sym same.2)))
+    let there : n < length places = omega (arith, c.requires.room.0, ap (λ (h : Holder). length h.fronts) c.self.view_is, length-map places log) in
+    look_stays good units places n old new c.self.inside.share.parts c.self.inside.share.amount there c.index_mut.ensures.value c.self.invariant
+    (λ (was : good n old). (same.0 ∙ was.0, same.1 ∙ was.1, c.seen_at.ensures.legal was.2)) (ap (λ v. length v.items) same.2)
 
 pub invariant_of-self-2 : goal.invariant_of-self-2
 invariant_of-self-2 g c =
@@ -104,12 +88,7 @@ invariant_of-self-2 g c =
     let n = c.args.room.now.group in
     let old = c.index_mut.result.now in
     let new = c.seen_at.new.place in
-    let at = c.index_mut.ensures.value in
-    let inv = c.self.invariant in
-    let fronts : map log places ≡ c.args.self.now.fronts = ap (λ (h : Holder). h.fronts) c.self.view_is in
-    let there : n < length places = omega (arith, c.requires.room.0, ap length fronts, length-map places log) in
-    let was : good n old = subst (good n) (sym at) (inv.0 n old there) in
     let same = c.seen_at.ensures.place in
-    let here : good n new = (same.0 ∙ was.0, same.1 ∙ was.1, c.seen_at.ensures.legal was.2) in
-    let before = c.self.inside.share.amount in
-    (items_set good places n new there inv.0 here, inv.1, units_set units places n old new before before there at inv.2 (ap (λ v. before + length v.items) (sym same.2)))
+    let there : n < length places = omega (arith, c.requires.room.0, ap (λ (h : Holder). length h.fronts) c.self.view_is, length-map places log) in
+    look_stays good units places n old new c.self.inside.share.parts c.self.inside.share.amount there c.index_mut.ensures.value c.self.invariant
+    (λ (was : good n old). (same.0 ∙ was.0, same.1 ∙ was.1, c.seen_at.ensures.legal was.2)) (ap (λ v. length v.items) same.2)

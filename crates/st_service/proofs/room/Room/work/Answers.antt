@@ -1,19 +1,18 @@
-use Rattle.std.proofs.Common.{◌≡◌, ◌≢◌, true, false, length, ap, sym, subst, ◌∙◌}
+use Rattle.std.proofs.Common.{◌≡◌, ◌≢◌, true, false, length, refl, ap, sym, subst, ◌∙◌}
 use Rattle.st_event.specs.Legal.{IsLegal}
 use Rattle.st_event.specs.Proposals.{accepted, first_rows, pending}
-use Rattle.st_service.specs.Rooms.{Adds, RoomView}
+use Rattle.st_service.specs.Rooms.{RoomView, WasRefused}
 use Rattle.st_service.specs.Shares.{work_share}
 use Rattle.st_service.specs.Works.{WorkFits, decides}
-use Rattle.st_service.proofs.CourseLaws.{work-ran, same_version, next_version, went_adds}
-use Rattle.st_service.proofs.RoomLaws.{work_went, work_full, room_stands, room_publishes, room_spends, next_few, legal_before, rows_fit}
+use Rattle.st_service.proofs.CourseLaws.{work-ran, same_version, next_version}
+use Rattle.st_service.proofs.RoomLaws.{went_from, adds_from, refused_more, work_full, room_stands, room_publishes, room_spends, next_few, legal_before, rows_fit}
 use Rattle.st_service.proofs.room.Room.work.Goals as goal
 
 pub invariant_of-self : goal.invariant_of-self
 invariant_of-self g c =
     let old = c.self.inside.world in
     let new = c.enter-going.new.world in
-    let fits : WorkFits c.args.work old.history.group = subst (λ (r : RoomView). WorkFits c.args.work r.history.group) (sym c.self.view_is) c.requires.fits in
-    let went = work_went c.enter-going.result c.args.number c.args.work old new c.enter-going.ensures.ok c.enter-going.ensures.err fits in
+    let went = went_from c.enter-going.result c.args.number c.args.work old new c.self.inside.held.board c.self.inside.spent c.args.self.now c.self.view_is c.enter-going.ensures.ok c.enter-going.ensures.err c.requires.fits in
     let same : length (accepted new.history.past) ≡ length (accepted old.history.past) = sym c.version_of.ensures ∙ (c.if-version_of-version.true ∙ c.version_of-version.ensures) in
     room_stands old.history new.history c.self.inside.held.board c.self.inside.spent c.enter-going.ensures.plant.group
     (same_version (decides c.args.work) new.history.group c.args.number (work_share c.args.work old.history.group old.lines) old.history.past new.history.past went c.is_legal.ensures.legal same) c.self.invariant
@@ -23,8 +22,7 @@ invariant_of-self-in-Ok g c =
     let old = c.self.inside.world in
     let new = c.enter-going.new.world in
     let board = c.self.inside.held.board in
-    let fits : WorkFits c.args.work old.history.group = subst (λ (r : RoomView). WorkFits c.args.work r.history.group) (sym c.self.view_is) c.requires.fits in
-    let went = work_went c.enter-going.result c.args.number c.args.work old new c.enter-going.ensures.ok c.enter-going.ensures.err fits in
+    let went = went_from c.enter-going.result c.args.number c.args.work old new c.self.inside.held.board c.self.inside.spent c.args.self.now c.self.view_is c.enter-going.ensures.ok c.enter-going.ensures.err c.requires.fits in
     let apart : length (accepted new.history.past) ≢ length (accepted old.history.past) = λ e. c.if-version_of-version.false (c.version_of.ensures ∙ (e ∙ sym c.version_of-version.ensures)) in
     let next = next_version (decides c.args.work) new.history.group c.args.number (work_share c.args.work old.history.group old.lines) old.history.past new.history.past went c.is_legal.ensures.legal apart in
     let rows : c.as_slice.result.now ≡ first_rows (pending old.history.past) = c.as_slice.ensures ∙ (c.in_ok-rows.ensures next.0 ∙ ap (λ (r : RoomView). first_rows (pending r.history.past)) (sym c.self.view_is)) in
@@ -35,8 +33,7 @@ pub invariant_of-self-in-Err : goal.invariant_of-self-in-Err
 invariant_of-self-in-Err g c =
     let old = c.self.inside.world in
     let new = c.enter-going.new.world in
-    let fits : WorkFits c.args.work old.history.group = subst (λ (r : RoomView). WorkFits c.args.work r.history.group) (sym c.self.view_is) c.requires.fits in
-    let went = work_went c.enter-going.result c.args.number c.args.work old new c.enter-going.ensures.ok c.enter-going.ensures.err fits in
+    let went = went_from c.enter-going.result c.args.number c.args.work old new c.self.inside.held.board c.self.inside.spent c.args.self.now c.self.view_is c.enter-going.ensures.ok c.enter-going.ensures.err c.requires.fits in
     let apart : length (accepted new.history.past) ≢ length (accepted old.history.past) = λ e. c.if-version_of-version.false (c.version_of.ensures ∙ (e ∙ sym c.version_of-version.ensures)) in
     let next = next_version (decides c.args.work) new.history.group c.args.number (work_share c.args.work old.history.group old.lines) old.history.past new.history.past went c.is_legal.ensures.legal apart in
     room_spends old.history new.history c.self.inside.held.board c.publish.new.self c.self.inside.spent c.enter-going.ensures.plant.group next.1 c.in-Err.ensures.err c.self.invariant
@@ -45,8 +42,7 @@ pub publish-requires-clause-fits : goal.publish-requires-clause-fits
 publish-requires-clause-fits g c =
     let old = c.self.inside.world in
     let new = c.enter-going.new.world in
-    let fits : WorkFits c.args.work old.history.group = subst (λ (r : RoomView). WorkFits c.args.work r.history.group) (sym c.self.view_is) c.requires.fits in
-    let went = work_went c.enter-going.result c.args.number c.args.work old new c.enter-going.ensures.ok c.enter-going.ensures.err fits in
+    let went = went_from c.enter-going.result c.args.number c.args.work old new c.self.inside.held.board c.self.inside.spent c.args.self.now c.self.view_is c.enter-going.ensures.ok c.enter-going.ensures.err c.requires.fits in
     let apart : length (accepted new.history.past) ≢ length (accepted old.history.past) = λ e. c.if-version_of-version.false (c.version_of.ensures ∙ (e ∙ sym c.version_of-version.ensures)) in
     let next = next_version (decides c.args.work) new.history.group c.args.number (work_share c.args.work old.history.group old.lines) old.history.past new.history.past went c.is_legal.ensures.legal apart in
     let legal : IsLegal new.history.group old.history.past = legal_before new.history.group went.more old.history.past (subst (IsLegal new.history.group) went.all c.is_legal.ensures.legal) in
@@ -57,12 +53,38 @@ pub publish-requires-clause-room : goal.publish-requires-clause-room
 publish-requires-clause-room g c =
     let old = c.self.inside.world in
     let new = c.enter-going.new.world in
-    let fits : WorkFits c.args.work old.history.group = subst (λ (r : RoomView). WorkFits c.args.work r.history.group) (sym c.self.view_is) c.requires.fits in
-    let went = work_went c.enter-going.result c.args.number c.args.work old new c.enter-going.ensures.ok c.enter-going.ensures.err fits in
+    let went = went_from c.enter-going.result c.args.number c.args.work old new c.self.inside.held.board c.self.inside.spent c.args.self.now c.self.view_is c.enter-going.ensures.ok c.enter-going.ensures.err c.requires.fits in
     let apart : length (accepted new.history.past) ≢ length (accepted old.history.past) = λ e. c.if-version_of-version.false (c.version_of.ensures ∙ (e ∙ sym c.version_of-version.ensures)) in
     let next = next_version (decides c.args.work) new.history.group c.args.number (work_share c.args.work old.history.group old.lines) old.history.past new.history.past went c.is_legal.ensures.legal apart in
     let going : c.self.inside.spent ≡ false = ap (λ (r : RoomView). r.spent) c.self.view_is ∙ c.requires.open in
     next_few new.history.group old.history new.history c.self.inside.held.board c.self.inside.spent next.1 c.is_legal.ensures.legal going c.self.invariant
+
+pub returns-in_err-rows-clause-spent : goal.returns-in_err-rows-clause-spent
+returns-in_err-rows-clause-spent g c = λ is. absurd (cc (c.requires.open, is))
+
+pub returns-then-version_of-version-clause-spent : goal.returns-then-version_of-version-clause-spent
+returns-then-version_of-version-clause-spent g c =
+    let going : c.self.inside.spent ≡ false = ap (λ (r : RoomView). r.spent) c.self.view_is ∙ c.requires.open in
+    λ is. absurd (cc (going, is))
+
+pub returns-in-Ok-clause-spent : goal.returns-in-Ok-clause-spent
+returns-in-Ok-clause-spent g c =
+    let going : c.self.inside.spent ≡ false = ap (λ (r : RoomView). r.spent) c.self.view_is ∙ c.requires.open in
+    λ is. absurd (cc (going, is))
+
+pub returns-clause-spent : goal.returns-clause-spent
+returns-clause-spent g c =
+    let old = c.self.inside.world in
+    let new = c.enter-going.new.world in
+    let board = c.self.inside.held.board in
+    let went = went_from c.enter-going.result c.args.number c.args.work old new c.self.inside.held.board c.self.inside.spent c.args.self.now c.self.view_is c.enter-going.ensures.ok c.enter-going.ensures.err c.requires.fits in
+    let apart : length (accepted new.history.past) ≢ length (accepted old.history.past) = λ e. c.if-version_of-version.false (c.version_of.ensures ∙ (e ∙ sym c.version_of-version.ensures)) in
+    let next = next_version (decides c.args.work) new.history.group c.args.number (work_share c.args.work old.history.group old.lines) old.history.past new.history.past went c.is_legal.ensures.legal apart in
+    let going : c.self.inside.spent ≡ false = ap (λ (r : RoomView). r.spent) c.self.view_is ∙ c.requires.open in
+    let after : RoomView = record { history = new.history; lines = new.lines; published = c.publish.new.self; spent = true } in
+    let refused : WasRefused (record { history = old.history; lines = old.lines; published = board; spent = c.self.inside.spent }) after =
+    record { board = c.in-Err.ensures.err; more = refused_more old.history new.history board c.self.inside.spent next.1 going c.self.invariant } in
+    λ is. (subst (λ (r : RoomView). WasRefused r after) c.self.view_is refused, refl)
 
 pub returns-in_err-rows-clause-part : goal.returns-in_err-rows-clause-part
 returns-in_err-rows-clause-part g c =
@@ -88,25 +110,16 @@ pub returns-then-version_of-version-clause-adds : goal.returns-then-version_of-v
 returns-then-version_of-version-clause-adds g c =
     let old = c.self.inside.world in
     let new = c.enter-going.new.world in
-    let fits : WorkFits c.args.work old.history.group = subst (λ (r : RoomView). WorkFits c.args.work r.history.group) (sym c.self.view_is) c.requires.fits in
-    let went = work_went c.enter-going.result c.args.number c.args.work old new c.enter-going.ensures.ok c.enter-going.ensures.err fits in
-    subst (λ (r : RoomView). Adds c.args.number (work_share c.args.work r.history.group r.lines) r.history.past new.history.past) c.self.view_is
-    (went_adds (decides c.args.work) c.args.number (work_share c.args.work old.history.group old.lines) old.history.past new.history.past went)
+    adds_from c.enter-going.result c.args.number c.args.work old new c.self.inside.held.board c.self.inside.spent c.args.self.now c.self.view_is c.enter-going.ensures.ok c.enter-going.ensures.err c.requires.fits
 
 pub returns-in-Ok-clause-adds : goal.returns-in-Ok-clause-adds
 returns-in-Ok-clause-adds g c =
     let old = c.self.inside.world in
     let new = c.enter-going.new.world in
-    let fits : WorkFits c.args.work old.history.group = subst (λ (r : RoomView). WorkFits c.args.work r.history.group) (sym c.self.view_is) c.requires.fits in
-    let went = work_went c.enter-going.result c.args.number c.args.work old new c.enter-going.ensures.ok c.enter-going.ensures.err fits in
-    subst (λ (r : RoomView). Adds c.args.number (work_share c.args.work r.history.group r.lines) r.history.past new.history.past) c.self.view_is
-    (went_adds (decides c.args.work) c.args.number (work_share c.args.work old.history.group old.lines) old.history.past new.history.past went)
+    adds_from c.enter-going.result c.args.number c.args.work old new c.self.inside.held.board c.self.inside.spent c.args.self.now c.self.view_is c.enter-going.ensures.ok c.enter-going.ensures.err c.requires.fits
 
 pub returns-clause-adds : goal.returns-clause-adds
 returns-clause-adds g c =
     let old = c.self.inside.world in
     let new = c.enter-going.new.world in
-    let fits : WorkFits c.args.work old.history.group = subst (λ (r : RoomView). WorkFits c.args.work r.history.group) (sym c.self.view_is) c.requires.fits in
-    let went = work_went c.enter-going.result c.args.number c.args.work old new c.enter-going.ensures.ok c.enter-going.ensures.err fits in
-    subst (λ (r : RoomView). Adds c.args.number (work_share c.args.work r.history.group r.lines) r.history.past new.history.past) c.self.view_is
-    (went_adds (decides c.args.work) c.args.number (work_share c.args.work old.history.group old.lines) old.history.past new.history.past went)
+    adds_from c.enter-going.result c.args.number c.args.work old new c.self.inside.held.board c.self.inside.spent c.args.self.now c.self.view_is c.enter-going.ensures.ok c.enter-going.ensures.err c.requires.fits

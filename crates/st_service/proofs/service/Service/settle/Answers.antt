@@ -1,5 +1,5 @@
 -- Each round goes on where the rounds before it stopped.
-use Rattle.std.proofs.Common.{◌≡◌, ℕ, suc, List, [], ◌*◌, ◌+◌, ◌<◌, ◌≤◌, ◌∷◌, ◌==◌, true, length, inr, refl, ap, sym, subst, ◌∙◌, arith}
+use Rattle.std.proofs.Common.{◌≡◌, ℕ, suc, List, [], ◌*◌, ◌+◌, ◌<◌, ◌≤◌, ◌∷◌, ◌==◌, true, length, inl, inr, refl, ap, sym, subst, ◌∙◌, arith}
 use Rattle.std.proofs.lemmas.Bool.Decides.{nat_tests}
 use Rattle.std.specs.Prelude.{All}
 use Rattle.std.specs.Vec.{vec_len}
@@ -10,20 +10,26 @@ use Rattle.st_wire.specs.declared.line.WireLine.{WireLine}
 use Rattle.st_world.specs.Rounds.{unsettled}
 use Rattle.st_world.specs.declared.world.rounds.Going.{Going}
 use Rattle.st_world.proofs.RunLaws.{unsettled_fit}
-use Rattle.st_board.proofs.Prefixes.{prefix_self, prefix_trans}
+use Rattle.st_board.proofs.Prefixes.{prefix_self}
 use Rattle.st_service.specs.declared.work.Part.TheVariants.{Whole}
 use Rattle.st_service.specs.Kept.{Kept}
 use Rattle.st_service.specs.Made.{Made, past_in}
 use Rattle.st_service.specs.Passes.{front_at, mine_at, Holder}
 use Rattle.st_service.specs.Shares.{round_share, turn_share}
 use Rattle.st_service.specs.Turns.{Turned, Turns, RoundsMade}
-use Rattle.st_service.proofs.ChainLaws.{kept_on, same_mine, rounds_more, rounds_later, share_fits, share_next}
+use Rattle.st_service.proofs.ChainLaws.{kept_on, same_mine, rounds_more, share_fits, share_next}
 use Rattle.st_service.proofs.RoundChain.{few_turns}
 use Rattle.st_service.proofs.service.Service.settle.Goals as goal
 
 -- a round's start, and what was made of the round
-kept_round : (a b o d : Holder) (g k n w m : ℕ) → k < n → m ≤ w → Kept a b g (k * w) → Kept b o g 0 → Kept o d g m → Kept a d g (n * w)
-kept_round a b o d g k n w m lt le p q r = let f = share_fits k n w lt in kept_on a o d g (k * w) m (n * w) (omega (arith, f, le)) (kept_on a b o g (k * w) 0 (k * w) (omega arith) p q) r
+kept_round : (a b o d : Holder) (n k rounds : ℕ) (g : Group) (lines : List WireLine) (es : List Entity) → k < rounds → es ≡ unsettled g (past_in (front_at o.fronts n)) → Kept a b n (k * round_share Whole g lines) → Kept b o n 0
+    → Kept o d n (length es * turn_share Whole lines) → Kept a d n (rounds * round_share Whole g lines)
+kept_round a b o d n k rounds g lines es lt list p q r =
+    let w = round_share Whole g lines in
+    let m = length es * turn_share Whole lines in
+    let f = share_fits k rounds w lt in
+    let few = few_turns Whole g lines es (front_at o.fronts n) list in
+    kept_on a o d n (k * w) m (rounds * w) (omega (arith, f, few)) (kept_on a b o n (k * w) 0 (k * w) (omega arith) p q) r
 
 kept_start : (a b o : Holder) (g k n w : ℕ) → k < n → Kept a b g (k * w) → Kept b o g 0 → Kept a o g (n * w)
 kept_start a b o g k n w lt p q = let f = share_fits k n w lt in kept_on a b o g (k * w) 0 (n * w) (omega (arith, f)) p q
@@ -62,22 +68,23 @@ returns-then-is_empty-clause-settled g c =
     let kept = c.unsettled.ensures.kept.grows in
     let list : c.in_ok-entities.entities.items ≡ unsettled (g.J.Naming.group n) (past_in f) = c.in_ok-entities.ensures.entities in
     let none : unsettled (g.J.Naming.group n) (past_in f) ≡ [] = none_left (unsettled (g.J.Naming.group n) (past_in f)) (ap length (sym list) ∙ (sym c.in_ok-entities.entities.ok.0 ∙ test_none (vec_len c.in_ok-entities.entities) c.if-is_empty.ensures)) in
-    let rounds : RoundsMade (g.J.Naming.group n) (g.J.Naming.lines n) old.number c.loop-round._round (front_at old.fronts n) (mine_at old.mines n) f (mine_at new.mines n) =
-    subst (λ (l : List ℕ). RoundsMade (g.J.Naming.group n) (g.J.Naming.lines n) old.number c.loop-round._round (front_at old.fronts n) (mine_at old.mines n) f l) (sym (same_mine (front_at mid.fronts n) f (mine_at mid.mines n) (mine_at new.mines n) kept))
-    (rounds_later (g.J.Naming.group n) (g.J.Naming.lines n) old.number c.loop-round._round (front_at old.fronts n) (front_at mid.fronts n) f (mine_at old.mines n) (mine_at mid.mines n) inv.rounds kept.0) in
-    (c.loop-round._round, omega (arith, c.loop-round-test.true), rounds, inr (f, prefix_trans (front_at old.fronts n) (front_at mid.fronts n) f inv.kept.grows.0 kept.0, prefix_self f, none))
+    let rounds : RoundsMade (g.J.Naming.group n) (g.J.Naming.lines n) old.number c.loop-round._round (front_at old.fronts n) (mine_at old.mines n) (front_at mid.fronts n) (mine_at new.mines n) =
+    subst (λ (l : List ℕ). RoundsMade (g.J.Naming.group n) (g.J.Naming.lines n) old.number c.loop-round._round (front_at old.fronts n) (mine_at old.mines n) (front_at mid.fronts n) l) (sym (same_mine (front_at mid.fronts n) f (mine_at mid.mines n) (mine_at new.mines n) kept)) inv.rounds in
+    (c.loop-round._round, omega (arith, c.loop-round-test.true), front_at mid.fronts n, rounds, kept.0, inr (f, kept.0, prefix_self f, none))
+
+pub returns-clause-settled : goal.returns-clause-settled
+returns-clause-settled g c =
+    let n = c.args.group in
+    let all : c.loop-round._round ≡ c.args.rounds = omega (arith, c.loop-round-test.false) in
+    (c.loop-round._round, omega (arith, all), front_at c.loop-round.pass.fronts n, c.loop-round.invariant.rounds, prefix_self (front_at c.loop-round.pass.fronts n), inl all)
 
 pub returns-in_err-turns-clause-kept : goal.returns-in_err-turns-clause-kept
-returns-in_err-turns-clause-kept g c =
-    let n = c.args.group in
-    let few = few_turns Whole (g.J.Naming.group n) (g.J.Naming.lines n) c.deref.result.now (front_at c.unsettled.new.pass.fronts n) (c.deref.ensures.value ∙ c.in_ok-entities.ensures.entities) in
-    kept_round c.args.pass.now c.loop-round.pass c.unsettled.new.pass c.turns.new.pass n c.loop-round._round c.args.rounds (round_share Whole (g.J.Naming.group n) (g.J.Naming.lines n)) (length c.deref.result.now * turn_share Whole (g.J.Naming.lines n)) c.loop-round-test.true few c.loop-round.invariant.kept c.unsettled.ensures.kept c.turns.ensures.kept
+returns-in_err-turns-clause-kept g c = kept_round c.args.pass.now c.loop-round.pass c.unsettled.new.pass c.turns.new.pass c.args.group c.loop-round._round c.args.rounds (g.J.Naming.group c.args.group) (g.J.Naming.lines c.args.group) c.deref.result.now c.loop-round-test.true
+    (c.deref.ensures.value ∙ c.in_ok-entities.ensures.entities) c.loop-round.invariant.kept c.unsettled.ensures.kept c.turns.ensures.kept
 
 pub returns-in-Full-clause-kept : goal.returns-in-Full-clause-kept
-returns-in-Full-clause-kept g c =
-    let n = c.args.group in
-    let few = few_turns Whole (g.J.Naming.group n) (g.J.Naming.lines n) c.deref.result.now (front_at c.unsettled.new.pass.fronts n) (c.deref.ensures.value ∙ c.in_ok-entities.ensures.entities) in
-    kept_round c.args.pass.now c.loop-round.pass c.unsettled.new.pass c.turns.new.pass n c.loop-round._round c.args.rounds (round_share Whole (g.J.Naming.group n) (g.J.Naming.lines n)) (length c.deref.result.now * turn_share Whole (g.J.Naming.lines n)) c.loop-round-test.true few c.loop-round.invariant.kept c.unsettled.ensures.kept c.turns.ensures.kept
+returns-in-Full-clause-kept g c = kept_round c.args.pass.now c.loop-round.pass c.unsettled.new.pass c.turns.new.pass c.args.group c.loop-round._round c.args.rounds (g.J.Naming.group c.args.group) (g.J.Naming.lines c.args.group) c.deref.result.now c.loop-round-test.true
+    (c.deref.ensures.value ∙ c.in_ok-entities.ensures.entities) c.loop-round.invariant.kept c.unsettled.ensures.kept c.turns.ensures.kept
 
 pub loop-round-preserved : goal.loop-round-preserved
 loop-round-preserved g c =

@@ -9,23 +9,17 @@ use Rattle.st_service.specs.Passes.{front_at, mine_at}
 use Rattle.st_service.specs.Puts.{Enters}
 use Rattle.st_service.specs.Shares.{turn_share}
 use Rattle.st_service.specs.Works.{part_of}
-use Rattle.st_service.proofs.ChainLaws.{kept_on, share_fits, share_next, turns_take}
+use Rattle.st_service.proofs.ChainLaws.{kept_on, kept_turn, share_next, turns_take}
 use Rattle.st_service.proofs.service.Service.turns.Goals as goal
 
 pub work-requires-clause-room : goal.work-requires-clause-room
 work-requires-clause-room g c = (c.requires.room.0, c.loop-entity.invariant.kept.rooms.0 ∙ c.requires.room.1)
 
 pub returns-in_err-work-clause-kept : goal.returns-in_err-work-clause-kept
-returns-in_err-work-clause-kept g c =
-    let w = turn_share c.args.part (g.J.Naming.lines c.args.group) in
-    let f = share_fits c.loop-entity.entity-index (length c.args.entities.now) w c.loop-entity-test.true in
-    kept_on c.args.pass.now c.loop-entity.pass c.work.new.pass c.args.group (c.loop-entity.entity-index * w) w (length c.args.entities.now * w) f c.loop-entity.invariant.kept c.work.ensures.kept
+returns-in_err-work-clause-kept g c = kept_turn c.args.pass.now c.loop-entity.pass c.work.new.pass c.args.group c.loop-entity.entity-index (length c.args.entities.now) (turn_share c.args.part (g.J.Naming.lines c.args.group)) c.loop-entity-test.true c.loop-entity.invariant.kept c.work.ensures.kept
 
 pub returns-in-Full-clause-kept : goal.returns-in-Full-clause-kept
-returns-in-Full-clause-kept g c =
-    let w = turn_share c.args.part (g.J.Naming.lines c.args.group) in
-    let f = share_fits c.loop-entity.entity-index (length c.args.entities.now) w c.loop-entity-test.true in
-    kept_on c.args.pass.now c.loop-entity.pass c.work.new.pass c.args.group (c.loop-entity.entity-index * w) w (length c.args.entities.now * w) f c.loop-entity.invariant.kept c.work.ensures.kept
+returns-in-Full-clause-kept g c = kept_turn c.args.pass.now c.loop-entity.pass c.work.new.pass c.args.group c.loop-entity.entity-index (length c.args.entities.now) (turn_share c.args.part (g.J.Naming.lines c.args.group)) c.loop-entity-test.true c.loop-entity.invariant.kept c.work.ensures.kept
 
 pub loop-entity-preserved : goal.loop-entity-preserved
 loop-entity-preserved g c =
