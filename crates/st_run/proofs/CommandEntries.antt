@@ -197,7 +197,8 @@ enters_mid course number mid before was after now e = (_, sym e.puts.1)
 pub command_adds : (act : Act) (g : Group) (lines : List WireLine) (number : ℕ) (before : List Made) (was : List ℕ) (after : List Made) (now : List ℕ) → IsLegal g (past_in after) → ActEnters act g lines number before was after now → CommandAdds number act before was after now
 command_adds (Propose n rows) g lines number before was after now legal e = propose_entries number n rows g e.0 before was after now (legal_prefix g e.0 after (enters_mid _ number e.0 before was after now e.1) legal) e.1
 command_adds (Await n) g lines number before was after now legal e = none_added number (Await n) before was after now refl (awaits_ask g before was after now (awaits_checked g number (latest_in before was) before was after now e))
-command_adds (Settle n rounds) g lines number before was after now legal e = none_added number (Settle n rounds) before was after now refl (rounds_only NoRequest g lines number e.0 before was after now no_turns e.2)
+command_adds (Settle n rounds) g lines number before was after now legal e = none_added number (Settle n rounds) before was after now refl (each_then (λ e. NoRequest e.event) before was e.2 now after now
+    (rounds_only NoRequest g lines number e.0 before was e.2 now no_turns e.3) (each_none (λ e. NoRequest e.event) e.2 now after now e.4 refl))
 command_adds (Lock n entity prio) g lines number before was after now legal e = one_entry number (Lock n entity prio) g (lock_event (record { 0 = number }) entity prio) e.0 before was after now refl refl refl e.1
 command_adds (Unlock n entity prio) g lines number before was after now legal e = one_entry number (Unlock n entity prio) g (unlock_event (record { 0 = number }) entity prio) e.0 before was after now refl refl refl e.1
 command_adds (Read n entity var) g lines number before was after now legal e = none_added number (Read n entity var) before was after now refl (each_none NoneAsks before was after now (subst (IsPrefix before) (sym e.0) ([], append-nil before)) e.1)

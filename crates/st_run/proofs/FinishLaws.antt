@@ -47,3 +47,10 @@ first_fits P xs ys new x y a b r items same first old here = IfSome_then r first
     (λ (e : a ≡ Some m). some_kept P xs ys new x y m items same (subst (λ (o : Option ℕ). IfSome o (SomeFits P xs ys)) e old))
     (λ (e : b ≡ Some m). some_new P xs ys new x y m items same (subst (λ (o : Option ℕ). IfSome o (λ k. P k x y)) e here))
     which)
+
+-- of a pass that went on, and of the command behind
+pub full_of_two : (P Q : ℕ → Type 0) (a b r : Option ℕ) → IfSome r (λ m. (a ≡ Some m) ⊎ (b ≡ Some m)) → ((m : ℕ) → P m → Q m) → IfSome a P → IfSome b Q → IfSome r Q
+full_of_two P Q a b r first goes old here = IfSome_then r first (λ m which. ⊎_elim
+    (λ (e : a ≡ Some m). goes m (subst (λ (o : Option ℕ). IfSome o P) e old))
+    (λ (e : b ≡ Some m). subst (λ (o : Option ℕ). IfSome o Q) e here)
+    which)

@@ -1,6 +1,11 @@
+pub mod WorkedRequests
+pub mod SmallCases
 pub mod WorkedScripts
+pub mod WorkedTurns
+pub mod WorkedOut
 pub mod DidLaws
 pub mod OwnEntries
+pub mod OwnRequests
 pub mod RunEntries
 pub mod ProposalLaws
 pub mod CommandEntries

@@ -24,10 +24,11 @@ use Rattle.st_grammar.specs.Sound.{IsSoundDoc}
 use Rattle.st_serial.specs.Most.{IsWithinMost, most, most_in, script_most}
 use Rattle.st_serial.specs.Kept.{AreKept, IsKept, groups_of}
 use Rattle.st_run.specs.Played.{AreClosed, IsPlayed, WasFull, acts_of}
-use Rattle.st_run.specs.Running.{AreStatesOf, IsFullIn, IsRunOf}
+use Rattle.st_run.specs.Running.{AreStatesOf, HasOwnRequests, HasSmallNumbers, IsByOneOf, IsFullIn, IsRunOf}
 use Rattle.st_run.proofs.CarriedScripts.{journals_numbered, logs_numbered, scripts_are_carried}
 use Rattle.st_run.proofs.MostMade.{made_within}
 use Rattle.st_run.proofs.OpenedGroups.{group_at, opened_get}
+use Rattle.st_run.proofs.OwnRequests.{requests_own}
 
 -- a journal with its makers is legal, and its promises are kept at each moment
 
@@ -131,11 +132,23 @@ within_most doc groups lines full journals logs passes sound states played = λ 
     ap (most_in doc.apps k) (opened_get groups lines doc sound states k within) in
     subst (λ (n : ℕ). length entries ≤ most doc n) (sym (closed.numbered k j within)) (omega (arith, count, made, few, all))
 
+-- each request there is by an application of the document, as there is a pass for each
+
+own_requests : (doc : Doc) (groups : ℕ → Group) (lines : ℕ → List WireLine) (full : Option ℕ) (journals : List Journal) (logs : List Log) (passes : List Holder)
+    → IsPlayed groups lines (length doc.groups) (acts_of doc.apps) full journals logs passes → All (HasOwnRequests doc) journals
+own_requests doc groups lines full journals logs passes played = λ k j low.
+    let closed = played.closed in
+    let journal_count = closed.journal_count in
+    let whole = closed.whole k j (omega (arith, journal_count, low)) in
+    let entries = (slice_index_or journals k j).entries in
+    let count : length passes ≡ length doc.apps = played.count ∙ length-map doc.apps (λ (s : Script). s.acts) in
+    subst (λ (n : ℕ). All (λ (entry : Entry). IsByOneOf n entry.event) entries) count (requests_own (groups k) passes k entries whole.0 whole.1)
+
 -- and so the whole of it
 pub played_is_run : (doc : Doc) (groups : ℕ → Group) (lines : ℕ → List WireLine) (full : Option ℕ) (journals : List Journal) (logs : List Log) (ends : List Holder)
     → IsSoundDoc doc → AreStatesOf groups lines doc
-    → IsPlayed groups lines (length doc.groups) (acts_of doc.apps) full journals logs ends → IsRunOf doc full journals logs
-played_is_run doc groups lines full journals logs ends sound states played = record {
+    → IsPlayed groups lines (length doc.groups) (acts_of doc.apps) full journals logs ends → All HasSmallNumbers journals → IsRunOf doc full journals logs
+played_is_run doc groups lines full journals logs ends sound states played small = record {
   groups = journals_numbered groups (length doc.groups) ends journals logs played.closed;
   apps = logs_numbered groups (length doc.groups) ends journals logs (length doc.apps) played.closed (played.count ∙ length-map doc.apps (λ (s : Script). s.acts));
   carried = λ none. scripts_are_carried doc groups lines ends journals logs sound states played.count played.closed (played.run none);
@@ -143,4 +156,6 @@ played_is_run doc groups lines full journals logs ends sound states played = rec
       played.full_is;
   kept = journals_kept doc groups lines journals logs ends sound states played.closed;
   within = within_most doc groups lines full journals logs ends sound states played;
+  ours = own_requests doc groups lines full journals logs ends played;
+  small = small;
 }

@@ -28,7 +28,7 @@ pub record WasFull (passes : List Holder) (n : ℕ) : Type 0 where
   pub is : slice_get passes number ≡ Some pass
   pub full : HasFull pass n
 
--- the pass of this number was fresh, and has gone as far as it could through a script, and then through an await on each group
+-- the pass of this number, of so many rooms, has made no more entries than a script and the awaits behind it can
 pub record IsFinished (groups : ℕ → Group) (lines : ℕ → List WireLine) (rooms number : ℕ) (acts : List Act) (p : Holder) : Type 0 where
   pub number_is : p.number ≡ number
   pub rooms_are : (length p.fronts ≡ rooms) × (length p.mines ≡ rooms)

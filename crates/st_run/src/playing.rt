@@ -1,19 +1,19 @@
 //! The scripts of a document on a service: each application is a job, and behind the jobs each pass awaits on each group.
 
-ghost use Rattle.std.specs.Prelude.{ℕ, ◌≡◌, ◌≤◌, ◌<◌, List, [], ◌++◌, ◌⊎◌, All, Some, None, length, IfOk, IfSome, slice_index_or};
+ghost use Rattle.std.specs.Prelude.{ℕ, ◌≡◌, ◌≤◌, ◌<◌, List, [], ◌∷◌, ◌++◌, ◌⊎◌, All, Some, None, length, IfOk, IfSome, slice_index_or};
 ghost use Rattle.st_service.specs.Acts.{CanDo};
 ghost use Rattle.st_service.specs.Opened.{IsFresh};
 ghost use Rattle.st_service.specs.Passes.{Holder};
 ghost use Rattle.st_crew.specs.Ends.{EndsOf};
-ghost use Rattle.st_run.specs.Jobs.{Did, HasDone, awaits_on};
+ghost use Rattle.st_run.specs.Jobs.{Did, Does, HasDone, awaits_on};
 ghost use Rattle.st_run.specs.Played.{AllCanBeDone, AreClosed, IsFinished, IsPlayed, WasFull, acts_of};
 ghost use Rattle.st_run.specs.Went.{CameTo, HasFull, Went};
 
-use crate::application::{Application, Came, Left, do_all};
+use crate::application::{Application, Came, Left};
 use st_crew::{Gate, NoGate, crew_run};
 use st_event::{Act, Journal, Log};
 use st_grammar::Script;
-use st_service::{Closed, Naming, Pass, Service};
+use st_service::{Acted, Closed, Naming, Pass, Service};
 use std::alloc::{AllocError, Global};
 use std::sync::Wait;
 use std::sync::ledger::Ledger;
@@ -91,6 +91,52 @@ fn full_of(came: Came) -> Result<Option<u32>, AllocError>
     }
 }
 
+/// Does a command of a pass, and gives the group at whose full journal it stopped, if it did.
+fn full_at<J: Naming, L: Ledger, H: Wait + Drop, R: Wait>(
+    rt: &R,
+    alloc: Global,
+    service: &Service<J, L, H>,
+    pass: &mut Pass<J, L>,
+    act: &Act,
+) -> Result<Option<u32>, AllocError>
+    requires app { pass.old.number < service.now.apps }
+    requires rooms { length pass.old.fronts ≡ length service.now.rooms.items }
+    requires act { CanDo J.group (length service.now.rooms.items) act.now }
+    ensures went { Went J.group J.lines (act.now ∷ []) pass.old pass.new }
+    ensures none { IfOk result (λ full. full ≡ None → Does J.group J.lines act.now pass.old pass.new) }
+    ensures one { IfOk result (λ full. IfSome full (HasFull pass.new)) }
+{
+    match service.step_app(rt, alloc, pass, act, &NoGate) {
+        Ok(Acted::Done) => Ok(None),
+        Ok(Acted::JournalFull { group }) => Ok(Some(group)),
+        Err(AllocError) => Err(AllocError),
+    }
+}
+
+/// Lets a pass await on each group, and gives the first at whose full journal it stopped, if there was one. Behind a full journal it goes
+/// on with the next group.
+fn await_all<J: Naming, L: Ledger, H: Wait + Drop, R: Wait>(
+    rt: &R,
+    alloc: Global,
+    service: &Service<J, L, H>,
+    pass: &mut Pass<J, L>,
+    awaits: &[Act],
+) -> Result<Option<u32>, AllocError>
+    requires app { pass.old.number < service.now.apps }
+    requires rooms { length pass.old.fronts ≡ length service.now.rooms.items }
+    requires awaits { All (CanDo J.group (length service.now.rooms.items)) awaits.now }
+    ensures went { IfOk result (λ full. Went J.group J.lines awaits.now pass.old pass.new) }
+    ensures none { IfOk result (λ full. full ≡ None → Did J.group J.lines awaits.now pass.old pass.new) }
+    ensures one { IfOk result (λ full. IfSome full (HasFull pass.new)) }
+{
+    let mut full = None;
+    for act in awaits {
+        let here = full_at(rt, alloc, service, pass, act)?;
+        full = first_of(full, here);
+    }
+    Ok(full)
+}
+
 /// Lets what is left of an application await on each group: gives its pass, and the first group at whose full journal it stopped, if it
 /// did.
 fn finish<J: Naming, L: Ledger, H: Wait + Drop, R: Wait>(
@@ -108,8 +154,8 @@ fn finish<J: Naming, L: Ledger, H: Wait + Drop, R: Wait>(
     ensures one { IfOk result (λ end. IfSome end.1 (λ n. (left.came ≡ Came.ToFull n) ⊎ HasFull end.0 n)) }
 {
     let Left { mut pass, came } = left;
-    let behind = do_all(rt, alloc, service, &mut pass, awaits, &NoGate);
-    match (full_of(came), full_of(behind)) {
+    let behind = await_all(rt, alloc, service, &mut pass, awaits);
+    match (full_of(came), behind) {
         (Ok(first), Ok(second)) => Ok((pass, first_of(first, second))),
         _ => Err(AllocError),
     }

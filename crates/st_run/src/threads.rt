@@ -1,14 +1,15 @@
 //! The scripts of a document run by threads: a service over the groups' worlds, and a job for each application.
 
-ghost use Rattle.std.specs.Prelude.{◌≡◌, ◌+◌, ◌≤◌, List, length, IfOk};
+ghost use Rattle.std.specs.Prelude.{◌≡◌, ◌+◌, ◌≤◌, List, length, IfOk, All};
 ghost use Rattle.st_grammar.specs.Sound.{IsSoundDoc};
 ghost use Rattle.st_service.specs.Opened.{AreLinesOf, AreWorldsOf};
 ghost use Rattle.st_service.specs.Passes.{Holder};
 ghost use Rattle.st_run.specs.Played.{AllCanBeDone, IsPlayed, acts_of};
-ghost use Rattle.st_run.specs.Running.{IsRunOf};
+ghost use Rattle.st_run.specs.Running.{HasSmallNumber, HasSmallNumbers, IsRunOf};
 
 use crate::playing::{Played, play};
 use st_crew::Gate;
+use st_event::{Entry, Event, Journal};
 use st_grammar::{Doc, Script};
 use st_serial::open_worlds;
 use st_service::{Naming, RoomLines, Service};
@@ -59,9 +60,46 @@ fn run_named<
     play(rt, alloc, service, rooms, passes, apps, gate)
 }
 
+/// The number of a message that an event names has 32 bits, as its type says. It does nothing.
+fn is_numbered(event: &Event)
+    ensures { HasSmallNumber event.now }
+{
+    match event {
+        Event::Deliver { command: number } | Event::Hear { report: number } => {
+            let _known: u32 = *number;
+        }
+        Event::Submit { .. }
+        | Event::Check
+        | Event::Lock { .. }
+        | Event::Unlock { .. }
+        | Event::Send { .. }
+        | Event::Finish { .. }
+        | Event::Report { .. }
+        | Event::Fail { .. } => {}
+    }
+}
+
+/// So it is with each event of some entries.
+fn are_numbered(entries: &[Entry])
+    ensures { All (λ entry. HasSmallNumber entry.event) entries.now }
+{
+    for entry in entries {
+        is_numbered(&entry.event);
+    }
+}
+
+/// And of some journals.
+fn all_numbered(journals: &[Journal])
+    ensures { All HasSmallNumbers journals.now }
+{
+    for journal in journals {
+        are_numbered(journal.entries.as_slice());
+    }
+}
+
 /// Runs the scripts of a document by threads, one for each application, over a service of its groups, and calls the gate behind each
 /// read. The order in which the commands of different applications come is free. Where no event met a full journal the scripts were
-/// carried out. Else the first group is named at whose full journal an application stopped; the others went on. Journals and logs stand
+/// carried out. Else a group is named whose journal is full: the lowest at which an application stopped; the others went on. Journals and logs stand
 /// in the order of the document. It waits for its threads. At `Err`, which is want of memory alone, nothing is handed back.
 pub fn run_scripts<R: Threads + Wait + Sync, G: Gate + Sync>(
     rt: &R,
@@ -76,5 +114,8 @@ pub fn run_scripts<R: Threads + Wait + Sync, G: Gate + Sync>(
     let lines = lines_of(alloc, worlds.len())?;
     let apps = doc.apps.as_slice();
     let blank = Blank::new(apps.len() as u64 + worlds.len() as u64 + 1);
-    run_named::<Brand, Brand, R, G>(rt, alloc, worlds, lines, blank, apps, gate)
+    let played = run_named::<Brand, Brand, R, G>(rt, alloc, worlds, lines, blank, apps, gate)?;
+    // Only the type of an event tells this, and who prints the journals has to know it.
+    all_numbered(played.journals.as_slice());
+    Ok(played)
 }

@@ -1,11 +1,11 @@
 -- The worlds of a sound document are at the opening of its groups, and each command of its scripts can be done on them.
 use Rattle.std.proofs.Common.{◌≡◌, ◌≤◌, List, All, length, refl, sym, ap, subst, ◌∙◌, arith}
-use Rattle.std.proofs.lemmas.Result.{IfOk-weaker}
 use Rattle.st_net.specs.declared.parts.Parts.{Parts}
 use Rattle.st_grammar.specs.declared.doc.Script.{Script}
 use Rattle.st_grammar.specs.Sound.{IsSoundGroup}
 use Rattle.st_serial.specs.Serial.{all_opened, states_of}
-use Rattle.st_run.specs.declared.playing.Played.{Played}
+use Rattle.st_event.specs.declared.journal.Journal.{Journal}
+use Rattle.st_run.specs.Running.{HasSmallNumbers}
 use Rattle.st_run.specs.Played.{AllCanBeDone}
 use Rattle.st_run.proofs.OpenedWorlds.{can_be_done, group_named, opened_run, opened_worlds, own_lines, worlds_many}
 use Rattle.st_run.proofs.threads.run_scripts.Goals as goal
@@ -59,4 +59,6 @@ returns g c =
     let ws = c.in_ok-worlds.worlds.items in
     let apps = c.as_slice-apps.result.now in
     let are : states_of ws ≡ all_opened doc.groups doc.wires = c.in_ok-worlds.ensures ∙ ap (λ gs. all_opened gs c.as_slice-2.result.now) c.as_slice.ensures ∙ ap (all_opened doc.groups) c.as_slice-2.ensures in
-    IfOk-weaker _ _ _ (λ (played : Played). opened_run doc ws apps played.full played.journals.items played.logs.items c.requires are c.as_slice-apps.ensures) c.run_named.ensures
+    let played = c.in_ok-played.played in
+    let small : All HasSmallNumbers played.journals.items = subst (λ (js : List Journal). All HasSmallNumbers js) c.as_slice-3.ensures.value c.all_numbered.ensures in
+    opened_run doc ws apps played.full played.journals.items played.logs.items c.requires are c.as_slice-apps.ensures c.in_ok-played.ensures small
