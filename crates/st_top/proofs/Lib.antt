@@ -5,5 +5,6 @@ pub mod Endings
 pub mod PlayedRuns
 pub mod Replays
 pub mod PrintedRuns
+pub mod ThreadRuns
 pub mod HandedBack
 pub mod Histories

@@ -1,6 +1,6 @@
 -- Journals that threads have made: they are gone through again to show what came of them, and a run ends as it says.
 use Rattle.std.proofs.Common.{◌≡◌, ℕ, zero, suc, ◌+◌, ◌-◌, ◌<◌, ◌≤◌, List, [], ◌∷◌, length, map, Option, Some, None, refl, ap, sym, ◌∙◌, subst, inl, arith}
-use Rattle.std.specs.Prelude.{All, ◌⊎◌, reverse, slice_get, slice_index_or, IfSome, Result, Ok as read_ok}
+use Rattle.std.specs.Prelude.{All, ◌⊎◌, reverse, slice_get, slice_index_or}
 use Rattle.std.proofs.lemmas.List.{get_or-reverse, length-map, length-reverse, reverse-reverse}
 use Rattle.std.proofs.lemmas.Option.{get_or_from_slice_get}
 use Rattle.std.proofs.Math.ListN.{get_or-map}
@@ -11,7 +11,6 @@ use Rattle.st_event.specs.declared.journal.Journal.{Journal}
 use Rattle.st_event.specs.declared.journal.TheConstants.{MAX_ENTRIES}
 use Rattle.st_event.specs.Legal.{Fits, IsLegal}
 use Rattle.st_grammar.specs.declared.doc.Doc.{Doc}
-use Rattle.st_token.specs.declared.fault.LineFault.{LineFault}
 use Rattle.st_words.specs.declared.job.Form.{Form}
 use Rattle.st_journal.specs.JournalReading.{AreJournalsOf, IsJournalOf}
 use Rattle.st_serial.specs.Kept.{AreKept, IsKept, groups_of}
@@ -21,7 +20,7 @@ use Rattle.st_run.specs.CarriedOut.{AreNumbers}
 use Rattle.st_run.specs.Running.{IsFullIn, IsRunOf}
 use Rattle.st_top.specs.declared.answer.Status.{Status}
 use Rattle.st_top.specs.declared.answer.Status.TheVariants.{Ok, JournalFull, OutOfMemory}
-use Rattle.st_top.specs.Answer.{AreOfThreads, EndsOnRunDoc, Results}
+use Rattle.st_top.specs.Answer.{EndsOnRunDoc, Results}
 use Rattle.st_top.specs.Ending.{IsToldOfRun}
 use Rattle.st_top.specs.Replaying.{AreLegal, HasFewEntries}
 
@@ -87,15 +86,14 @@ journals_each doc full journals logs run =
 abbrev results_of : Played → Results
 results_of played = record { journals = played.journals.items; logs = played.logs.items }
 
-threads_of : (doc : Doc) (played : Played) → IsRunOf doc played.full played.journals.items played.logs.items → AreOfThreads doc (results_of played)
-threads_of doc played run = record { groups = run.groups; apps = run.apps; kept = run.kept; within = run.within }
-
 told_ends : (form : Form) (doc : Doc) (played : Played) (text : List ℕ) (status : Status) → IsRunOf doc played.full played.journals.items played.logs.items → IsToldOfRun form doc played status text
     → EndsOnRunDoc form doc (results_of played) text status
-told_ends form doc played text Ok run told = record { threads = threads_of doc played run; carried = run.carried told.0; report = told.1 }
+told_ends form doc played text Ok run told = record {
+  run = subst (λ (full : Option ℕ). IsRunOf doc full played.journals.items played.logs.items) told.0 run;
+  report = told.1;
+}
 told_ends form doc played text (JournalFull group) run told = record {
-  threads = threads_of doc played run;
-  full = subst (λ (o : Option ℕ). IfSome o (IsFullIn played.journals.items)) told.0 run.full_is;
+  run = subst (λ (full : Option ℕ). IsRunOf doc full played.journals.items played.logs.items) told.0 run;
   told = told.1;
 }
 told_ends form doc played text _ run told = absurd told
@@ -108,17 +106,18 @@ run_ends form doc played results text status run told are = subst (λ (r : Resul
 abbrev no_journal : Journal
 no_journal = record { group = 0; entries = [] }
 
-none_full : (doc : Doc) (results : Results) (group : ℕ) → HasRoom doc → AreOfThreads doc results → IsFullIn results.journals group → ⊥
-none_full doc results group room threads full =
+none_full : (doc : Doc) (results : Results) (group : ℕ) → HasRoom doc → IsRunOf doc (Some group) results.journals results.logs → ⊥
+none_full doc results group room run =
     let number : Journal → ℕ = λ j. j.group in
     let journal = slice_index_or results.journals group no_journal in
-    let low : group < length doc.groups = omega (arith, threads.groups.0, length-map results.journals number, full.0) in
-    let few = threads.within group no_journal full.0 in
+    let full : IsFullIn results.journals group = run.full_is in
+    let low : group < length doc.groups = omega (arith, run.groups.0, length-map results.journals number, full.0) in
+    let few = run.within group no_journal full.0 in
     let own : length journal.entries ≤ most doc group =
-    subst (λ (n : ℕ). length journal.entries ≤ most doc n) (numbered_at results.journals (length doc.groups) group no_journal threads.groups low) few in
+    subst (λ (n : ℕ). length journal.entries ≤ most doc n) (numbered_at results.journals (length doc.groups) group no_journal run.groups low) few in
     omega (arith, own, full.1 no_journal, room group low)
 
 pub run_well : (form : Form) (doc : Doc) (results : Results) (text : List ℕ) (status : Status) → HasRoom doc → EndsOnRunDoc form doc results text status → (status ≡ Ok) ⊎ (status ≡ OutOfMemory)
 run_well form doc results text Ok room is = inl refl
-run_well form doc results text (JournalFull group) room is = absurd (none_full doc results group room is.threads is.full)
+run_well form doc results text (JournalFull group) room is = absurd (none_full doc results group room is.run)
 run_well form doc results text _ room is = absurd is

@@ -1,5 +1,5 @@
 -- How a call ends, and what that says of what was read, of the journals, and of what was written.
-use Rattle.std.specs.Prelude.{◌≡◌, ℕ, ◌+◌, ◌≤◌, List, [], ◌∷◌, All, length, map, Option, Some, None, Result, Ok as read_ok, Err, codes, decimal, slice_get, ◌⊎◌}
+use Rattle.std.specs.Prelude.{◌≡◌, ℕ, ◌+◌, ◌≤◌, List, [], ◌∷◌, length, Option, Some, None, Result, Ok as read_ok, Err, codes, decimal, slice_get, ◌⊎◌}
 use Rattle.std.specs.Io.KnownBytes.{Consumes, Appends, Keeps, IsAtEnd}
 use Rattle.st_io.specs.declared.reading.TheConstants.{MAX_BYTES}
 use Rattle.st_io.specs.Outside.{Rose}
@@ -28,9 +28,7 @@ use Rattle.st_top.specs.Ways.{Way, nothing, reads, makes, way_of, tree_doc}
 use Rattle.st_serial.specs.Serial.{serial_run, serial_logs, serial_full}
 use Rattle.st_top.specs.Output.{histories_of, shown, check_text}
 use Rattle.st_serial.specs.Kept.{AreKept, groups_of}
-use Rattle.st_serial.specs.Most.{IsWithinMost}
-use Rattle.st_run.specs.CarriedOut.{AreNumbers, CarriedOut}
-use Rattle.st_run.specs.Running.{IsFullIn}
+use Rattle.st_run.specs.Running.{IsRunOf}
 use Rattle.st_top.specs.Replaying.{Replay, replay_of, IsFirstIllegal}
 
 abbrev pub kind_word : FaultKind → List ℕ
@@ -153,30 +151,20 @@ EndsOnReplay form (read_ok replay) results text _ = ⊥
 EndsOnReplay form (Err fault) results text (BadInput n kind) = (fault ≡ record { line = n; kind = kind }) × (results ≡ no_results) × (text ≡ fault_line (BadInput n kind))
 EndsOnReplay form (Err fault) results text _ = ⊥
 
--- threads ran the scripts of a document: there is a journal for each group and a log for each application, in their order; each journal was kept, and has
--- no more entries than the scripts can make
-pub record AreOfThreads (doc : Doc) (results : Results) : Type 0 where
-  pub groups : AreNumbers (map (λ j. j.group) results.journals) (length doc.groups)
-  pub apps : AreNumbers (map (λ l. l.app.0) results.logs) (length doc.apps)
-  pub kept : AreKept (groups_of doc) results.journals
-  pub within : All (IsWithinMost doc) results.journals
-
--- they carried the scripts out, and this is shown of what came of them
+-- threads carried the scripts of a document out, and this is shown of what came of them
 pub record RunsThreads (form : Form) (doc : Doc) (results : Results) (text : List ℕ) : Type 0 where
-  pub threads : AreOfThreads doc results
-  pub carried : CarriedOut doc results.journals results.logs
+  pub run : IsRunOf doc None results.journals results.logs
   pub report : text ≡ shown (In form) doc (histories_of (groups_of doc) results.journals) results.logs
 
--- a thread stopped at the journal of this group, which is full, and this is the text
-pub record StopsFull (doc : Doc) (results : Results) (text : List ℕ) (group : ℕ) : Type 0 where
-  pub threads : AreOfThreads doc results
-  pub full : IsFullIn results.journals group
+-- the journal of the group that is named is full, and this is the text
+pub record NamesFull (doc : Doc) (results : Results) (text : List ℕ) (group : ℕ) : Type 0 where
+  pub run : IsRunOf doc (Some group) results.journals results.logs
   pub told : text ≡ status_line doc.groups (JournalFull group)
 
 -- what a run by threads ends with on a document
 abbrev pub EndsOnRunDoc : Form → Doc → Results → List ℕ → Status → Type 0
 EndsOnRunDoc form doc results text Ok = RunsThreads form doc results text
-EndsOnRunDoc form doc results text (JournalFull group) = StopsFull doc results text group
+EndsOnRunDoc form doc results text (JournalFull group) = NamesFull doc results text group
 EndsOnRunDoc form doc results text _ = ⊥
 
 -- and on what was read to its end

@@ -1,6 +1,7 @@
 -- What the text of a run that was printed is read as, and what a replay of it writes.
 use Rattle.std.specs.Prelude.{◌≡◌, ◌≤◌, ℕ, List, [], All, length, Option, Some, Ok as read_ok}
 use Rattle.st_io.specs.declared.reading.TheConstants.{MAX_BYTES}
+use Rattle.st_event.specs.declared.act.Log.{Log}
 use Rattle.st_event.specs.declared.journal.Journal.{Journal}
 use Rattle.st_grammar.specs.declared.doc.Doc.{Doc}
 use Rattle.st_grammar.specs.declared.doc.JournalAt.{JournalAt}
@@ -14,6 +15,7 @@ use Rattle.st_top.specs.declared.task.Showing.TheVariants.{In}
 use Rattle.st_top.specs.declared.task.Reading.TheVariants.{Journals}
 use Rattle.st_top.specs.Output.{app_names, histories_of, shown}
 use Rattle.st_serial.specs.Kept.{groups_of}
+use Rattle.st_run.specs.Running.{IsRunOf}
 use Rattle.st_top.specs.Replaying.{AreLegal, IsFirstIllegal, replay_of}
 use Rattle.st_top.specs.Answer.{Results, EndsOnBytes}
 use Rattle.st_top.specs.Completeness.{CanBeRead}
@@ -46,3 +48,8 @@ pub record ReplaysRun (doc : Doc) (journals : List Journal) (text : List ℕ) : 
 -- so it is with the text that is printed of each run, if it is no longer than an input may be
 abbrev pub PrintedRunsAreReplayed : Type 0
 PrintedRunsAreReplayed = (doc : Doc) (journals : List Journal) → IsRun doc journals → length (run_text forms.Replay doc journals) ≤ MAX_BYTES → ReplaysRun doc journals (run_text forms.Replay doc journals)
+
+-- and so it is with what threads made of a sound document
+abbrev pub RunsByThreadsAreReplayed : Type 0
+RunsByThreadsAreReplayed = (doc : Doc) (full : Option ℕ) (journals : List Journal) (logs : List Log) → IsSoundDoc doc → IsRunOf doc full journals logs
+    → length (run_text forms.Replay doc journals) ≤ MAX_BYTES → ReplaysRun doc journals (run_text forms.Replay doc journals)

@@ -285,7 +285,7 @@ fn other_commands_take_no_journal(rt: HostRuntime) -> Result<(), Fail> {
         line: 15,
         kind: DocKind::Word,
     };
-    for command in ["serial", "check"] {
+    for command in ["serial", "run", "check"] {
         let called = call(
             &rt,
             alloc,

@@ -106,7 +106,7 @@ fn printed_and_replayed<R: Abort + Threads + Wait + Sync, G: Gate + Sync>(
 }
 
 #[test]
-fn every_order_is_replayed(rt: HostRuntime) -> Result<(), Fail> {
+fn several_orders_are_replayed(rt: HostRuntime) -> Result<(), Fail> {
     let alloc = rt.alloc();
     let mut led = Vec::new(alloc);
     for app in 0..4 {
@@ -144,14 +144,14 @@ fn a_bad_document_is_not_run(rt: HostRuntime) -> Result<(), Fail> {
 }
 
 #[test]
-fn a_full_journal_stops_its_applications_alone(rt: HostRuntime) -> Result<(), Fail> {
+fn a_full_journal_stops_who_meets_it_alone(rt: HostRuntime) -> Result<(), Fail> {
     let alloc = rt.alloc();
     let second =
         b"group dc2\ndevice t1 tor\ndevice t2 tor\ndevice a1 switch\nlink l1 t1 a1 10\nlink l2 t2 a1 10\n";
     let mut scripts = joined(
         alloc,
         &[
-            b"app te\npropose dc2 a1.config=2\napp up\npropose dc1 a1.firmware=2\nawait dc1\nfail dc1 a1 0\npoll dc1 a1\n",
+            b"app te\npropose dc2 a1.config=2\nawait dc2\nread dc2 a1.config\napp up\npropose dc2 a1.firmware=2\npropose dc1 a1.firmware=2\nawait dc1\nfail dc1 a1 0\npoll dc1 a1\n",
         ],
     )?;
     for _line in 0..782 {
@@ -168,6 +168,11 @@ fn a_full_journal_stops_its_applications_alone(rt: HostRuntime) -> Result<(), Fa
     let journals = called.outcome.journals.as_slice();
     assert_eq!(&rt; journals.len(), 2);
     assert_eq!(&rt; journals[0].entries.as_slice().len(), 200_000);
-    assert_eq!(&rt; journals[1].entries.as_slice().len(), 2);
+    // The other application did all of its commands, and nothing is left pending in the other group.
+    assert_eq!(&rt; journals[1].entries.as_slice().len(), 4);
+    assert_eq!(&rt;
+        called.outcome.logs.as_slice()[0].entries.as_slice().len(),
+        1
+    );
     Ok(())
 }
