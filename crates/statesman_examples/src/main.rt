@@ -4,7 +4,7 @@
 
 use st_crew::NoGate;
 use st_io::{SureSink, SureSource};
-use st_top::statesman;
+use st_top::{Outcome, statesman};
 use std::alloc::{AllocError, Global};
 use std::io::Write;
 use std::{env, fs, io};
@@ -37,28 +37,22 @@ fn input_of(rt: &HostRuntime, run: &Run) -> io::Result<Vec<u8>> {
     }
 }
 
-/// Prints a run as it is typed, what the whole call writes of it, and its exit status.
-fn show(rt: &HostRuntime, typed: &str) -> io::Result<()> {
-    let alloc = rt.alloc();
-    let run = run_of(alloc, typed)?;
-    let mut source = SureSource::new(input_of(rt, &run)?);
-    let mut sink = SureSink::new(alloc);
-    let outcome = statesman(
-        rt,
-        alloc,
-        run.words.as_slice(),
-        &mut source,
-        &mut sink,
-        &NoGate,
-    );
+/// Prints a run as it is typed, what the whole call wrote of it, and its exit status.
+fn show(rt: &HostRuntime, typed: &str, sink: &SureSink, outcome: &Outcome) -> io::Result<()> {
     println!(rt; "$ ./statesman {typed}")?;
     io::writer(rt).write_all(sink.bytes())?;
     println!(rt; "exit {}\n", outcome.status.exit_code())
 }
 
 fn main(rt: HostRuntime) -> io::Result<()> {
+    let alloc = rt.alloc();
     for typed in env::args(&rt)?.skip(1) {
-        show(&rt, typed.as_str())?;
+        let run = run_of(alloc, typed.as_str())?;
+        let mut source = SureSource::new(input_of(&rt, &run)?);
+        let mut sink = SureSink::new(alloc);
+        let words = run.words.as_slice();
+        let outcome = statesman(&rt, alloc, words, &mut source, &mut sink, &NoGate);
+        show(&rt, typed.as_str(), &sink, &outcome)?;
     }
     Ok(())
 }
