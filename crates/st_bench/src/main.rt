@@ -10,6 +10,7 @@ mod network;
 mod promises;
 mod proposals;
 mod random;
+mod reads;
 mod tree;
 mod work;
 mod worlds;
@@ -21,9 +22,11 @@ use group::group_of;
 use network::Network;
 use promises::{Judged, judge, start, wide};
 use proposals::{Outage, Proposed, propose};
+use reads::{Audience, Shown, read_beside};
 use st_net::GroupTopo;
 use std::alloc::{AllocError, Global};
 use std::rt::Runtime;
+use std::sync::Wait;
 use std::thread::Threads;
 use std::{env, io};
 use work::{Task, work_of};
@@ -111,9 +114,25 @@ fn repeat_checks(
     println!(rt; "{word} bases {bases} accepted {accepted} refused {refused}")
 }
 
+/// Lets threads read so often beside a writer, and prints how many reads and publications there were.
+fn repeat_reads(
+    rt: &(impl Runtime + Threads + Wait + Sync),
+    alloc: Global,
+    word: &str,
+    topo: &GroupTopo,
+    audience: Audience,
+    times: u32,
+) -> io::Result<()> {
+    let Shown {
+        reads,
+        publications,
+    } = read_beside(rt, alloc, topo, audience, times)?;
+    println!(rt; "{word} reads {reads} publications {publications}")
+}
+
 /// Does a work on a group so often, and prints what its last time found.
 fn repeat_on(
-    rt: &(impl Runtime + Threads + Sync),
+    rt: &(impl Runtime + Threads + Wait + Sync),
     alloc: Global,
     word: &str,
     topo: GroupTopo,
@@ -128,12 +147,13 @@ fn repeat_on(
         Task::Propose(outage) => repeat_proposals(rt, alloc, word, &topo, outage, times),
         Task::Drive(course) => repeat_driven(rt, alloc, word, topo, course, times),
         Task::Check(way) => repeat_checks(rt, alloc, word, topo, way, times),
+        Task::Read(audience) => repeat_reads(rt, alloc, word, &topo, audience, times),
     }
 }
 
 /// Does a work so often, and prints what its last time found.
 fn repeat(
-    rt: &(impl Runtime + Threads + Sync),
+    rt: &(impl Runtime + Threads + Wait + Sync),
     alloc: Global,
     word: &str,
     times: u32,
@@ -146,7 +166,7 @@ fn repeat(
 }
 
 fn run(
-    rt: &(impl Runtime + Threads + Sync),
+    rt: &(impl Runtime + Threads + Wait + Sync),
     alloc: Global,
     first: &str,
     second: &str,

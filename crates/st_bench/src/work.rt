@@ -2,6 +2,7 @@
 
 use crate::checks::Way;
 use crate::proposals::Outage;
+use crate::reads::{Audience, Pace};
 use crate::worlds::Course;
 
 /// What a promise asks of each pair of leaves where a word does not say it, in percent.
@@ -24,6 +25,8 @@ pub enum Task {
     Drive(Course),
     /// Checks of its world.
     Check(Way),
+    /// Reads of its published target.
+    Read(Audience),
 }
 
 /// A task, and how much is promised of each pair of leaves of its group, in percent.
@@ -84,12 +87,37 @@ fn task_of(word: &str) -> (Task, &str) {
     (Task::Cuts, word)
 }
 
+/// The reads that the end of a word names, which are of the group at every limit. Where it names none, it is left as it is.
+fn reads_of(word: &str) -> (Task, &str) {
+    let audiences = [
+        ("paused-1", Pace::Paused, 1),
+        ("paused-2", Pace::Paused, 2),
+        ("paused-3", Pace::Paused, 3),
+        ("busy-1", Pace::Busy, 1),
+        ("busy-2", Pace::Busy, 2),
+        ("busy-3", Pace::Busy, 3),
+    ];
+    for (name, pace, readers) in &audiences {
+        if word == *name {
+            let audience = Audience {
+                readers: *readers,
+                pace: *pace,
+            };
+            return (Task::Read(audience), "full-group");
+        }
+    }
+    (Task::Cuts, word)
+}
+
 /// The work that a word names, and what is left of the word: the name of its group.
 pub fn work_of(word: &str) -> (Work, &str) {
     if let Some(rest) = word.strip_prefix("proposals-") {
         return proposals_of(rest);
     }
-    let (task, rest) = task_of(word);
+    let (task, rest) = match word.strip_prefix("reads-") {
+        Some(rest) => reads_of(rest),
+        None => task_of(word),
+    };
     let percent = PERCENT;
     (Work { task, percent }, rest)
 }
