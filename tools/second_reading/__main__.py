@@ -1,6 +1,7 @@
 """Compares the program with a second reading of the documents: `python3 tools/second_reading --cases 2000`.
 
-Case S is made from the seed S alone: every third has one line broken. The exit status is 0 where all agree, 1 where a case
+Case S is made from the seed S alone: every third has one line broken. `serial`, `check` and `replay` have one right ending. What
+`run` makes of a document is judged, and replayed as it is and altered. The exit status is 0 where all agree, 1 where a case
 differs, 2 where nothing could be tried. `--show S` prints a case with what the second reading makes of it, and runs nothing.
 """
 
@@ -13,12 +14,15 @@ from collections import Counter
 
 sys.dont_write_bytecode = True
 
-from cases import case_text  # noqa: E402
-from comparisons import COMPARISONS, Reading, difference  # noqa: E402
+from cases import case_text, crowd_text  # noqa: E402
+from comparisons import COMPARISONS, Reading, difference, difference_at  # noqa: E402
 from edges import edge_documents  # noqa: E402
+from generated import generated_rows  # noqa: E402
 from journal import Decided, entry_line  # noqa: E402
 from looking_back import first_difference  # noqa: E402
 from smaller import smaller  # noqa: E402
+from trying_replays import replay_difference  # noqa: E402
+from trying_runs import is_order_free, run_difference  # noqa: E402
 
 # A text with more bytes is not printed.
 MOST_SHOWN = 20000
@@ -48,9 +52,12 @@ def read_options():
     parser = argparse.ArgumentParser(prog="second_reading", description=__doc__)
     parser.add_argument("--program", default=PROGRAM, help="the program to compare with")
     parser.add_argument("--cases", type=int, default=2000, help="how many cases (2000)")
+    parser.add_argument("--crowds", type=int, default=0, help="how many documents with many applications, for run alone (0)")
+    parser.add_argument("--again", type=int, default=1, metavar="N", help="try run N times on each document whose order is free (1)")
     parser.add_argument("--first", type=int, default=1, help="the seed of the first case (1)")
     parser.add_argument("--seconds", type=float, default=60, help="after so many seconds no new case begins (60)")
-    parser.add_argument("--edges", action="store_true", help="also the documents at limits")
+    parser.add_argument("--edges", action="store_true", help="also the documents at limits, and gen and demo")
+    parser.add_argument("--commands", default=",".join(TRIES), help="which commands, of %s (all)" % ",".join(TRIES))
     parser.add_argument("--look-back", type=int, default=0, metavar="N",
                         help="of each N-th case also look back over the journals, as the definitions do")
     parser.add_argument("--differences", type=int, default=5, help="stop after so many differing cases (5)")
@@ -72,6 +79,20 @@ def show(text):
         print("%s: status %d\n%s" % ((" ".join(comparison.words),) + reading.wanted(comparison)))
 
 
+def try_serial(program, text, reading, _, __):
+    return difference(program, text, reading)
+
+
+def try_replay(program, _, reading, seed, count):
+    """The journals of the script order, as they are and altered."""
+    if reading.run is None or reading.run.full_group is not None:
+        return None
+    return replay_difference(program, reading.document, [standing.entries for standing in reading.run.standings], seed, count)
+
+
+TRIES = {"serial": try_serial, "replay": try_replay, "run": run_difference}
+
+
 class Trial:
     """The cases that were tried, and what they met."""
 
@@ -80,7 +101,7 @@ class Trial:
         self.begin = time.monotonic()
         self.met = Counter()
         self.tried, self.entries, self.differing = 0, 0, 0
-        self.last = None
+        self.last, self.last_crowd = None, None
 
     def try_all(self):
         for path in self.options.documents:
@@ -89,24 +110,48 @@ class Trial:
         if self.options.edges:
             for name, text in edge_documents():
                 self.try_one("edge %r" % name, text, False)
+            for words, wanted in generated_rows():
+                self.try_words(words, wanted)
         cases = 0 if self.options.documents else self.options.cases
         for seed in range(self.options.first, self.options.first + cases):
-            if self.differing >= self.options.differences or time.monotonic() - self.begin > self.options.seconds:
+            if self.is_over():
                 break
             looks_back = self.options.look_back and seed % self.options.look_back == 0
             self.try_one("seed %d" % seed, case_text(seed), looks_back)
             self.last = seed
+        for seed in range(self.options.first, self.options.first + self.options.crowds):
+            if self.is_over():
+                break
+            self.try_one("crowd %d" % seed, crowd_text(seed), False, ["run"])
+            self.last_crowd = seed
 
-    def try_one(self, name, text, looks_back):
+    def try_words(self, words, wanted):
+        """Words that read nothing."""
+        self.tried += 1
+        self.met[words[0]] += 1
+        found = difference_at(self.options.program, words, b"", wanted)
+        if found is not None:
+            self.differing += 1
+            print("== %s differs" % " ".join(words))
+            self.tell_endings(found)
+
+    def is_over(self):
+        return self.differing >= self.options.differences or time.monotonic() - self.begin > self.options.seconds
+
+    def try_one(self, name, text, looks_back, commands=None):
         reading = Reading(text)
         self.tried += 1
         self.count(reading)
         if looks_back and reading.run is not None:
             self.look_back(name, reading)
-        found = difference(self.options.program, text, reading)
-        if found is not None:
-            self.differing += 1
-            self.tell_difference(name, text, found)
+        for command in commands or self.options.commands.split(","):
+            is_free = command == "run" and is_order_free(reading)
+            for _ in range(self.options.again if is_free else 1):
+                found = TRIES[command](self.options.program, text, reading, name, self.met)
+                if found is not None:
+                    self.differing += 1
+                    self.tell_difference(name, text, found, TRIES[command])
+                    break
 
     def look_back(self, name, reading):
         self.met["looked back over"] += 1
@@ -132,11 +177,20 @@ class Trial:
             for seen in log:
                 self.met["read" if len(seen) == 5 else "readat" if seen.value is not None else "readat none"] += 1
 
-    def tell_difference(self, name, text, found):
+    def tell_difference(self, name, text, found, try_command):
         print("== %s differs; made small:" % name)
-        small = smaller(text, lambda rest: difference(self.options.program, rest) is not None, 30)
-        found = difference(self.options.program, small) or found
+
+        def tried(rest):
+            return try_command(self.options.program, rest, Reading(rest), name, None)
+
+        small = smaller(text, lambda rest: tried(rest) is not None, 30)
+        found = tried(small) or found
         print(small.decode("latin-1") if len(small) <= MOST_SHOWN else "%d bytes, not shown" % len(small))
+        if found.text is not None:
+            print("-- of which the journals are altered:\n%s" % found.text.decode("latin-1")[:MOST_SHOWN])
+        self.tell_endings(found)
+
+    def tell_endings(self, found):
         print("-- %s: wanted status %r, the program's %r" % (" ".join(found.words), found.wanted[0], found.got[0]))
         sys.stdout.writelines(difflib.unified_diff(
             found.wanted[1].splitlines(True), found.got[1].splitlines(True), "wanted", "the program's"))
@@ -145,7 +199,8 @@ class Trial:
     def tell(self):
         for word in sorted(self.met):
             print("%8d %s" % (self.met[word], word))
-        seeds = "no seeds" if self.last is None else "seeds %d to %d" % (self.options.first, self.last)
+        lasts = (("seeds", self.last), ("crowds", self.last_crowd))
+        seeds = ", ".join("%s %d to %d" % (word, self.options.first, last) for word, last in lasts if last is not None) or "no seeds"
         print("%d cases (%s), %d entries, %d differing, %.1f seconds" % (
             self.tried, seeds, self.entries, self.differing, time.monotonic() - self.begin))
 

@@ -1,9 +1,12 @@
-"""The cases by chance: each is made from its seed alone, and every third has one line broken, or two."""
+"""The cases by chance: each is made from its seed alone, and every third has one line broken, or two.
+
+A crowd is a document for `run`, without a broken line.
+"""
 
 import random
 
 from broken_lines import broken, bytes_of
-from random_documents import random_document
+from random_documents import crowded_document, random_document
 
 
 def case_text(seed):
@@ -13,3 +16,9 @@ def case_text(seed):
     if seed % 3 == 0:
         lines = broken(chance, lines)
     return bytes_of(chance, lines)
+
+
+def crowd_text(seed):
+    """The text of a document with many applications, for `run`."""
+    chance = random.Random("crowd %d" % seed)
+    return bytes_of(chance, crowded_document(chance))

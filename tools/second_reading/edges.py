@@ -65,6 +65,8 @@ def edge_documents():
     yield "a journal of exactly 200000 entries", full_journal(195, 153)
     yield "a journal that one poll meets full", full_journal(195, 154)
     yield "a full journal", full_journal(400)
+    yield "a full journal, and two applications", full_journal(400) + b"app te\npropose dc1 t1.firmware=2\nawait dc1\nsettle dc1 1\n"
+    yield "two applications that fill a journal", full_journal(200) + b"app te\n" + b"settle dc1 64\n" * 200
     yield "a full journal in the second group", full_journal(400).replace(b"group dc1", b"group g0\ngroup dc1", 1)
 
 

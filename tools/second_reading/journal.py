@@ -1,8 +1,4 @@
-"""Events, replies and verdicts, and the entries of a journal, with one line of text for each.
-
-The lines have the words that docs/DEFINITIONS.md uses in its journals. They are for a reader's eye so far; once the form
-`replay` has a format, `entry_line` is the place for it.
-"""
+"""Events, replies and verdicts, and the entries of a journal, with the line of text of each (docs/FORMATS.md, "Journals as text")."""
 
 from typing import NamedTuple
 
@@ -13,49 +9,67 @@ MOST_ENTRIES = 200000
 MOST_PENDING = 64
 
 
+def kind(named):
+    """Two of different kinds are never equal, whatever they hold: as tuples alone `Done()` would be `NotBusy()`."""
+    named.__eq__ = lambda self, other: type(self) is type(other) and tuple.__eq__(self, other)
+    named.__ne__ = lambda self, other: not self == other
+    named.__hash__ = lambda self: hash((type(self).__name__, tuple(self)))
+    return named
+
+
 # Events. Each stands in the journal of one group.
 
+@kind
 class Submit(NamedTuple):
     application: int
     rows: tuple
 
 
+@kind
 class Check(NamedTuple):
     pass
 
 
+@kind
 class Lock(NamedTuple):
     application: int
     entity: Entity
     priority: str
 
 
+@kind
 class Unlock(NamedTuple):
     application: int
     entity: Entity
     priority: str
 
 
+@kind
 class Send(NamedTuple):
     entity: Entity
 
 
+@kind
 class Deliver(NamedTuple):
     number: int
 
 
+@kind
 class Finish(NamedTuple):
     entity: Entity
 
 
+@kind
 class Report(NamedTuple):
     entity: Entity
 
 
+@kind
 class Hear(NamedTuple):
     number: int
 
 
+@kind
 class Fail(NamedTuple):
     entity: Entity
     health: int
@@ -64,10 +78,12 @@ class Fail(NamedTuple):
 
 # Verdicts.
 
+@kind
 class Accepted(NamedTuple):
     version: int
 
 
+@kind
 class LacksLevel(NamedTuple):
     """A row needs more of `entity`, which is the row's own or, for a link's row, one of its ends."""
 
@@ -77,102 +93,125 @@ class LacksLevel(NamedTuple):
     needs: int
 
 
+@kind
 class LacksPower(NamedTuple):
     row: Row
 
 
+@kind
 class IsLocked(NamedTuple):
     entity: Entity
     holder: int
     priority: str
 
 
+@kind
 class WouldBreak(NamedTuple):
     broken: Break
 
 
 # Replies.
 
+@kind
 class Queued(NamedTuple):
     ticket: int
 
 
+@kind
 class Full(NamedTuple):
     pending: int
 
 
+@kind
 class Idle(NamedTuple):
     pass
 
 
+@kind
 class Decided(NamedTuple):
     ticket: int
     entry: int
     verdict: tuple
 
 
+@kind
 class Granted(NamedTuple):
     pass
 
 
+@kind
 class Held(NamedTuple):
     holder: int
 
 
+@kind
 class Released(NamedTuple):
     pass
 
 
+@kind
 class NotYours(NamedTuple):
     """`holder` is None where nobody has the lock."""
 
     holder: int
 
 
+@kind
 class Settled(NamedTuple):
     pass
 
 
+@kind
 class Blocked(NamedTuple):
     row: Row
 
 
+@kind
 class Sent(NamedTuple):
     number: int
 
 
+@kind
 class NoSuch(NamedTuple):
     made: int
 
 
+@kind
 class Stale(NamedTuple):
     fence: int
 
 
+@kind
 class Begun(NamedTuple):
     pass
 
 
+@kind
 class Done(NamedTuple):
     pass
 
 
+@kind
 class NotBusy(NamedTuple):
     pass
 
 
+@kind
 class Reported(NamedTuple):
     number: int
 
 
+@kind
 class Old(NamedTuple):
     number: int
 
 
+@kind
 class Taken(NamedTuple):
     pass
 
 
+@kind
 class Changed(NamedTuple):
     pass
 

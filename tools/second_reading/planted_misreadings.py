@@ -1,7 +1,8 @@
 """Shows what the cases can find: each misreading is planted in a copy of the second reading, and the first case that tells it from
 the right one is printed: `python3 tools/second_reading/planted_misreadings.py --cases 2000`. No program is needed.
 
-A misreading is a file, a text that stands in it once, and another text. The exit status is 1 where no case tells one.
+A misreading is a file, a text that stands in it once, and another text. One in what judges runs is told where `check_carried_out.py`
+fails on it. The exit status is 1 where nothing tells one.
 """
 
 import argparse
@@ -10,6 +11,8 @@ import shutil
 import subprocess
 import sys
 import tempfile
+import time
+from contextlib import contextmanager
 
 sys.dont_write_bytecode = True
 
@@ -65,24 +68,104 @@ MISREADINGS = (
      "a pair may be promised in the other order"),
     ("reading.py", "if (entity, variable) in was_set:", "if False:", "a variable may be set twice"),
     ("reading.py", "word is None or word.decode() not in VARIABLES[entity.is_link]", "word is None", "a variable of another kind of entity"),
+    ("printing.py", "if value != 1:", "if True:", "an opening value of 1 is printed too"),
+    ("printing.py", "if group.opening_health(entity) != entity.greatest_health():", "if entity in group.healths:",
+     "a health that is the greatest is printed too"),
+    ("journal_reading.py", "number_of(tokens[0]) != len(entries) + 1", "number_of(tokens[0]) is None", "entries have any numbers"),
+    ("journal_reading.py", "reply[0] not in REPLIES[event[0]]", "reply[0] not in REPLY_COUNTS", "an event has any reply"),
+    ("journal_reading.py", "number <= self.number", "number < self.number", "a journal stands twice"),
+    ("journal_reading.py", "device <= devices[-1]", "device < devices[-1]", "a side has a device twice"),
+    ("journal_reading.py", "(promise.first, promise.second) == ends", "{promise.first, promise.second} == set(ends)",
+     "a promise is named in the other order"),
+    ("journal_reading.py", "b\"broken\": (13, None)", "b\"broken\": (12, None)", "a side of nobody"),
+    ("journal_reading.py", "        if len(named) < len(entity.variables()):\n            raise Fault(\"value\")\n", "",
+     "a failure leaves values out"),
+    ("replaying.py", "            return number\n        standing.enter(event)", "            return number + 1\n        standing.enter(event)",
+     "the entry behind the illegal one is named"),
+    ("journal.py", "type(self) is type(other) and", "", "replies are compared by their numbers alone"),
+)
+
+# Planted in what judges runs, which `check_carried_out.py` has to tell.
+MISJUDGEMENTS = (
+    ("carried_out.py", "for row in rows:\n                if (row.entity", "for row in rows[:1]:\n                if (row.entity",
+     "a proposal has one row"),
+    ("carried_out.py", "        if found != wanted:\n            place", "        if found[:len(wanted)] != wanted:\n            place",
+     "requests that were made up are let through"),
+    ("carried_out.py", "        if found != wanted:\n            place", "        if found != wanted[:len(found)]:\n            place",
+     "the last commands may be dropped"),
+    ("carried_out.py", "        if found != wanted:\n            place", "        if set(found) != set(wanted):\n            place",
+     "requests stand in any order"),
+    ("carried_out.py", "decision is None or place < decision", "decision is None", "a request may stand before the decision"),
+    ("carried_out.py", "            awaited = proposals\n\n\n#", "            awaited = min(proposals, 1)\n\n\n#", "the first ticket alone is awaited"),
+    ("carried_out.py", "before = max(asked, decision)", "before = asked", "turns before the decision count"),
+    ("carried_out.py", "before = max(asked, decision)", "before = decision", "turns before the requests count"),
+    ("carried_out.py", "journal.settled_until.get(entity, -1) >= before", "entity in journal.settled_until",
+     "it is enough that an entity was settled at the opening"),
+    ("carried_out.py", "journal.settled_until.get(entity, -1) >= before", "journal.settled_until.get(entity, -1) == len(journal.entries)",
+     "an entity has to be settled at the end"),
+    ("carried_out.py", "if count < awaited.command.rounds:", "if count < 1:", "one turn is enough"),
+    ("carried_out.py", "if journal.is_turn(place, entity)]", "if journal.stand_at(place, [Send(entity)])]", "a Send is a turn"),
+    ("carried_out.py", "return self.stand_at(place + 1, self.arrivals(\"report\", Hear, turn))", "return True", "a report is a poll"),
+    ("carried_out.py", "        middle = self.arrivals(\"command\", Deliver, reply.number) if isinstance(reply, Sent) else []",
+     "        middle = []", "no command arrives in a turn"),
+    ("carried_out.py", "    values = list(before)\n", "    values = list(event.values)\n", "a failure changes other variables too"),
+    ("carried_out.py", "return event == Fail(command.entity, command.health, tuple(values))", "return list(event.values) == values",
+     "a failure has any health"),
+    ("carried_out.py", "return tuple(map(len, lists)) in ways", "return bool(ways)", "failures may be missing"),
+    ("carried_out.py", "seen.version <= history.version() and history", "history", "a version that there is not is seen"),
+    ("carried_out.py", "is_true = seen.version == command.version and is_value_at", "is_true = is_value_at", "another version is answered"),
+    ("carried_out.py", "seen.latest < seen.version and seen.latest <= history.version()", "seen.latest <= history.version()",
+     "there is no version though there is one"),
+    ("carried_out.py", "if seen.version < max(version, latest):", "if seen.version < latest:", "versions may fall"),
+    ("carried_out.py", "if seen.version < max(version, latest):", "if seen.version < version:", "a version may be below a latest before it"),
+    ("carried_out.py", "                if seen.latest < latest:", "                if False:", "a latest may fall"),
+    ("carried_out.py", "            if has < least:", "            if False:", "what was awaited is not seen"),
+    ("carried_out.py", "are_accepted[:tickets[-1]]) if", "are_accepted) if", "what was not awaited has to be seen"),
+    ("most.py", "(command.rounds + 1)", "command.rounds", "a settle has no further round"),
+    ("judging_reports.py", "    if any(waiting):", "    if False:", "requests of locks may be missing"),
+    ("judging_reports.py", "        return Held(holder)\n", "        return Granted()\n", "a lock is granted twice"),
 )
 
 
 def main():
     parser = argparse.ArgumentParser(prog="planted_misreadings", description=__doc__)
     parser.add_argument("--cases", type=int, default=2000, help="how many cases for each (2000)")
+    parser.add_argument("--seconds", type=float, default=600, help="after so many seconds no further one is planted (600)")
     parser.add_argument("--only", default="", metavar="TEXT", help="those alone whose description has this text")
     options = parser.parse_args()
-    right, untold, edges = [], 0, small_edges()
-    ahead = start(HERE, options.cases)
+    end = time.monotonic() + options.seconds
     tried = [misreading for misreading in MISREADINGS if options.only in misreading[3]]
-    for file, old, new, what in tried:
-        place = first_place(file, old, new, options.cases + len(edges), right, ahead)
+    untold, count = tell_misreadings(tried, options.cases, end)
+    for file, old, new, what in MISJUDGEMENTS:
+        if options.only in what and time.monotonic() < end:
+            is_told = is_misjudgement_told(file, old, new)
+            untold, count = untold + (not is_told), count + 1
+            print("%s: %s" % (what, "told" if is_told else "not told"), flush=True)
+    print("%d planted, %d that nothing tells" % (count, untold))
+    return 1 if untold else 0
+
+
+def tell_misreadings(tried, cases, end):
+    """Prints of each misreading the first case that tells it; answers how many none tells, and how many were planted."""
+    right, untold, edges = [], 0, small_edges()
+    ahead = start(HERE, cases)
+    for count, (file, old, new, what) in enumerate(tried):
+        if time.monotonic() > end:
+            break
+        place = first_place(file, old, new, cases + len(edges), right, ahead)
         untold += place is None
         print("%s: %s" % (what, place_text(edges, place)), flush=True)
+    else:
+        count = len(tried)
     ahead.kill()
-    print("%d misreadings, %d that no case tells" % (len(tried), untold))
-    return 1 if untold else 0
+    return untold, count
+
+
+def is_misjudgement_told(file, old, new):
+    with planted(file, old, new) as copy:
+        done = subprocess.run([sys.executable, os.path.join(copy, "check_carried_out.py"), "--cases", "200"], stdout=subprocess.DEVNULL,
+                              stderr=subprocess.DEVNULL, check=False)
+    return done.returncode != 0
 
 
 def place_text(edges, place):
@@ -98,15 +181,7 @@ def start(folder, cases):
 
 def first_place(file, old, new, cases, right, ahead):
     """The first place at which the copy with the misreading ends otherwise; `right` grows with what the right one ends with."""
-    with tempfile.TemporaryDirectory() as folder:
-        copy = os.path.join(folder, "copy")
-        shutil.copytree(HERE, copy, ignore=shutil.ignore_patterns("__pycache__"))
-        path = os.path.join(copy, file)
-        with open(path) as source:
-            text = source.read()
-        assert text.count(old) == 1, (file, old, text.count(old))
-        with open(path, "w") as source:
-            source.write(text.replace(old, new))
+    with planted(file, old, new) as copy:
         reader = start(copy, cases)
         try:
             for place in range(cases):
@@ -118,6 +193,21 @@ def first_place(file, old, new, cases, right, ahead):
             reader.kill()
             reader.wait()
     return None
+
+
+@contextmanager
+def planted(file, old, new):
+    """The folder of a copy in which the text that stands there once is replaced."""
+    with tempfile.TemporaryDirectory() as folder:
+        copy = os.path.join(folder, "copy")
+        shutil.copytree(HERE, copy, ignore=shutil.ignore_patterns("__pycache__"))
+        path = os.path.join(copy, file)
+        with open(path) as source:
+            text = source.read()
+        assert text.count(old) == 1, (file, old, text.count(old))
+        with open(path, "w") as source:
+            source.write(text.replace(old, new))
+        yield copy
 
 
 if __name__ == "__main__":

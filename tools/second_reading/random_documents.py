@@ -14,6 +14,11 @@ def random_document(random):
     return DocumentMaker(random).lines()
 
 
+def crowded_document(random):
+    """The lines of a document on whose few groups many applications work at once."""
+    return CrowdMaker(random).lines()
+
+
 class Net:
     """The names of a group that is being made."""
 
@@ -54,7 +59,7 @@ class DocumentMaker:
             lines += [self.delay_line(net) for net in nets for _ in range(self.random.randint(2, 9))]
         elif self.has_wire_lines:
             lines += [self.wire_line(net) for net in nets for _ in range(self.random.randint(0, 8))]
-        apps = ["up", "te", "mitigate-1", "A_b-9", "x" * 32][:self.pick((1, 1, 2, 2, 2, 3, 3, 4, 5))]
+        apps = self.applications()
         for app in apps:
             lines.append("app " + app)
             if nets:
@@ -63,6 +68,9 @@ class DocumentMaker:
             for _ in range(self.random.randint(1, 4)):
                 lines.append("order " + " ".join(self.pick(apps) for _ in range(self.random.randint(1, 9))))
         return self.dressed(lines) if self.chance(0.25) else lines
+
+    def applications(self):
+        return ["up", "te", "mitigate-1", "A_b-9", "x" * 32][:self.pick((1, 1, 2, 2, 2, 3, 3, 4, 5))]
 
     # A group.
 
@@ -249,3 +257,45 @@ class DocumentMaker:
                     + self.pick(("", " ", "\t"))
             dressed.append(line + self.pick(("", "", "", "\r")))
         return dressed
+
+
+class CrowdMaker(DocumentMaker):
+    """Each application does one piece of work after the other, and waits for what it asked for."""
+
+    def applications(self):
+        return ["up", "te"] + ["app%d" % number for number in range(self.random.randint(0, 6))]
+
+    def command_lines(self, nets):
+        lines = []
+        for _ in range(self.random.randint(2, 8)):
+            net = self.pick(nets)
+            if net.devices():
+                lines += self.pick((self.upgrade, self.upgrade, self.engineering, self.watching, self.failing))(net)
+        return lines
+
+    def upgrade(self, net):
+        lines = [self.propose(net) for _ in range(self.random.randint(1, 3))]
+        lines.append("await " + net.name)
+        if self.chance(0.7):
+            lines.append("settle %s %d" % (net.name, self.pick((1, 1, 2, 3))))
+        return lines + self.watching(net)
+
+    def engineering(self, net):
+        name, priority = self.pick(net.devices()[-2:]), self.pick(("low", "low", "high"))
+        lines = ["lock %s %s %s" % (net.name, name, priority), self.propose(net)]
+        lines += ["await " + net.name] if self.chance(0.8) else []
+        return lines + ["unlock %s %s %s" % (net.name, name, priority)]
+
+    def watching(self, net):
+        lines = []
+        for _ in range(self.random.randint(1, 3)):
+            name = self.pick(net.devices() + net.links)
+            variable = self.pick(self.variables(net, name))
+            lines.append(self.pick((
+                "read %s %s.%s" % (net.name, name, variable),
+                "readat %s %d %s.%s" % (net.name, self.random.randint(0, 12), name, variable))))
+        return lines
+
+    def failing(self, net):
+        name = self.pick(net.devices() + net.links)
+        return [self.fail(net, name)] + ["poll %s %s" % (net.name, name)] * self.random.randint(0, 2)

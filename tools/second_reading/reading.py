@@ -323,7 +323,7 @@ class Reader:
             if variable in named:
                 raise Fault("twice")
             named[variable] = value
-        self.add_command(BreakDown(number, entity, health, tuple(sorted(named.items()))))
+        self.add_command(BreakDown(number, entity, health, tuple(named.items())))
 
     def line_poll(self, group_token, entity_token):
         number, entity = self.group_and_entity(group_token, entity_token)

@@ -1,25 +1,82 @@
-"""What the program has to write, and its exit status: the report of `serial`, the line of `check`, and faults."""
+"""What the program has to write, and its exit status: a report as text and as JSON, the line of `check`, and faults."""
+
+import json
 
 from document import Row
 from journal import Lock, Old, Stale, Unlock, lock_reply_text, verdict_text
+from printing import replay_form
 from scripts import Seen
 
-OK, TOO_LONG, BAD_INPUT, JOURNAL_FULL = 0, 4, 5, 6
+OK, TOO_LONG, BAD_INPUT, JOURNAL_FULL, ILLEGAL = 0, 4, 5, 6, 7
 
 TOO_LONG_TEXT = TOO_LONG, "fault long\n"
 
 
 def serial_text(run):
     """The report of a run that met no full journal, else the line that names the full group."""
+    return unless_full(run, lambda: text_of_lines(report_lines(run.document, run.standings, run.logs)))
+
+
+def serial_json(run):
+    return unless_full(run, lambda: report_json(report_lines(run.document, run.standings, run.logs)))
+
+
+def serial_replay(run):
+    """The document with the journals."""
+    return unless_full(run, lambda: replay_form(run.document, [standing.entries for standing in run.standings]))
+
+
+def unless_full(run, text):
     if run.full_group is not None:
-        return JOURNAL_FULL, "fault full %s\n" % run.document.groups[run.full_group].name
+        return full_text(run.document.groups[run.full_group])
+    return OK, text()
+
+
+def full_text(group):
+    return JOURNAL_FULL, "fault full %s\n" % group.name
+
+
+def report_lines(document, standings, logs):
+    """The lines of the report; a replay has no logs."""
     lines = ["statesman report 1"]
-    for standing in run.standings:
-        lines += group_lines(run.document, standing)
-    for application, log in zip(run.document.applications, run.logs):
-        lines += [read_line(run.document, application, seen) for seen in log]
+    for standing in standings:
+        lines += group_lines(document, standing)
+    for application, log in zip(document.applications, logs):
+        lines += [read_line(document, application, seen) for seen in log]
     lines.append("end")
-    return OK, "".join(line + "\n" for line in lines)
+    return lines
+
+
+def text_of_lines(lines):
+    return "".join(line + "\n" for line in lines)
+
+
+def report_json(lines):
+    """The report whose lines are these, as JSON."""
+    groups, reads = [], []
+    for line in lines[1:-1]:
+        word, _, rest = line.partition(" ")
+        if word == "group":
+            groups.append({"name": rest, "locks": [], "receipts": [], "targets": [], "unsettled": [], "lost": []})
+        elif word in ("version", "entries"):
+            groups[-1][word] = int(rest)
+        elif word in ("lock", "unlock"):
+            groups[-1]["locks"].append(line)
+        elif word == "wire":
+            groups[-1]["wire"] = numbers_behind_words(rest)
+        elif word == "promises":
+            groups[-1].update(numbers_behind_words(line))
+        elif word == "read":
+            reads.append(rest)
+        else:
+            groups[-1]["targets" if word == "target" else "receipts" if word == "receipt" else word].append(rest)
+    report = {"groups": groups, "reads": reads, "statesman": 1}
+    return json.dumps(report, sort_keys=True, separators=(",", ":")) + "\n"
+
+
+def numbers_behind_words(text):
+    words = text.split(" ")
+    return {word: int(number) for word, number in zip(words[::2], words[1::2])}
 
 
 def group_lines(document, standing):
@@ -80,6 +137,10 @@ def check_text(document):
         len(groups), sum(len(group.devices) for group in groups), sum(len(group.links) for group in groups),
         sum(len(group.promises) for group in groups), len(applications),
         sum(len(application.commands) for application in applications))
+
+
+def illegal_text(group, number):
+    return ILLEGAL, "fault illegal %s %d\n" % (group.name, number)
 
 
 def fault_text(fault):

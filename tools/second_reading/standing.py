@@ -53,6 +53,10 @@ class Agent:
     number: int = 0
 
 
+def word_of(event):
+    return type(event).__name__.lower()
+
+
 def level_of(entity, health, is_busy, values):
     """The working level of an entity."""
     if is_busy or values[POWER] == 0:
@@ -151,11 +155,14 @@ class Standing:
         """Enters an event with the reply that is called for, and answers it."""
         if len(self.entries) >= MOST_ENTRIES:
             raise JournalFull(self.number)
-        word = type(event).__name__.lower()
-        reply = getattr(self, "reply_to_" + word)(event)
+        reply = self.reply_to(event)
         self.entries.append(Entry(event, reply))
-        getattr(self, "after_" + word, self.nothing_moves)(event, reply)
+        getattr(self, "after_" + word_of(event), self.nothing_moves)(event, reply)
         return reply
+
+    def reply_to(self, event):
+        """The reply that an event calls for."""
+        return getattr(self, "reply_to_" + word_of(event))(event)
 
     def nothing_moves(self, event, reply):
         pass
