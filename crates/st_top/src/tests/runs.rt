@@ -1,7 +1,7 @@
 //! `run`: scripts by threads. Where the order in which threads come matters, a gate holds them.
 
 use super::gates::{Leader, Meeting};
-use super::{Called, FIRST, HALF, TWO_PATHS, call, call_at, joined};
+use super::{Called, FIRST, HALF, TWO_PATHS, call, call_at};
 use crate::Status;
 use st_crew::{Gate, NoGate};
 use st_doc::DocKind;
@@ -115,6 +115,7 @@ fn several_orders_are_replayed(rt: HostRuntime) -> Result<(), Fail> {
         assert!(&rt; gate.was_kept(6));
     }
     // Who goes ahead proposes first to its group, so there are several journals.
+    assert_eq!(&rt; led.len(), 4);
     assert!(&rt; led[0].text.as_slice() != led[1].text.as_slice());
     assert!(&rt; led[2].text.as_slice() != led[3].text.as_slice());
     for _time in 0..196 {
@@ -143,26 +144,28 @@ fn a_bad_document_is_not_run(rt: HostRuntime) -> Result<(), Fail> {
     Ok(())
 }
 
-#[test]
-fn a_full_journal_stops_who_meets_it_alone(rt: HostRuntime) -> Result<(), Fail> {
-    let alloc = rt.alloc();
-    let second =
-        b"group dc2\ndevice t1 tor\ndevice t2 tor\ndevice a1 switch\nlink l1 t1 a1 10\nlink l2 t2 a1 10\n";
-    let mut scripts = joined(
-        alloc,
-        &[
-            b"app te\npropose dc2 a1.config=2\nawait dc2\nread dc2 a1.config\napp up\npropose dc2 a1.firmware=2\npropose dc1 a1.firmware=2\nawait dc1\nfail dc1 a1 0\npoll dc1 a1\n",
-        ],
-    )?;
+/// A second group.
+const SECOND: &[u8] =
+    b"group dc2\ndevice t1 tor\ndevice t2 tor\ndevice a1 switch\nlink l1 t1 a1 10\nlink l2 t2 a1 10\n";
+
+/// An application of the second group, and one that fills the journal of the first with a switch that can't settle.
+const FILLING: &[u8] =
+    b"app te\npropose dc2 a1.config=2\nawait dc2\nread dc2 a1.config\napp up\npropose dc2 a1.firmware=2\npropose dc1 a1.firmware=2\nawait dc1\nfail dc1 a1 0\npoll dc1 a1\n";
+
+fn filling_scripts(alloc: Global) -> Result<Vec<u8>, AllocError> {
+    let mut scripts = FILLING.to_vec(alloc)?;
     for _line in 0..782 {
         scripts.extend_from_slice(b"settle dc1 64\n")?;
     }
-    let called = run(
-        &rt,
-        alloc,
-        &[TWO_PATHS, HALF, second, scripts.as_slice()],
-        &NoGate,
-    )?;
+    Ok(scripts)
+}
+
+#[test]
+fn a_full_journal_stops_who_meets_it_alone(rt: HostRuntime) -> Result<(), Fail> {
+    let alloc = rt.alloc();
+    let scripts = filling_scripts(alloc)?;
+    let parts = [TWO_PATHS, HALF, SECOND, scripts.as_slice()];
+    let called = run(&rt, alloc, &parts, &NoGate)?;
     assert_eq!(&rt; called.outcome.status, Status::JournalFull { group: 0 });
     assert_eq!(&rt; called.text.as_slice(), b"fault full dc1\n".as_slice());
     let journals = called.outcome.journals.as_slice();
@@ -170,9 +173,8 @@ fn a_full_journal_stops_who_meets_it_alone(rt: HostRuntime) -> Result<(), Fail> 
     assert_eq!(&rt; journals[0].entries.as_slice().len(), 200_000);
     // The other application did all of its commands, and nothing is left pending in the other group.
     assert_eq!(&rt; journals[1].entries.as_slice().len(), 4);
-    assert_eq!(&rt;
-        called.outcome.logs.as_slice()[0].entries.as_slice().len(),
-        1
-    );
+    let logs = called.outcome.logs.as_slice();
+    assert_eq!(&rt; logs.len(), 2);
+    assert_eq!(&rt; logs[0].entries.as_slice().len(), 1);
     Ok(())
 }
