@@ -1,6 +1,5 @@
 pub mod Prefixes
 pub mod Fronts
-pub mod Recents
 pub mod Adding
 pub mod Showing
 pub mod Worked

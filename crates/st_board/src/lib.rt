@@ -9,7 +9,6 @@ mod line;
 mod note;
 mod post;
 mod reader;
-mod recent;
 mod target;
 
 pub use board::{Board, MAX_READERS, most_readers};

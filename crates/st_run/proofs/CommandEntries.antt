@@ -22,8 +22,7 @@ use Rattle.st_board.proofs.Prefixes.{prefix_trans}
 use Rattle.st_world.specs.Acts.{proposed}
 use Rattle.st_world.specs.Rounds.{Run, run_from, enter, unsettled}
 use Rattle.st_world.specs.declared.world.rounds.Going.TheVariants.{On}
-use Rattle.st_service.specs.declared.work.Part.{Part}
-use Rattle.st_service.specs.declared.work.Part.TheVariants.{Whole, Update, Monitor}
+use Rattle.st_service.specs.declared.work.Part.TheVariants.{Whole}
 use Rattle.st_service.specs.Acts.{ActEnters}
 use Rattle.st_service.specs.Asked.{asker, is_request}
 use Rattle.st_service.specs.Awaits.{Awaits, Waits, WentOn}
@@ -31,13 +30,13 @@ use Rattle.st_service.specs.Made.{Made, past_in}
 use Rattle.st_service.specs.Puts.{Puts, Enters}
 use Rattle.st_run.specs.Requests.{request_by, is_submit}
 use Rattle.st_service.specs.Tickets.{latest_in}
-use Rattle.st_service.specs.Turns.{Turns, RoundOf, RoundsMade}
+use Rattle.st_service.specs.Turns.{Turns, RoundsMade}
 use Rattle.st_service.specs.Works.{part_of}
 use Rattle.st_run.proofs.DidLaws.{Each, each_append}
 use Rattle.st_service.proofs.HoldLaws.{past_more}
 use Rattle.st_run.proofs.OwnEntries.{Adds, AddsEach, adds_puts, adds_then, each_none}
 use Rattle.st_run.proofs.ProposalLaws.{was_proposed}
-use Rattle.st_run.proofs.RunEntries.{Only, OfTurns, was_entered, only_none, only_enter, only_poll, only_update, only_turn, only_made}
+use Rattle.st_run.proofs.RunEntries.{Only, OfTurns, was_entered, only_none, only_enter, only_poll, only_turn, only_made}
 
 -- an event that is no request
 abbrev pub NoRequest : Event → Type 0
@@ -99,30 +98,22 @@ enters_only P course number mid before was after now o e =
 pub each_then : (P : Entry → Type 0) (a : List Made) (was : List ℕ) (b : List Made) (mid : List ℕ) (c : List Made) (now : List ℕ) → AddsEach P a was b mid → AddsEach P b mid c now → AddsEach P a was c now
 each_then P a was b mid c now p q = record { entries = p.entries ++ q.entries; each = each_append P p.entries q.entries p.each q.each; adds = adds_then p.entries q.entries a was b mid c now p.adds q.adds }
 
--- a settle, and a round or a half of one, of whose turns each event has a property
+-- a settle, of whose turns each event has a property
 
-only_part : (P : Event → Type 0) (part : Part) (g : Group) (lines : List WireLine) (past : List Entry) (e : Entity) → OfTurns P → Only P past (part_of part g lines (run_from past) e)
-only_part P Whole g lines past e o = only_turn P g lines past (run_from past) e o (only_none P past)
-only_part P Update g lines past e o = only_update P g lines past (run_from past) e o (only_none P past)
-only_part P Monitor g lines past e o = only_poll P g lines past (run_from past) e o (only_none P past)
-
-turns_only : (P : Event → Type 0) (part : Part) (g : Group) (lines : List WireLine) (number : ℕ) (es : List Entity) (before : List Made) (was : List ℕ) (after : List Made) (now : List ℕ) → OfTurns P → Turns part g lines number es before was after now → AddsEach (λ e. P e.event) before was after now
-turns_only P part g lines number [] before was after now o t = each_none (λ e. P e.event) before was after now t.0 t.1
-turns_only P part g lines number (x ∷ es) before was after now o t =
+turns_only : (P : Event → Type 0) (g : Group) (lines : List WireLine) (number : ℕ) (es : List Entity) (before : List Made) (was : List ℕ) (after : List Made) (now : List ℕ) → OfTurns P → Turns Whole g lines number es before was after now → AddsEach (λ e. P e.event) before was after now
+turns_only P g lines number [] before was after now o t = each_none (λ e. P e.event) before was after now t.0 t.1
+turns_only P g lines number (x ∷ es) before was after now o t =
     each_then (λ e. P e.event) before was t.1 t.2 after now
-    (enters_only P (λ past. part_of part g lines (run_from past) x) number t.0 before was t.1 t.2 (only_part P part g lines (past_in t.0) x o) t.3)
-    (turns_only P part g lines number es t.1 t.2 after now o t.4)
-
-pub round_only : (P : Event → Type 0) (part : Part) (g : Group) (lines : List WireLine) (number : ℕ) (before : List Made) (was : List ℕ) (after : List Made) (now : List ℕ) → OfTurns P → RoundOf part g lines number before was after now → AddsEach (λ e. P e.event) before was after now
-round_only P part g lines number before was after now o r =
-    let f = r.0 in
-    let seen : AddsEach (λ e. P e.event) before was f was = each_none (λ e. P e.event) before was f was r.1 refl in
-    each_then (λ e. P e.event) before was f was after now seen (turns_only P part g lines number (unsettled g (past_in f)) f was after now o r.2)
+    (enters_only P (λ past. part_of Whole g lines (run_from past) x) number t.0 before was t.1 t.2 (only_turn P g lines (past_in t.0) (run_from (past_in t.0)) x o (only_none P (past_in t.0))) t.3)
+    (turns_only P g lines number es t.1 t.2 after now o t.4)
 
 rounds_only : (P : Event → Type 0) (g : Group) (lines : List WireLine) (number k : ℕ) (before : List Made) (was : List ℕ) (after : List Made) (now : List ℕ) → OfTurns P → RoundsMade g lines number k before was after now → AddsEach (λ e. P e.event) before was after now
 rounds_only P g lines number zero before was after now o r = each_none (λ e. P e.event) before was after now r.0 r.1
 rounds_only P g lines number (suc k) before was after now o r =
-    each_then (λ e. P e.event) before was r.0 r.1 after now (round_only P Whole g lines number before was r.0 r.1 o r.2) (rounds_only P g lines number k r.0 r.1 after now o r.3)
+    let f = r.2.0 in
+    let seen : AddsEach (λ e. P e.event) before was f was = each_none (λ e. P e.event) before was f was r.2.1 refl in
+    let one : AddsEach (λ e. P e.event) f was r.0 r.1 = turns_only P g lines number (unsettled g (past_in f)) f was r.0 r.1 o r.2.2 in
+    each_then (λ e. P e.event) before was r.0 r.1 after now (each_then (λ e. P e.event) before was f was r.0 r.1 seen one) (rounds_only P g lines number k r.0 r.1 after now o r.3)
 
 -- an await: only checks, each with the reply that the journal called for
 
@@ -206,7 +197,8 @@ enters_mid course number mid before was after now e = (_, sym e.puts.1)
 pub command_adds : (act : Act) (g : Group) (lines : List WireLine) (number : ℕ) (before : List Made) (was : List ℕ) (after : List Made) (now : List ℕ) → IsLegal g (past_in after) → ActEnters act g lines number before was after now → CommandAdds number act before was after now
 command_adds (Propose n rows) g lines number before was after now legal e = propose_entries number n rows g e.0 before was after now (legal_prefix g e.0 after (enters_mid _ number e.0 before was after now e.1) legal) e.1
 command_adds (Await n) g lines number before was after now legal e = none_added number (Await n) before was after now refl (awaits_ask g before was after now (awaits_checked g number (latest_in before was) before was after now e))
-command_adds (Settle n rounds) g lines number before was after now legal e = none_added number (Settle n rounds) before was after now refl (rounds_only NoRequest g lines number e.0 before was after now no_turns e.2)
+command_adds (Settle n rounds) g lines number before was after now legal e = none_added number (Settle n rounds) before was after now refl (each_then (λ e. NoRequest e.event) before was e.2 now after now
+    (rounds_only NoRequest g lines number e.0 before was e.2 now no_turns e.3) (each_none (λ e. NoRequest e.event) e.2 now after now e.4 refl))
 command_adds (Lock n entity prio) g lines number before was after now legal e = one_entry number (Lock n entity prio) g (lock_event (record { 0 = number }) entity prio) e.0 before was after now refl refl refl e.1
 command_adds (Unlock n entity prio) g lines number before was after now legal e = one_entry number (Unlock n entity prio) g (unlock_event (record { 0 = number }) entity prio) e.0 before was after now refl refl refl e.1
 command_adds (Read n entity var) g lines number before was after now legal e = none_added number (Read n entity var) before was after now refl (each_none NoneAsks before was after now (subst (IsPrefix before) (sym e.0) ([], append-nil before)) e.1)

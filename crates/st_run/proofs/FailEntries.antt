@@ -1,6 +1,6 @@
 -- The failures that a pass's entries make of a group, by its list of places, as its commands are done: a command that asks for a failure makes it,
 -- and no other command makes one.
-use Rattle.std.proofs.Common.{◌≡◌, ℕ, zero, suc, ◌<◌, Bool, true, false, List, [], ◌∷◌, ◌++◌, length, take, refl, ap, sym, subst, ◌∙◌, arith, append_assoc}
+use Rattle.std.proofs.Common.{◌≡◌, ℕ, zero, suc, ◌+◌, ◌<◌, Bool, true, false, List, [], ◌∷◌, ◌++◌, length, take, refl, ap, sym, subst, ◌∙◌, arith, append_assoc}
 use Rattle.std.specs.Prelude.{Option, Some, None, slice_get, reverse, ◌==◌, if◌then◌else◌}
 use Rattle.std.specs.List.{filter}
 use Rattle.std.proofs.lemmas.List.{append-nil, append_cancel_left, append_cancel_right, reverse-reverse, take-append-le}
@@ -230,7 +230,7 @@ command_fails (Propose n rows) g lines number before was after now w grows e = c
 command_fails (Await n) g lines number before was after now w grows e = calm_command g (Await n) _ before was after now refl w grows
     (awaits_calm g before was after now (awaits_checked g number (latest_in before was) before was after now e))
 command_fails (Settle n rounds) g lines number before was after now w grows e = calm_command g (Settle n rounds) _ before was after now refl w grows
-    (rounds_calm g lines number e.0 before was after now e.2)
+    (each_then (NoFailure g) before was e.2 now after now (rounds_calm g lines number e.0 before was e.2 now e.3) (each_none (NoFailure g) e.2 now after now e.4 refl))
 command_fails (Lock n entity prio) g lines number before was after now w grows e = calm_command g (Lock n entity prio) _ before was after now refl w grows
     (enters_only (NeverFails g) _ number e.0 before was after now (only_enter (NeverFails g) g (past_in e.0) (run_from (past_in e.0))
     (lock_event (record { 0 = number }) entity prio) (λ p. refl) (only_none (NeverFails g) (past_in e.0))) e.1)

@@ -1,6 +1,6 @@
 -- What worlds are of that were opened for a document: its groups at their opening, on which each command of its scripts can be done.
 use Rattle.std.proofs.Common.{◌≡◌, ℕ, zero, suc, ◌<◌, List, [], ◌∷◌, length, refl, ap, sym, ◌∙◌, subst, arith, get_or}
-use Rattle.std.specs.Prelude.{Option, map}
+use Rattle.std.specs.Prelude.{All, Option, map}
 use Rattle.std.proofs.Math.ListN.{get_or-map}
 use Rattle.std.proofs.lemmas.List.{get_or_default, length-map}
 use Rattle.st_net.specs.declared.parts.Parts.{Parts}
@@ -26,7 +26,7 @@ use Rattle.st_service.specs.Acts.{HasRounds}
 use Rattle.st_service.specs.Opened.{AreLinesOf, AreWorldsOf}
 use Rattle.st_service.specs.Passes.{Holder}
 use Rattle.st_run.specs.Played.{AllCanBeDone, IsPlayed, acts_of}
-use Rattle.st_run.specs.Running.{AreStatesOf, IsRunOf}
+use Rattle.st_run.specs.Running.{AreStatesOf, HasSmallNumbers, IsRunOf}
 use Rattle.st_run.proofs.RunLaws.{played_is_run}
 
 -- the groups of worlds, and the lines of their plans, by their numbers
@@ -105,9 +105,9 @@ can_be_done doc ws sound is k d low j e lower =
 
 -- what was played of its scripts on them is a run of it
 pub opened_run : (doc : Doc) (ws : List WorldView) (apps : List Script) (full : Option ℕ) (journals : List Journal) (logs : List Log) → IsSoundDoc doc → states_of ws ≡ all_opened doc.groups doc.wires → apps ≡ doc.apps
-    → ((ends : List Holder) × IsPlayed (group_named ws) (plan_named ws) (length ws) (acts_of apps) full journals logs ends) → IsRunOf doc full journals logs
-opened_run doc ws apps full journals logs sound is same played =
+    → ((ends : List Holder) × IsPlayed (group_named ws) (plan_named ws) (length ws) (acts_of apps) full journals logs ends) → All HasSmallNumbers journals → IsRunOf doc full journals logs
+opened_run doc ws apps full journals logs sound is same played small =
     let ends = played.0 in
     let of_doc = subst (λ (scripts : List Script). IsPlayed (group_named ws) (plan_named ws) (length ws) (acts_of scripts) full journals logs ends) same played.1 in
     let in_doc = subst (λ (n : ℕ). IsPlayed (group_named ws) (plan_named ws) n (acts_of doc.apps) full journals logs ends) (worlds_many doc ws sound is) of_doc in
-    played_is_run doc (group_named ws) (plan_named ws) full journals logs ends sound (opened_states doc ws sound is) in_doc
+    played_is_run doc (group_named ws) (plan_named ws) full journals logs ends sound (opened_states doc ws sound is) in_doc small

@@ -144,19 +144,22 @@ pub settles_in : (g : Group) (lines : List WireLine) (number rounds : ℕ) (befo
     → Settles g lines number rounds before was after now → IsSettledIn (journal_in g front) lines from rounds
 settles_in g lines number rounds before was after now front from p low s e of =
     let at = entity_in g e of in
-    let all : WasSettled (journal_in g front) from e ⊎ Stand (turn_of g lines e) (s.0 + 0) from (past_in after) =
-    rounds_stand g lines number e s.0 before was after now front 0 from p at low s.2 low in ⊎_elim
+    let mid = s.2 in
+    let q : IsPrefix mid front = prefix_trans mid after front s.4 p in
+    let goes : IsPrefix before mid = rounds_go g lines number s.0 before was mid now s.3 in
+    let all : WasSettled (journal_in g front) from e ⊎ Stand (turn_of g lines e) (s.0 + 0) from (past_in mid) =
+    rounds_stand g lines number e s.0 before was mid now front 0 from q at low s.3 low in ⊎_elim
     (λ (asked : s.0 ≡ rounds).
     let n : s.0 + 0 ≡ rounds = omega (arith, asked) in ⊎_elim
     (λ (t : WasSettled (journal_in g front) from e). inl t)
-    (λ (t : Stand (turn_of g lines e) (s.0 + 0) from (past_in after)).
-    inr (subst (λ (m : ℕ). Stand (turn_of g lines e) m from (past_in front)) n (stand_later (turn_of g lines e) (s.0 + 0) from (past_in after) (past_in front) (past_begins after front p) t)))
+    (λ (t : Stand (turn_of g lines e) (s.0 + 0) from (past_in mid)).
+    inr (subst (λ (m : ℕ). Stand (turn_of g lines e) m from (past_in front)) n (stand_later (turn_of g lines e) (s.0 + 0) from (past_in mid) (past_in front) (past_begins mid front q) t)))
     all)
-    (λ (t : (f : List Made) × IsPrefix before f × IsPrefix f after × (unsettled g (past_in f) ≡ [])).
+    (λ (t : (f : List Made) × IsPrefix mid f × IsPrefix f after × (unsettled g (past_in f) ≡ [])).
     inl (record {
       moment = past_in t.0;
-      behind = begins_then from (past_in before) (past_in t.0) low (past_begins before t.0 t.1);
+      behind = begins_then from (past_in before) (past_in t.0) low (past_begins before t.0 (prefix_trans before mid t.0 goes t.1));
       within = past_begins t.0 front (prefix_trans t.0 after front t.2 p);
       settled = none_unsettled g (past_in t.0) e at t.3;
     }))
-    s.3
+    s.5

@@ -135,6 +135,11 @@ pub did_more : (groups : ℕ → Group) (lines : ℕ → List WireLine) (acts : 
 did_more groups lines acts k act a b c lt is d does =
     subst (λ (xs : List Act). Did groups lines xs a c) (take_more acts k act lt is) (did_both groups lines (take k acts) (act ∷ []) a b c d (c, does, refl))
 
+pub went_next : (groups : ℕ → Group) (lines : ℕ → List WireLine) (acts : List Act) (k : ℕ) (act : Act) (a b c : Holder) → k < length acts → act ≡ get_or acts k act → Went groups lines (take k acts) a b
+    → Went groups lines (act ∷ []) b c → Went groups lines (take (k + 1) acts) a c
+went_next groups lines acts k act a b c lt is w one =
+    subst (λ (xs : List Act). Went groups lines xs a c) (take_more acts k act lt is) (went_then groups lines (take k acts) (act ∷ []) a b c w one)
+
 -- a journal that was seen full
 
 pub full_on : (groups : ℕ → Group) (lines : ℕ → List WireLine) (acts : List Act) (n : ℕ) (a b : Holder) → Went groups lines acts a b → HasFull a n → HasFull b n

@@ -1,18 +1,15 @@
-//! The scripts of a document run by threads: a service over the groups' worlds, a job for each application, and jobs of workers beside
-//! them.
+//! The scripts of a document run by threads: a service over the groups' worlds, and a job for each application.
 
-ghost use Rattle.std.specs.Prelude.{◌≡◌, ◌+◌, ◌≤◌, List, length, IfOk};
+ghost use Rattle.std.specs.Prelude.{◌≡◌, ◌+◌, ◌≤◌, List, length, IfOk, All};
 ghost use Rattle.st_grammar.specs.Sound.{IsSoundDoc};
 ghost use Rattle.st_service.specs.Opened.{AreLinesOf, AreWorldsOf};
 ghost use Rattle.st_service.specs.Passes.{Holder};
 ghost use Rattle.st_run.specs.Played.{AllCanBeDone, IsPlayed, acts_of};
-ghost use Rattle.st_run.specs.Running.{IsRunOf};
-ghost use Rattle.st_run.specs.Tasks.{tasks_by};
+ghost use Rattle.st_run.specs.Running.{HasSmallNumber, HasSmallNumbers, IsRunOf};
 
 use crate::playing::{Played, play};
-use crate::tasks::tasks_of;
-use crate::workers::Task;
 use st_crew::Gate;
+use st_event::{Entry, Event, Journal};
 use st_grammar::{Doc, Script};
 use st_serial::open_worlds;
 use st_service::{Naming, RoomLines, Service};
@@ -34,7 +31,7 @@ fn lines_of(alloc: Global, rooms: usize) -> Result<Vec<RoomLines>, AllocError>
     Ok(lines)
 }
 
-/// The scripts of a document on a service over its worlds, with the tasks of their workers, under names that are picked for this run.
+/// The scripts of a document on a service over its worlds, under names that are picked for this run.
 fn run_named<
     J: Naming + Send + Sync,
     L: Ledger + Send + Sync,
@@ -47,37 +44,62 @@ fn run_named<
     lines: Vec<RoomLines>,
     blank: Blank,
     apps: &[Script],
-    tasks: &[Task],
     gate: &G,
 ) -> Result<Played, AllocError>
     requires lines { (length lines.items ≡ length worlds.items) × AreLinesOf J.book J.board lines.items }
     requires worlds { AreWorldsOf J.group J.lines worlds.items }
     requires ledger { (blank.name ≡ L.name) × (blank.parts ≡ L.parts) }
-    requires parts { blank.parts ≡ length apps.now + length tasks.now + length worlds.items + 1 }
-    requires few { (length worlds.items ≤ 16) × (length apps.now + length tasks.now ≤ 512) }
+    requires parts { blank.parts ≡ length apps.now + length worlds.items + 1 }
+    requires few { (length worlds.items ≤ 16) × (length apps.now ≤ 512) }
     requires acts { AllCanBeDone J.group (length worlds.items) apps.now }
-    requires tasks { tasks.now ≡ tasks_by apps.now (length worlds.items) }
     ensures { IfOk result (λ played. (ends : List Holder) × IsPlayed J.group J.lines (length worlds.items) (acts_of apps.now) played.full played.journals.items played.logs.items ends) }
 {
     let rooms = worlds.len();
     let count = apps.len() as u32;
-    let workers = tasks.len() as u32;
-    let (service, passes) = Service::<J, L, &R>::start(
-        rt,
-        alloc,
-        worlds,
-        lines,
-        blank,
-        count,
-        workers,
-    )?;
-    play(rt, alloc, service, rooms, passes, apps, tasks, gate)
+    let (service, passes) = Service::<J, L, &R>::start(rt, alloc, worlds, lines, blank, count, 0)?;
+    play(rt, alloc, service, rooms, passes, apps, gate)
 }
 
-/// Runs the scripts of a document by threads, one for each application, over a service of its groups, with an updater and a monitor beside
-/// them for each group that a `settle` names. It calls the gate behind each read, and before each half of a round that an updater or a
-/// monitor makes. The order in which the commands of different applications come is free. Where no event met a full journal the scripts were
-/// carried out. Else the first group is named at whose full journal a job stopped; the others went on. Journals and logs stand
+/// The number of a message that an event names has 32 bits, as its type says. It does nothing.
+fn is_numbered(event: &Event)
+    ensures { HasSmallNumber event.now }
+{
+    match event {
+        Event::Deliver { command: number } | Event::Hear { report: number } => {
+            let _known: u32 = *number;
+        }
+        Event::Submit { .. }
+        | Event::Check
+        | Event::Lock { .. }
+        | Event::Unlock { .. }
+        | Event::Send { .. }
+        | Event::Finish { .. }
+        | Event::Report { .. }
+        | Event::Fail { .. } => {}
+    }
+}
+
+/// So it is with each event of some entries.
+fn are_numbered(entries: &[Entry])
+    ensures { All (λ entry. HasSmallNumber entry.event) entries.now }
+{
+    for entry in entries {
+        is_numbered(&entry.event);
+    }
+}
+
+/// And of some journals.
+fn all_numbered(journals: &[Journal])
+    ensures { All HasSmallNumbers journals.now }
+{
+    for journal in journals {
+        are_numbered(journal.entries.as_slice());
+    }
+}
+
+/// Runs the scripts of a document by threads, one for each application, over a service of its groups, and calls the gate behind each
+/// read. The order in which the commands of different applications come is free. Where no event met a full journal the scripts were
+/// carried out. Else a group is named whose journal is full: the lowest at which an application stopped; the others went on. Journals and logs stand
 /// in the order of the document. It waits for its threads. At `Err`, which is want of memory alone, nothing is handed back.
 pub fn run_scripts<R: Threads + Wait + Sync, G: Gate + Sync>(
     rt: &R,
@@ -89,12 +111,11 @@ pub fn run_scripts<R: Threads + Wait + Sync, G: Gate + Sync>(
     ensures { IfOk result (λ played. IsRunOf doc.now played.full played.journals.items played.logs.items) }
 {
     let worlds = open_worlds(alloc, doc.groups.as_slice(), doc.wires.as_slice())?;
-    let rooms = worlds.len();
-    let lines = lines_of(alloc, rooms)?;
+    let lines = lines_of(alloc, worlds.len())?;
     let apps = doc.apps.as_slice();
-    let planned = tasks_of(alloc, rooms, apps)?;
-    let tasks = planned.as_slice();
-    let parts = apps.len() + tasks.len() + rooms + 1;
-    let blank = Blank::new(parts as u64);
-    run_named::<Brand, Brand, R, G>(rt, alloc, worlds, lines, blank, apps, tasks, gate)
+    let blank = Blank::new(apps.len() as u64 + worlds.len() as u64 + 1);
+    let played = run_named::<Brand, Brand, R, G>(rt, alloc, worlds, lines, blank, apps, gate)?;
+    // Only the type of an event tells this, and who prints the journals has to know it.
+    all_numbered(played.journals.as_slice());
+    Ok(played)
 }

@@ -10,7 +10,6 @@ pub mod Passes
 pub mod Kept
 pub mod Turns
 pub mod Awaits
-pub mod OffLock
 pub mod Asked
 pub mod Acts
 pub mod Closed

@@ -1,5 +1,5 @@
 -- Each command is one more of those that were done.
-use Rattle.std.proofs.Common.{◌+◌, length, sym, subst, ◌∙◌, arith}
+use Rattle.std.proofs.Common.{◌≡◌, ℕ, ◌+◌, ◌<◌, List, length, take, sym, subst, ◌∙◌, arith}
 use Rattle.st_event.specs.declared.act.Act.{Act}
 use Rattle.st_world.specs.Acts.{group_number}
 use Rattle.st_service.specs.declared.acts.Acted.{Acted}
