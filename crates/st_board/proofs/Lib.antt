@@ -1,5 +1,6 @@
 pub mod Prefixes
 pub mod Fronts
+pub mod Recents
 pub mod Adding
 pub mod Showing
 pub mod Worked

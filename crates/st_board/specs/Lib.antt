@@ -3,4 +3,6 @@ pub mod LineInside
 pub mod Posts
 pub mod Published
 pub mod ReaderInside
+pub mod Recent
+pub mod RecentInside
 pub mod ShownInside

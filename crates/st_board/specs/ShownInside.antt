@@ -8,17 +8,18 @@ use Rattle.st_board.specs.declared.target.Target.{Target}
 use Rattle.st_board.specs.declared.target.Merge.{Merge}
 use Rattle.st_board.specs.Posts.{proposals_in, group_in}
 use Rattle.st_board.specs.Published.{IsMergeOf}
+use Rattle.st_board.specs.Recent.{merges_with, AreLatestOf}
 
 -- a line's name, as numbers
 abbrev pub code : Book → List ℕ
 code b = b.number ∷ b.log_name ∷ b.cells_name ∷ []
 
 abbrev pub absorbed : Target → Merge → Target
-absorbed s m = record { table = overlaid s.table m.rows; front = m.front }
+absorbed s m = record { table = overlaid s.table m.rows; front = m.front; recent = merges_with s.recent m.rows m.front.version }
 
--- the table is the merge of its front
+-- the table is the merge of its front, and beside it are the rows of its last proposals
 abbrev pub IsShown : Target → Type 0
-IsShown x = IsMergeOf (group_in x.front.seen.log) (proposals_in x.front.seen.log) x.table
+IsShown x = IsMergeOf (group_in x.front.seen.log) (proposals_in x.front.seen.log) x.table × AreLatestOf (group_in x.front.seen.log) (proposals_in x.front.seen.log) x.recent
 
 -- a view that knows no line, or this one
 abbrev pub Names : Book → List ℕ → Type 0

@@ -7,6 +7,7 @@ ghost use Rattle.st_board.specs.Published.{IsMergeOf, opening_on};
 use crate::line::{Head, Line};
 use crate::note::Note;
 use crate::reader::TargetReader;
+use crate::recent::Recent;
 use crate::target::{Desk, Merge, Same, Target, show, show_next};
 use left_right::writer::Writer;
 use st_event::Rows;
@@ -93,10 +94,12 @@ impl Board {
         let first = Target {
             table,
             front: front.again(),
+            recent: Recent::new(alloc)?,
         };
         let second = Target {
             table: spare,
             front,
+            recent: Recent::new(alloc)?,
         };
         let desk: Desk = Writer::new(alloc, first, second, readers as usize + 1)?;
         let (desk, ()) = show_next(desk, rt);

@@ -1,7 +1,8 @@
 //! A front: a beginning of a board's line that was seen, with its counts. The writer shows one beside each table, and each note
 //! and each reader has one.
 
-ghost use Rattle.std.specs.Prelude.{◌≡◌, ◌+◌, ◌<◌, ◌≤◌, ◌^◌, ◌++◌, ◌∷◌, [], length, false, MatchBool};
+ghost use Rattle.std.specs.Prelude.{◌≡◌, ◌+◌, ◌<◌, ◌≤◌, ◌^◌, ◌++◌, ◌∷◌, [], length, true, false, MatchBool};
+ghost use mathlib.Core.List.{IsPrefix};
 ghost use Rattle.st_board.specs.Posts.{flag, is_ended, proposals_in};
 ghost use Rattle.st_board.specs.LineInside.{head_of};
 ghost use Rattle.st_board.specs.declared.post.Post.TheVariants.{Merge as merge_post, End as end_post};
@@ -31,6 +32,18 @@ impl Front {
         ensures few { result ≤ 2 ^ 32 + 1 }
     {
         1 + self.version as u64 + self.ended as u64
+    }
+
+    /// Whether the other front of this line is the longer one. If it is, this one begins it, and if not it begins this one.
+    pub fn is_behind(&self, other: &Front) -> bool
+        requires { other.now.seen.book ≡ self.now.seen.book }
+        ensures mine { result ≡ true → IsPrefix self.now.seen.log other.now.seen.log }
+        ensures other { result ≡ false → IsPrefix other.now.seen.log self.now.seen.log }
+        ensures ended { result ≡ false → is_ended other.now.seen.log ≡ true → self.now.seen.log ≡ other.now.seen.log }
+    {
+        let mut both = self.seen.again();
+        both.learn(&other.seen);
+        self.posts() < other.posts()
     }
 
     /// A copy. It takes no memory.

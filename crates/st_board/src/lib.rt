@@ -9,6 +9,7 @@ mod line;
 mod note;
 mod post;
 mod reader;
+mod recent;
 mod target;
 
 pub use board::{Board, MAX_READERS, most_readers};

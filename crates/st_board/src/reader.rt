@@ -6,10 +6,11 @@ ghost use Rattle.st_net.specs.Groups.{IsEntityOf};
 ghost use Rattle.st_net.specs.Merge.{merge_of};
 ghost use Rattle.st_board.specs.Posts.{is_ended, group_in, proposals_in};
 ghost use Rattle.st_board.specs.Published.{IsMergeOf};
+ghost use Rattle.st_board.specs.ShownInside.{IsShown};
 
 use crate::front::Front;
 use crate::note::Note;
-use crate::target::{Place, Shows};
+use crate::target::{Place, Shows, Target};
 use core::mem::replace_with;
 use st_net::{Entity, Var};
 use st_overlay::Table;
@@ -54,11 +55,39 @@ fn advance(table: &mut Table, front: &mut Front, target: &Table, other: &Front)
     ensures other { IsPrefix other.now.seen.log front.new.seen.log }
     ensures ended { is_ended other.now.seen.log ≡ true → front.new.seen.log ≡ other.now.seen.log }
 {
-    let mut both = front.seen.again();
-    both.learn(&other.seen);
-    if front.posts() < other.posts() {
+    if front.is_behind(other) {
         table.fill(target);
         *front = other.again();
+    }
+}
+
+// Makes the table of a front that of what is shown, which the front begins. Where the table lacks no rows but those that were merged
+// last, these are enough, and those of them that it has already change nothing.
+fn renew(table: &mut Table, front: &Front, shown: &Target)
+    requires mine { IsMergeOf (group_in front.now.seen.log) (proposals_in front.now.seen.log) table.old }
+    requires earlier { IsPrefix front.now.seen.log shown.now.front.seen.log }
+    requires shown { IsShown shown.now }
+    ensures { IsMergeOf (group_in shown.now.front.seen.log) (proposals_in shown.now.front.seen.log) table.new }
+{
+    if shown.recent.since() <= front.version {
+        table.overlay(shown.recent.as_slice());
+    } else {
+        table.fill(&shown.table);
+    }
+}
+
+// Takes the front that is shown, where it is longer, and makes the table that of it. It takes no memory.
+fn follow(table: &mut Table, front: &mut Front, shown: &Target)
+    requires book { shown.now.front.seen.book ≡ front.old.seen.book }
+    requires mine { IsMergeOf (group_in front.old.seen.log) (proposals_in front.old.seen.log) table.old }
+    requires shown { IsShown shown.now }
+    ensures table { IsMergeOf (group_in front.new.seen.log) (proposals_in front.new.seen.log) table.new }
+    ensures book { front.new.seen.book ≡ front.old.seen.book }
+    ensures mine { IsPrefix front.old.seen.log front.new.seen.log }
+{
+    if front.is_behind(&shown.front) {
+        renew(table, front, shown);
+        *front = shown.front.again();
     }
 }
 
@@ -77,7 +106,7 @@ impl TargetReader {
         match place.enter_as::<Shows>() {
             Ok(reading) => {
                 let shown = reading.get();
-                advance(&mut table, &mut front, &shown.table, &shown.front);
+                follow(&mut table, &mut front, shown);
                 TargetReader {
                     place: reading.leave(),
                     table,

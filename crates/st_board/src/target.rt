@@ -5,6 +5,7 @@ ghost use Rattle.left_right.specs.Sides.{view};
 ghost use Rattle.st_board.specs.ShownInside.{code, absorbed, IsReady};
 
 use crate::front::Front;
+use crate::recent::Recent;
 use atomic_table::{Join, Split};
 use core::mem::replace_with;
 use crossbeam_utils::rule::{Outcome, Protocol};
@@ -16,11 +17,12 @@ use st_overlay::Table;
 use std::alloc::AllocError;
 use std::sync::Wait;
 
-/// A table, and the front that it is the merge of.
+/// A table, the front that it is the merge of, and the rows that were merged last.
 #[derive(Drop)]
 pub struct Target {
     pub table: Table,
     pub front: Front,
+    pub recent: Recent,
 }
 
 /// Rows to be merged, and the front that ends with them.
@@ -42,7 +44,9 @@ impl Absorb<Merge> for Target {
     ghost never_fails = { Unit {0} };
 
     fn absorb_first(&mut self, operation: &Merge, _other: &Target) -> Result<(), AllocError> {
-        self.table.overlay(operation.rows.as_slice());
+        let rows = operation.rows.as_slice();
+        self.table.overlay(rows);
+        self.recent.add(rows, operation.front.version);
         self.front = operation.front.again();
         Ok(())
     }

@@ -9,7 +9,9 @@ use Rattle.st_board.specs.Posts.{group_in, proposals_in}
 use Rattle.st_board.specs.LineInside.{head_of}
 use Rattle.st_board.specs.ShownInside.{IsShown}
 use Rattle.st_board.specs.Published.{Published, published_in, IsMergeOf}
-use Rattle.st_board.proofs.Fronts.{shown_end, published_end}
+use Rattle.st_board.specs.Recent.{merges_with, AreLatestOf}
+use Rattle.st_board.proofs.Fronts.{published_end}
+use Rattle.st_board.proofs.Recents.{shows_end}
 use Rattle.st_board.proofs.board.Board.end.Goals as goal
 
 pub show-requires-clause-ready : goal.show-requires-clause-ready
@@ -19,8 +21,8 @@ show-requires-clause-ready g c =
     let front : c.again-front.result ≡ old.front = c.again-front.ensures ∙ ap (λ (t : Target). t.front) c.published.ensures in
     let more : c.end.new.self.seen.log ≡ old.front.seen.log ++ End ∷ [] = c.if-not-end.ensures.done ∙ ap (λ (f : Front). f.seen.log ++ End ∷ []) front in
     let some : 0 < length old.front.seen.log = omega (arith, old.front.counted) in
-    let same = shown_end old.front.seen.log c.end.new.self.seen.log old.table some more c.self.invariant.shown in
-    (subst (λ (rows : List Row). IsMergeOf (group_in c.end.new.self.seen.log) (proposals_in c.end.new.self.seen.log) (overlaid old.table rows)) (sym none) same, c.if-not-end.ensures.book ∙ ap (λ (f : Front). f.seen.book) front)
+    let same = shows_end old.front.seen.log c.end.new.self.seen.log old.table old.recent c.end.new.self.version some more c.self.invariant.shown c.end.new.self.merges in
+    (subst (λ (rows : List Row). IsMergeOf (group_in c.end.new.self.seen.log) (proposals_in c.end.new.self.seen.log) (overlaid old.table rows) × AreLatestOf (group_in c.end.new.self.seen.log) (proposals_in c.end.new.self.seen.log) (merges_with old.recent rows c.end.new.self.version)) (sym none) same, c.if-not-end.ensures.book ∙ ap (λ (f : Front). f.seen.book) front)
 
 pub invariant_of-self-2 : goal.invariant_of-self-2
 invariant_of-self-2 g c =
@@ -29,11 +31,11 @@ invariant_of-self-2 g c =
     let front : c.again-front.result ≡ old.front = c.again-front.ensures ∙ ap (λ (t : Target). t.front) c.published.ensures in
     let more : c.end.new.self.seen.log ≡ old.front.seen.log ++ End ∷ [] = c.if-not-end.ensures.done ∙ ap (λ (f : Front). f.seen.log ++ End ∷ []) front in
     let some : 0 < length old.front.seen.log = omega (arith, old.front.counted) in
-    let same = shown_end old.front.seen.log c.end.new.self.seen.log old.table some more c.self.invariant.shown in
+    let same = shows_end old.front.seen.log c.end.new.self.seen.log old.table old.recent c.end.new.self.version some more c.self.invariant.shown c.end.new.self.merges in
     let book : c.end.new.self.seen.book ≡ old.front.seen.book = c.if-not-end.ensures.book ∙ ap (λ (f : Front). f.seen.book) front in
     record {
       idle = c.in_ok-show.ensures.idle;
-      shown = subst IsShown (sym c.in_ok-show.ensures.shown) (subst (λ (rows : List Row). IsMergeOf (group_in c.end.new.self.seen.log) (proposals_in c.end.new.self.seen.log) (overlaid old.table rows)) (sym none) same);
+      shown = subst IsShown (sym c.in_ok-show.ensures.shown) (subst (λ (rows : List Row). IsMergeOf (group_in c.end.new.self.seen.log) (proposals_in c.end.new.self.seen.log) (overlaid old.table rows) × AreLatestOf (group_in c.end.new.self.seen.log) (proposals_in c.end.new.self.seen.log) (merges_with old.recent rows c.end.new.self.version)) (sym none) same);
       bound = c.in_ok-show.ensures.bound;
       head = c.self.invariant.head ∙ ap head_of (sym (ap (λ (t : Target). t.front.seen.book) c.in_ok-show.ensures.shown ∙ book));
     }

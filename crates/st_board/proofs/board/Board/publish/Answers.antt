@@ -9,7 +9,8 @@ use Rattle.st_board.specs.Posts.{group_in}
 use Rattle.st_board.specs.LineInside.{head_of}
 use Rattle.st_board.specs.ShownInside.{IsShown}
 use Rattle.st_board.specs.Published.{Published, published_in}
-use Rattle.st_board.proofs.Fronts.{shown_more, published_more}
+use Rattle.st_board.proofs.Fronts.{published_more}
+use Rattle.st_board.proofs.Recents.{shows_more}
 use Rattle.st_board.proofs.board.Board.publish.Goals as goal
 
 pub show-requires-clause-ready : goal.show-requires-clause-ready
@@ -21,7 +22,7 @@ show-requires-clause-ready g c =
     let some : 0 < length old.front.seen.log = omega (arith, old.front.counted) in
     let group : All (RowFits (group_in old.front.seen.log)) c.args.rows.now = subst (λ (p : Published). All (RowFits p.group) c.args.rows.now) (sym c.self.view_is) c.requires.fits in
     let fits : All (RowFits (group_in old.front.seen.log)) rows = subst (All (RowFits (group_in old.front.seen.log))) (sym c.in_ok-rows.ensures) group in
-    (shown_more old.front.seen.log c.merge.new.self.seen.log rows old.table some more c.self.invariant.shown fits, c.if-not-merge.ensures.book ∙ ap (λ (f : Front). f.seen.book) front)
+    (shows_more old.front.seen.log c.merge.new.self.seen.log rows old.table old.recent c.merge.new.self.version some more c.self.invariant.shown fits c.merge.new.self.merges, c.if-not-merge.ensures.book ∙ ap (λ (f : Front). f.seen.book) front)
 
 pub invariant_of-self-2 : goal.invariant_of-self-2
 invariant_of-self-2 g c =
@@ -35,7 +36,7 @@ invariant_of-self-2 g c =
     let book : c.merge.new.self.seen.book ≡ old.front.seen.book = c.if-not-merge.ensures.book ∙ ap (λ (f : Front). f.seen.book) front in
     record {
       idle = c.in_ok-show.ensures.idle;
-      shown = subst IsShown (sym c.in_ok-show.ensures.shown) (shown_more old.front.seen.log c.merge.new.self.seen.log rows old.table some more c.self.invariant.shown fits);
+      shown = subst IsShown (sym c.in_ok-show.ensures.shown) (shows_more old.front.seen.log c.merge.new.self.seen.log rows old.table old.recent c.merge.new.self.version some more c.self.invariant.shown fits c.merge.new.self.merges);
       bound = c.in_ok-show.ensures.bound;
       head = c.self.invariant.head ∙ ap head_of (sym (ap (λ (t : Target). t.front.seen.book) c.in_ok-show.ensures.shown ∙ book));
     }
