@@ -1,6 +1,7 @@
 //! The crew: each job in a thread of its own, all of them joined.
 
 ghost use Rattle.std.specs.Prelude.{All, IfOk};
+ghost use Rattle.std.specs.Thread.{IsSync};
 ghost use Rattle.st_crew.specs.Ends.{EndsOf};
 
 use crate::gate::Gate;
@@ -22,7 +23,7 @@ pub fn crew_run<J: Job, R: Threads + Wait + Sync, G: Gate + Sync>(
     ensures { IfOk result (λ ends. EndsOf J.promises jobs.items ends.items) }
 {
     let work = |job: J| -> J::End
-        requires { J.can_work job }
+        requires { IsSync R.row × J.can_work job }
         ensures { J.promises job result }
     { job.work(rt, gate) };
     thread::map_vec(rt, jobs, &work)

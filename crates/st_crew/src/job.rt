@@ -7,6 +7,7 @@ use std::thread::Threads;
 /// Work for one thread. A job may borrow what it shares with others, as a service behind its locks, and owns what is its own.
 pub trait Job: Send + Drop {
     ghost use Rattle.std.specs.Prelude.{⊤};
+    ghost use Rattle.std.specs.Thread.{IsSync};
 
     /// What is left of the job once its work is done.
     type End: Send + Drop;
@@ -19,6 +20,7 @@ pub trait Job: Send + Drop {
 
     /// Does the work, and calls the gate at its points. It may wait, and start threads of its own.
     fn work<R: Threads + Wait + Sync, G: Gate>(self, rt: &R, gate: &G) -> Self::End
-        requires { can_work self }
+        requires sync { IsSync R.row }
+        requires can { can_work self }
         ensures { promises self result };
 }
