@@ -34,7 +34,7 @@ use Rattle.st_service.proofs.HoldLaws.{past_more, length_past}
 use Rattle.st_service.proofs.Lines.{length_tagged}
 
 -- the journal of a longer front goes on from that of the shorter one
-past_longer : (xs ys : List Made) → IsPrefix xs ys → IsBeginning (past_in xs) (past_in ys)
+pub past_longer : (xs ys : List Made) → IsPrefix xs ys → IsBeginning (past_in xs) (past_in ys)
 past_longer xs ys p = (
   reverse (map (λ (m : Made). m.entry) p.0),
   ap past_in (sym p.1) ∙ (ap reverse (map-append (λ (m : Made). m.entry) xs p.0) ∙ reverse-append (map (λ (m : Made). m.entry) xs) (map (λ (m : Made). m.entry) p.0)),
@@ -74,84 +74,36 @@ decided_later xs ys p =
     let m = deciders_grow l.0 (past_in xs) in omega (arith, m, ap (λ past. length (deciders past)) l.1)
 
 -- no more are pending than may
-near_all : (g : Group) (ticket : ℕ) (past : List Entry) → IsLegal g past → IsGiven ticket past → ticket ≤ length (deciders past) + MAX_PENDING
+pub near_all : (g : Group) (ticket : ℕ) (past : List Entry) → IsLegal g past → IsGiven ticket past → ticket ≤ length (deciders past) + MAX_PENDING
 near_all g ticket past legal given =
     let few = few_wait g past legal in
     let rest = length-drop (length (verdicts past)) (proposals past) in
     let same = length-deciders past in omega (arith, few, rest, same, given)
 
-decides_first : (g : Group) (past : List Entry) (queue : List Proposal) → 0 < length queue → length (deciders (record { event = Check; reply = check_reply g past queue } ∷ past)) ≡ length (deciders past) + 1
-decides_first g past [] some = absurd (omega (arith, some))
-decides_first g past (p ∷ ps) some = length-append (deciders past) ((length past + 1) ∷ [])
-
--- where a ticket is pending, a check decides the oldest
-check_decides : (g : Group) (ticket : ℕ) (past : List Entry) → IsGiven ticket past → length (deciders past) < ticket → length (deciders (entry_after g past Check ∷ past)) ≡ length (deciders past) + 1
-check_decides g ticket past given waits =
-    let rest = length-drop (length (verdicts past)) (proposals past) in
-    let same = length-deciders past in
-    decides_first g past (pending past) (omega (arith, rest, same, given, waits))
-
 -- what a hold entered, where the journal behind it is known
-none_put : (number : ℕ) (es : List Entry) (mid after : List Made) → after ≡ mid ++ tagged number es → past_in after ≡ past_in mid → length es ≡ 0
+pub none_put : (number : ℕ) (es : List Entry) (mid after : List Made) → after ≡ mid ++ tagged number es → past_in after ≡ past_in mid → length es ≡ 0
 none_put number es mid after all same =
     omega (arith, ap length same, length_past after, length_past mid, ap length all, length-append mid (tagged number es), length_tagged number es)
 
-one_put : (number : ℕ) (es : List Entry) (mid after : List Made) (e : Entry) → after ≡ mid ++ tagged number es → past_in after ≡ e ∷ past_in mid → es ≡ e ∷ []
+pub one_put : (number : ℕ) (es : List Entry) (mid after : List Made) (e : Entry) → after ≡ mid ++ tagged number es → past_in after ≡ e ∷ past_in mid → es ≡ e ∷ []
 one_put number es mid after e all one =
     let whole : reverse es ++ past_in mid ≡ (e ∷ []) ++ past_in mid = sym (past_more mid number es) ∙ (ap past_in (sym all) ∙ one) in
     sym (reverse-reverse es) ∙ ap reverse (append_cancel_right (reverse es) (e ∷ []) (past_in mid) whole)
 
-no_numbers : (was : List ℕ) (n k : ℕ) → k ≡ 0 → was ++ numbers n k ≡ was
+pub no_numbers : (was : List ℕ) (n k : ℕ) → k ≡ 0 → was ++ numbers n k ≡ was
 no_numbers was n zero e = append-nil was
 no_numbers was n (suc k) e = absurd (omega (arith, e))
 
-is_decided-at : (ticket n : ℕ) → nat_le ticket n ≡ true → ticket ≤ n
+pub is_decided-at : (ticket n : ℕ) → nat_le ticket n ≡ true → ticket ≤ n
 is_decided-at ticket n is = grind (arith, is, nat_tests)
 
-is_pending-at : (ticket n : ℕ) → nat_le ticket n ≡ false → n < ticket
+pub is_pending-at : (ticket n : ℕ) → nat_le ticket n ≡ false → n < ticket
 is_pending-at ticket n is = grind (arith, is, nat_tests)
 
--- what was told of the ticket, where the line has the room's journal
-pub told_of : (ticket : ℕ) (xs ys : List Entry) (told is : Bool) → xs ≡ ys → told ≡ is_decided ticket ys → told ≡ is → is_decided ticket xs ≡ is
-told_of ticket xs ys told is same e here = ap (is_decided ticket) same ∙ (sym e ∙ here)
-
--- a hold that found the ticket decided
-pub checked_over : (g : Group) (ticket number : ℕ) (going : Going) (mid before : List Made) (was : List ℕ) (after : List Made) (now : List ℕ)
-    → Enters (check_course ticket g) going number mid before was after now → is_decided ticket (past_in mid) ≡ true → ChecksFor Over g ticket number before was after now
-checked_over g ticket number going mid before was after now e is =
-    let past = past_in mid in
-    let run : run_from past ≡ record { past = past_in after; stopped = is_full going } = sym (ap (λ b. if b then run_from past else enter g (run_from past) Check) is) ∙ e.run in
-    let same : past_in after ≡ past = sym (ap (λ (r : Run). r.past) run) in
-    let none = none_put number e.entries mid after e.puts.1 same in
-    let low = is_decided-at ticket (length (deciders past)) is in
-    (prefix_trans before mid after e.puts.0 (tagged number e.entries, sym e.puts.1), e.puts.2 ∙ no_numbers was (length mid) (length e.entries) none, omega (arith, low, ap (λ es. length (deciders es)) same))
-
 -- a check that had room
-entered_one : (past after : List Entry) (entry : Entry) (room : Bool) → entered (run_from past) entry false room ≡ record { past = after; stopped = false } → after ≡ entry ∷ past
+pub entered_one : (past after : List Entry) (entry : Entry) (room : Bool) → entered (run_from past) entry false room ≡ record { past = after; stopped = false } → after ≡ entry ∷ past
 entered_one past after entry true is = sym (ap (λ (r : Run). r.past) is)
 entered_one past after entry false is = let stopped : true ≡ false = ap (λ (r : Run). r.stopped) is in absurd (cc stopped)
-
--- a hold that found the ticket pending, and entered its check
-pub checked_went : (g : Group) (ticket number : ℕ) (mid before : List Made) (was : List ℕ) (after : List Made) (now : List ℕ)
-    → Enters (check_course ticket g) On number mid before was after now → is_decided ticket (past_in mid) ≡ false → IsLegal g (past_in mid) → IsGiven ticket (past_in before) → WentOn g ticket number before was after now
-checked_went g ticket number mid before was after now e is legal given =
-    let past = past_in mid in
-    let entry = entry_after g past Check in
-    let run : enter g (run_from past) Check ≡ record { past = past_in after; stopped = false } = sym (ap (λ b. if b then run_from past else enter g (run_from past) Check) is) ∙ e.run in
-    let one : past_in after ≡ entry ∷ past = entered_one past (past_in after) entry (nat_lt (length past) MAX_ENTRIES) run in
-    let only : e.entries ≡ entry ∷ [] = one_put number e.entries mid after entry e.puts.1 one in
-    let here : IsGiven ticket past = given_later ticket before mid e.puts.0 given in
-    let waits = is_pending-at ticket (length (deciders past)) is in
-    let more = check_decides g ticket past here waits in
-    record {
-      seen = mid;
-      later = e.puts.0;
-      within = (tagged number e.entries, sym e.puts.1);
-      pending = waits;
-      near = near_all g ticket past legal here;
-      decided = omega (arith, more, ap (λ es. length (deciders es)) one);
-      made = inr (prefix_self mid, e.puts.1 ∙ ap (λ es. mid ++ tagged number es) only, e.puts.2 ∙ ap (λ (es : List Entry). was ++ numbers (length mid) (length es)) only);
-    }
 
 -- each check that was made leaves a ticket fewer before this one
 pub fewer_left : (g : Group) (ticket number k : ℕ) (mid : List Made) (was : List ℕ) (after : List Made) (now : List ℕ) → WentOn g ticket number mid was after now

@@ -1,8 +1,8 @@
 -- What several holds leave together.
 use Rattle.std.proofs.Common.{◌≡◌, ◌⊎◌, ℕ, zero, suc, ◌+◌, ◌*◌, ◌<◌, ◌≤◌, List, [], ◌∷◌, ◌++◌, length, take, get_or, refl, ap, sym, subst, ◌∙◌, arith, append_assoc, length-append}
-use Rattle.std.specs.Prelude.{not, Bool}
+use Rattle.std.specs.Prelude.{drop, not, Bool}
 use Rattle.std.specs.List.{filter}
-use Rattle.std.proofs.lemmas.List.{append-nil}
+use Rattle.std.proofs.lemmas.List.{append-nil, take_more, take-append-drop}
 use Rattle.std.proofs.Math.Seq.{take-suc}
 use mathlib.Core.List.{IsPrefix}
 use Rattle.st_net.specs.declared.entity.Entity.{Entity}
@@ -16,7 +16,7 @@ use Rattle.st_event.specs.Services.{entry_after}
 use Rattle.st_wire.specs.declared.line.WireLine.{WireLine}
 use Rattle.st_world.specs.Rounds.{Run, run_from, unsettled}
 use Rattle.st_world.specs.declared.world.rounds.Going.{Going}
-use Rattle.st_world.specs.declared.world.rounds.Going.TheVariants.{On}
+use Rattle.st_world.specs.declared.world.rounds.Going.TheVariants.{On, Full}
 use Rattle.st_board.proofs.Prefixes.{prefix_self, prefix_trans, prefix_length}
 use Rattle.st_service.specs.declared.work.Part.{Part}
 use Rattle.st_service.specs.declared.work.Part.TheVariants.{Whole}
@@ -26,7 +26,7 @@ use Rattle.st_service.specs.Made.{Made, past_in}
 use Rattle.st_service.specs.Lines.{numbers}
 use Rattle.st_service.specs.Passes.{Holder, front_at, mine_at, reader_at}
 use Rattle.st_service.specs.Puts.{Puts, Enters}
-use Rattle.st_service.specs.Turns.{Turns, RoundOf, RoundsMade}
+use Rattle.st_service.specs.Turns.{Turns, ToFull, RoundOf, RoundsMade}
 use Rattle.st_service.specs.Works.{part_of}
 
 within_wider : (lo hi low high : ℕ) (ns : List ℕ) → low ≤ lo → hi ≤ high → AllWithin lo hi ns → AllWithin low high ns
@@ -104,6 +104,25 @@ turns_take part g lines p k es before at after was got now lt t q =
     let e : suc k ≡ k + 1 = omega arith in
     let l : take k es ++ get_or es k (Device 0) ∷ [] ≡ take (k + 1) es = sym (take-suc es k (Device 0) lt) ∙ ap (λ j. take j es) e in
     subst (λ xs. Turns part g lines p xs before was after now) l (turns_more part g lines p (get_or es k (Device 0)) (take k es) before at after was got now t q)
+
+-- the first so many, and the next, begin them
+begins_more : (es : List Entity) (k : ℕ) (d : Entity) → k < length es → IsPrefix (take k es ++ get_or es k d ∷ []) es
+begins_more es k d lt = (drop (k + 1) es, ap (λ l. l ++ drop (k + 1) es) (sym (take_more es k d lt)) ∙ take-append-drop (k + 1) es)
+
+-- where the next turn met a full journal
+pub turns_full : (part : Part) (g : Group) (lines : List WireLine) (p k : ℕ) (es : List Entity) (before at seen after : List Made) (was got now : List ℕ) → k < length es
+    → Turns part g lines p (take k es) before was at got → Enters (λ past. part_of part g lines (run_from past) (get_or es k (Device 0))) Full p seen at got after now
+    → ToFull part g lines p es before was after now
+turns_full part g lines p k es before at seen after was got now lt t e = record {
+  done = take k es;
+  last = get_or es k (Device 0);
+  begins = begins_more es k (Device 0) lt;
+  mid = at;
+  got = got;
+  turns = t;
+  seen = seen;
+  enters = e;
+}
 
 pub turns_later : (part : Part) (g : Group) (lines : List WireLine) (p : ℕ) (es : List Entity) (before mid after : List Made) (was now : List ℕ) → Turns part g lines p es before was mid now → IsPrefix mid after → Turns part g lines p es before was after now
 turns_later part g lines p [] before mid after was now t q = (prefix_trans before mid after t.0 q, t.1)

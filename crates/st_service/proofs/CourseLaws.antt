@@ -32,7 +32,7 @@ use Rattle.st_world.proofs.RunLaws.{entered}
 use Rattle.st_service.specs.declared.work.Part.{Part}
 use Rattle.st_service.specs.declared.work.Part.TheVariants.{Whole, Update, Monitor}
 use Rattle.st_service.specs.declared.work.Work.{Work}
-use Rattle.st_service.specs.declared.work.Work.TheVariants.{OneAct, CheckFor, Turn}
+use Rattle.st_service.specs.declared.work.Work.TheVariants.{OneAct, Commit, Turn}
 use Rattle.st_service.specs.Asked.{asker, is_own, all_own}
 use Rattle.st_service.specs.Rooms.{Adds}
 use Rattle.st_service.specs.Shares.{act_share, turn_share, work_share}
@@ -220,7 +220,7 @@ act-ran (Poll n entity) number g lines past one = part-ran Monitor g lines numbe
 -- each work
 pub work-ran : (work : Work) (number : ℕ) (g : Group) (lines : List WireLine) (past : List Entry) → WorkFits work g → Ran (decides work) number (work_share work g lines) past (course_at number work g lines past)
 work-ran (OneAct act) number g lines past fits = act-ran act.now number g lines past fits.1
-work-ran (CheckFor ticket) number g lines past fits = if_decided-ran g number past (is_decided ticket past)
+work-ran (Commit judged) number g lines past fits = if_decided-ran g number past (is_decided judged.now.ticket past)
 work-ran (Turn part entity) number g lines past fits = part-ran part g lines number past entity
 
 -- a part of what a run added

@@ -18,9 +18,11 @@ pub mod WorkedHolds
 pub mod WorkedChains
 pub mod WorkedActs
 pub mod WorkedRooms
+pub mod WorkedOffLock
 pub mod GivenLaws
 pub mod PlaceItems
 pub mod AwaitLaws
+pub mod OffLockLaws
 pub mod ActLaws
 pub mod ClosingLaws
 pub mod FreshLaws

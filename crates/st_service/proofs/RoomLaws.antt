@@ -21,10 +21,12 @@ use Rattle.st_world.specs.World.{WorldView, IsBeginning}
 use Rattle.st_world.specs.Rounds.{Run, is_full, IsPartOf}
 use Rattle.st_world.specs.declared.world.rounds.Going.{Going}
 use Rattle.st_world.proofs.RunLaws.{beginning-self}
+use Rattle.std.specs.Borrow.{Bor}
+use Rattle.st_control.specs.Basis.{JudgedView}
 use Rattle.st_board.specs.Published.{Published}
 use Rattle.st_board.proofs.Prefixes.{prefix_self, prefix_trans}
 use Rattle.st_service.specs.declared.work.Work.{Work}
-use Rattle.st_service.specs.declared.work.Work.TheVariants.{CheckFor}
+use Rattle.st_service.specs.declared.work.Work.TheVariants.{Commit}
 use Rattle.st_service.specs.Rooms.{Adds, IsRoom, RoomView}
 use Rattle.st_service.specs.Shares.{work_share}
 use Rattle.st_service.specs.Works.{WorkFits, course_at, decides}
@@ -117,12 +119,12 @@ legal_before g (e ∷ more) past legal = legal_before g more past legal.1
 pub rows_fit : (g h : Group) (d : Bool) (past : List Entry) (rows kept : List Row) → h ≡ g → d ≡ true → (d ≡ true → kept ≡ first_rows (pending past)) → rows ≡ kept → IsLegal g past → All (RowFits h) rows
 rows_fit g h d past rows kept same decides are is legal = rw (same, is, are decides) (next_fits g past legal)
 
--- a check that was refused entered nothing
-pub check_part : {T E : Type 0} (r : Result T E) (number : ℕ) (work : Work) (ticket : ℕ) (old new : WorldView) → work ≡ CheckFor ticket → OnErr r (new.history ≡ old.history) → OnErr r (IsPartOf old new (course_in number work old))
-check_part (Ok x) number work ticket old new is err = tt
-check_part (Err e) number work ticket old new is err =
-    let ran = work-ran (CheckFor ticket) number old.history.group old.lines old.history.past tt in
-    let part : IsPartOf old new (course_in number (CheckFor ticket) old) = record {
+-- a commit that was refused entered nothing
+pub commit_part : {T E : Type 0} (r : Result T E) (number : ℕ) (work : Work) (judged : Bor JudgedView) (old new : WorldView) → work ≡ Commit judged → OnErr r (new.history ≡ old.history) → OnErr r (IsPartOf old new (course_in number work old))
+commit_part (Ok x) number work judged old new is err = tt
+commit_part (Err e) number work judged old new is err =
+    let ran = work-ran (Commit judged) number old.history.group old.lines old.history.past tt in
+    let part : IsPartOf old new (course_in number (Commit judged) old) = record {
       began = ([], ap (λ (h : History). h.past) err);
       part = (ran.more, ran.all ∙ ap (λ (h : History). ran.more ++ h.past) (sym err));
     } in

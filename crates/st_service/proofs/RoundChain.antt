@@ -10,7 +10,7 @@ use Rattle.st_service.specs.Kept.{Grows, Kept}
 use Rattle.st_service.specs.Made.{Made, past_in}
 use Rattle.st_service.specs.Passes.{Holder, front_at}
 use Rattle.st_service.specs.Shares.{round_share, turn_share}
-use Rattle.st_service.specs.Turns.{Turns, RoundOf}
+use Rattle.st_service.specs.Turns.{Turns, ToFull, RoundOf, RoundToFull}
 use Rattle.st_service.proofs.ChainLaws.{kept_on, kept_self, same_mine, few_unsettled, turns_later, shares_within}
 
 -- the turns of the entities that are not settled lie within a round's share
@@ -44,3 +44,11 @@ round_made part g lines p number es before f mid after was here got now same loo
     let from : Turns part g lines number (unsettled g (past_in f)) f was mid got = subst (λ (l : List ℕ). Turns part g lines number (unsettled g (past_in f)) f l mid got) (same_mine before f was here look) listed in
     let to : Turns part g lines number (unsettled g (past_in f)) f was mid now = subst (λ (l : List ℕ). Turns part g lines number (unsettled g (past_in f)) f was mid l) (sym (same_mine mid after got now last)) from in
     (f, look.0, turns_later part g lines number (unsettled g (past_in f)) f mid after was now to last.0)
+
+-- or a round that met a full journal
+pub round_full : (part : Part) (g : Group) (lines : List WireLine) (p number : ℕ) (es : List Entity) (before f after : List Made) (was here now : List ℕ) → p ≡ number → Grows 0 before was f here → es ≡ unsettled g (past_in f)
+    → ToFull part g lines p es f here after now → RoundToFull part g lines number before was after now
+round_full part g lines p number es before f after was here now same look list t =
+    let own : ToFull part g lines number es f here after now = subst (λ (n : ℕ). ToFull part g lines n es f here after now) same t in
+    let listed : ToFull part g lines number (unsettled g (past_in f)) f here after now = subst (λ (l : List Entity). ToFull part g lines number l f here after now) list own in
+    (f, look.0, subst (λ (l : List ℕ). ToFull part g lines number (unsettled g (past_in f)) f l after now) (same_mine before f was here look) listed)

@@ -22,6 +22,7 @@ use Rattle.st_board.specs.Published.{Published}
 use Rattle.st_wire.specs.declared.line.WireKind.TheVariants.{Command}
 use Rattle.st_wire.specs.declared.line.WireLine.{WireLine}
 use Rattle.st_wire.specs.declared.line.WireLine.TheVariants.{Drop}
+use Rattle.st_control.specs.Basis.{JudgedView}
 use Rattle.st_world.specs.Acts.{ActFits, course_of}
 use Rattle.st_world.specs.Rounds.{Run, run_from}
 use Rattle.st_world.specs.declared.world.rounds.Going.TheVariants.{On}
@@ -29,14 +30,14 @@ use Rattle.st_board.proofs.Prefixes.{prefix_length, prefix_whole}
 use Rattle.st_service.specs.declared.acts.Acted.TheVariants.{Done, JournalFull}
 use Rattle.st_service.specs.declared.work.Part.{Part}
 use Rattle.st_service.specs.declared.work.Part.TheVariants.{Whole, Update, Monitor}
-use Rattle.st_service.specs.declared.work.Work.TheVariants.{OneAct, CheckFor, Turn}
+use Rattle.st_service.specs.declared.work.Work.TheVariants.{OneAct, Commit, Turn}
 use Rattle.st_service.specs.Acts.{HasRounds, ActEnters, ActLogs, ActTeaches, ActDone, Acts, CanDo}
 use Rattle.st_service.specs.Lines.{tagged, numbers}
 use Rattle.st_service.specs.Made.{Made, past_in}
 use Rattle.st_service.specs.Passes.{Holder, no_reader, Reads, IsTaught}
 use Rattle.st_service.specs.Puts.{Enters}
 use Rattle.st_service.specs.Shares.{turn_share, round_share, act_share, check_share, work_share}
-use Rattle.st_service.specs.Works.{IsDecided, IsGiven, is_decided, part_of, check_course, course_at, is_of_one_hold, WorkFits, act_decides, decides}
+use Rattle.st_service.specs.Works.{IsDecided, IsGiven, is_decided, part_of, check_course, course_at, is_of_one_hold, MayDo, WorkFits, act_decides, decides}
 use Rattle.st_service.proofs.Lines.{length_tagged, length_numbers}
 use Rattle.st_service.proofs.WorkedJournals.{small, a1, app, usual, firmware, made, then_by, proposed, decided, turned}
 use Rattle.st_service.proofs.WorkedChains.{as_many_as_asked, not_a_round_less, checked, one_check}
@@ -72,8 +73,11 @@ round_shares = (refl, refl, refl, refl)
 act_shares : map (λ act. act_share act pair one_line) each_act ≡ 2 ∷ 64 ∷ 42 ∷ 1 ∷ 1 ∷ 0 ∷ 0 ∷ 1 ∷ 3 ∷ []
 act_shares = refl
 
-work_shares : (check_share ≡ 1) × (work_share (CheckFor 9) small one_line ≡ 1) × (work_share (Turn Monitor a1) small one_line ≡ 3)
-work_shares = (refl, refl, refl)
+work_shares : (check_share ≡ 1) × (work_share (Turn Monitor a1) small one_line ≡ 3)
+work_shares = (refl, refl)
+
+share_of_a_commit : (judged : Bor JudgedView) → work_share (Commit judged) small one_line ≡ 1
+share_of_a_commit judged = refl
 
 share_of_an_act : (act : Bor Act) → work_share (OneAct act) pair one_line ≡ act_share act.now pair one_line
 share_of_an_act act = refl
@@ -113,8 +117,8 @@ checks = (refl, refl)
 course_of_a_turn : course_at 0 (Turn Whole a1) small [] (past_in decided) ≡ run_from (past_in turned)
 course_of_a_turn = refl
 
-course_of_a_check : course_at 0 (CheckFor 1) small [] (past_in proposed) ≡ run_from (past_in checked)
-course_of_a_check = refl
+course_of_a_commit : (judged : Bor JudgedView) → course_at 0 (Commit judged) small [] (past_in proposed) ≡ check_course judged.now.ticket small (past_in proposed)
+course_of_a_commit judged = refl
 
 course_of_an_act : (act : Bor Act) → course_at 4 (OneAct act) small [] (past_in decided) ≡ course_of (app 4) act.now small [] (run_from (past_in decided))
 course_of_an_act act = refl
@@ -134,8 +138,11 @@ one_hold = refl
 makes_checks : map act_decides each_act ≡ true ∷ false ∷ false ∷ false ∷ false ∷ false ∷ false ∷ false ∷ false ∷ []
 makes_checks = refl
 
-deciding_works : (decides (CheckFor 1) ≡ true) × (decides (Turn Whole a1) ≡ false) × (decides (Turn Update a1) ≡ false)
-deciding_works = (refl, refl, refl)
+deciding_works : (decides (Turn Whole a1) ≡ false) × (decides (Turn Update a1) ≡ false)
+deciding_works = (refl, refl)
+
+a_commit_decides : (judged : Bor JudgedView) → decides (Commit judged) ≡ true
+a_commit_decides judged = refl
 
 decides_as_its_act : (act : Bor Act) → decides (OneAct act) ≡ act_decides act.now
 decides_as_its_act act = refl
@@ -150,8 +157,15 @@ not_of_another_entity e = absurd (omega (arith, e))
 pub not_of_a_link : WorkFits (Turn Monitor (Link 0)) small → ⊥
 not_of_a_link e = absurd (omega (arith, e))
 
-pub check_fits : WorkFits (CheckFor 7) small
-check_fits = tt
+pub commit_fits : (judged : Bor JudgedView) → WorkFits (Commit judged) small
+commit_fits judged = tt
+
+-- it may be made of a ticket that was given, once each lower one is decided
+pub may_commit : (judged : Bor JudgedView) → judged.now.ticket ≡ 1 → MayDo (Commit judged) (past_in proposed)
+may_commit judged is = record { given = omega (arith, is); lower = omega (arith, is) }
+
+pub not_of_a_later_ticket : (judged : Bor JudgedView) → judged.now.ticket ≡ 2 → MayDo (Commit judged) (past_in proposed) → ⊥
+not_of_a_later_ticket judged is may = let few : judged.now.ticket ≤ 1 = may.given in absurd (omega (arith, is, few))
 
 pub lock_fits : (act : Bor Act) → act.now ≡ Lock 0 a1 Low → WorkFits (OneAct act) small
 lock_fits act is = rw is (omega arith, refl)

@@ -17,8 +17,9 @@ use Rattle.st_service.specs.declared.work.Part.TheVariants.{Whole, Update, Monit
 use Rattle.st_service.specs.Awaits.{WentOn, ChecksFor, Waits, WaitsOut, Awaits, Awaited}
 use Rattle.st_service.specs.Lines.{tagged}
 use Rattle.st_service.specs.Made.{Made, past_in, maker}
-use Rattle.st_service.specs.Puts.{Puts}
+use Rattle.st_service.specs.Puts.{Enters, Puts}
 use Rattle.st_service.specs.Turns.{Turns, Turned, RoundOf, RoundTold, RoundsMade, WasSettled, Settles, Settled}
+use Rattle.st_service.specs.Works.{part_of}
 use Rattle.st_service.proofs.ChainLaws.{rounds_later}
 use Rattle.st_service.proofs.WorkedJournals.{small, a1, app, firmware, idle, made, then_by, proposed, decided, turned}
 
@@ -110,15 +111,25 @@ stood_still before was now t =
 pub not_an_empty_turn : (was now : List ℕ) → Turns Whole small [] 0 (a1 ∷ []) decided was decided now → ⊥
 not_an_empty_turn was now t = absurd (omega (arith, ap length (stood_still decided was now t)))
 
+-- the switch's turn met a full journal
+abbrev MetFull : List Made → List ℕ → List Made → List ℕ → Type 0
+MetFull before was after now = (seen : List Made) × Enters (λ past. part_of Whole small [] (run_from past) a1) Full 0 seen before was after now
+
 -- as many as the journal had room for: then it is full
 pub turned_on : Turned On Whole small [] 0 (a1 ∷ []) decided (0 ∷ []) turned (0 ∷ 2 ∷ 3 ∷ 4 ∷ 5 ∷ 6 ∷ [])
 turned_on = one_turn
 
-pub turned_full : (after : List Made) → length after ≡ MAX_ENTRIES → Turned Full Whole small [] 0 (a1 ∷ []) decided (0 ∷ []) after (0 ∷ [])
-turned_full after full = full
+pub turned_full : (after : List Made) (now : List ℕ) → MetFull decided (0 ∷ []) after now → Turned Full Whole small [] 0 (a1 ∷ []) decided (0 ∷ []) after now
+turned_full after now met = record { done = []; last = a1; begins = ([], refl); mid = decided; got = 0 ∷ []; turns = (([], refl), refl); seen = met.0; enters = met.1 }
 
 pub not_turned_full : Turned Full Whole small [] 0 (a1 ∷ []) decided (0 ∷ []) turned (0 ∷ 2 ∷ 3 ∷ 4 ∷ 5 ∷ 6 ∷ []) → ⊥
-not_turned_full t = absurd (omega (arith, t))
+not_turned_full t = absurd (omega (arith, t.enters.full refl))
+
+-- of no entity no event met it
+pub not_turned_of_none : (after : List Made) (now : List ℕ) → Turned Full Whole small [] 0 [] decided (0 ∷ []) after now → ⊥
+not_turned_of_none after now t =
+    let ends = length-append (t.done ++ t.last ∷ []) t.begins.0 in
+    absurd (omega (arith, ends, ap length t.begins.1, length-append t.done (t.last ∷ [])))
 
 -- Rounds
 
@@ -161,11 +172,11 @@ pub not_told_without_it : RoundTold (Did 1) Whole small [] 0 decided (0 ∷ []) 
 not_told_without_it r = not_left_out (0 ∷ []) (0 ∷ []) r.0
 
 -- or that the journal is full, and of how many entries
-pub told_full : (after : List Made) → length after ≡ MAX_ENTRIES → RoundTold (JournalFull 200000) Whole small [] 0 decided (0 ∷ []) after (0 ∷ [])
-told_full after full = (full, refl)
+pub told_full : (after : List Made) (now : List ℕ) → MetFull decided (0 ∷ []) after now → RoundTold (JournalFull 200000) Whole small [] 0 decided (0 ∷ []) after now
+told_full after now met = ((decided, ([], refl), turned_full after now met), refl)
 
 pub not_told_full : RoundTold (JournalFull 200000) Whole small [] 0 decided (0 ∷ []) turned (0 ∷ 2 ∷ 3 ∷ 4 ∷ 5 ∷ 6 ∷ []) → ⊥
-not_told_full r = absurd (omega (arith, r.0))
+not_told_full r = absurd (omega (arith, r.0.2.enters.full refl))
 
 pub not_full_of_less : (after : List Made) → RoundTold (JournalFull 7) Whole small [] 0 decided (0 ∷ []) after (0 ∷ []) → ⊥
 not_full_of_less after r = absurd (omega (arith, r.1))

@@ -3,9 +3,15 @@ use Rattle.std.specs.Prelude.{ℕ, zero, suc, ◌≡◌, ◌⊎◌, ◌+◌, ◌
 use mathlib.Core.List.{IsPrefix}
 use Rattle.st_net.specs.Groups.{Group}
 use Rattle.st_event.specs.declared.event.Event.TheVariants.{Check}
+use Rattle.st_event.specs.declared.journal.Entry.{Entry}
 use Rattle.st_event.specs.declared.journal.TheConstants.{MAX_ENTRIES, MAX_PENDING}
 use Rattle.st_event.specs.Proposals.{deciders}
 use Rattle.st_event.specs.Services.{entry_after}
+use Rattle.st_control.specs.declared.control.Begin.{Begin}
+use Rattle.st_control.specs.declared.control.Begin.TheVariants.{Basis, Idle}
+use Rattle.st_world.specs.declared.world.commits.Committed.{Committed}
+use Rattle.st_world.specs.declared.world.commits.Committed.TheVariants.{Did, Gone, JournalFull}
+use Rattle.st_world.specs.Commits.{IsBasisAt}
 use Rattle.st_service.specs.declared.awaits.Checked.{Checked}
 use Rattle.st_service.specs.declared.awaits.Checked.TheVariants.{Over, Went, Full}
 use Rattle.st_world.specs.declared.world.rounds.Going.{Going}
@@ -24,6 +30,17 @@ pub record WentOn (g : Group) (ticket number : ℕ) (before : List Made) (was : 
   pub near : ticket ≤ length (deciders (past_in seen)) + MAX_PENDING
   pub decided : length (deciders (past_in seen)) < length (deciders (past_in after))
   pub made : (now ≡ was) ⊎ Puts number (entry_after g (past_in seen) Check ∷ []) seen seen was after now
+
+-- what is taken for a check while a ticket is pending, among 64 at the most: a basis of the oldest; or the ticket is decided
+abbrev pub BeginsFor : ℕ → Group → List Entry → Begin → Type 0
+BeginsFor ticket g past (Basis basis) = IsBasisAt g past basis × (length (deciders past) < ticket) × (ticket ≤ length (deciders past) + MAX_PENDING)
+BeginsFor ticket g past Idle = IsDecided ticket past
+
+-- what a check comes to by its commit
+abbrev pub checked_of : Committed → Checked
+checked_of (Did receipt) = Went
+checked_of (Gone entry) = Went
+checked_of (JournalFull entries) = Full
 
 -- the answers of one check for a ticket
 abbrev pub ChecksFor : Checked → Group → ℕ → ℕ → List Made → List ℕ → List Made → List ℕ → Type 0

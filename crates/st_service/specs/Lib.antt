@@ -10,6 +10,7 @@ pub mod Passes
 pub mod Kept
 pub mod Turns
 pub mod Awaits
+pub mod OffLock
 pub mod Asked
 pub mod Acts
 pub mod Closed

@@ -9,7 +9,7 @@ use Rattle.st_wire.specs.declared.line.WireLine.{WireLine}
 use Rattle.st_service.specs.declared.work.Part.{Part}
 use Rattle.st_service.specs.declared.work.Part.TheVariants.{Whole, Update, Monitor}
 use Rattle.st_service.specs.declared.work.Work.{Work}
-use Rattle.st_service.specs.declared.work.Work.TheVariants.{OneAct, CheckFor, Turn}
+use Rattle.st_service.specs.declared.work.Work.TheVariants.{OneAct, Commit, Turn}
 
 -- an entity's turn, or a half of it, where a loss plan has these lines
 abbrev pub turn_share : Part → List WireLine → ℕ
@@ -40,5 +40,5 @@ check_share = 1
 -- what is entered under one hold
 abbrev pub work_share : Work → Group → List WireLine → ℕ
 work_share (OneAct act) g lines = act_share act.now g lines
-work_share (CheckFor ticket) g lines = check_share
+work_share (Commit judged) g lines = check_share
 work_share (Turn part entity) g lines = turn_share part lines

@@ -1,5 +1,5 @@
 -- What rounds leave: each entity's turn as consecutive entries, each under a hold of its own.
-use Rattle.std.specs.Prelude.{ℕ, zero, suc, ◌≡◌, ◌⊎◌, ◌≤◌, List, [], ◌∷◌, length}
+use Rattle.std.specs.Prelude.{ℕ, zero, suc, ◌≡◌, ◌⊎◌, ◌≤◌, List, [], ◌∷◌, ◌++◌, length}
 use mathlib.Core.List.{IsPrefix}
 use Rattle.st_net.specs.declared.entity.Entity.{Entity}
 use Rattle.st_net.specs.Groups.{Group}
@@ -22,19 +22,34 @@ Turns part g lines number [] before was after now = IsPrefix before after × (no
 Turns part g lines number (e ∷ es) before was after now =
     (mid : List Made) × (next : List Made) × (got : List ℕ) × Enters (λ past. part_of part g lines (run_from past) e) On number mid before was next got × Turns part g lines number es next got after now
 
+-- the turns of a beginning of these entities, of the last of which as much as the journal had room for
+pub record ToFull (part : Part) (g : Group) (lines : List WireLine) (number : ℕ) (es : List Entity) (before : List Made) (was : List ℕ) (after : List Made) (now : List ℕ) : Type 0 where
+  pub done : List Entity
+  pub last : Entity
+  pub begins : IsPrefix (done ++ last ∷ []) es
+  pub mid : List Made
+  pub got : List ℕ
+  pub turns : Turns part g lines number done before was mid got
+  pub seen : List Made
+  pub enters : Enters (λ past. part_of part g lines (run_from past) last) Full number seen mid got after now
+
 -- all of them, or as many as the journal had room for
 abbrev pub Turned : Going → Part → Group → List WireLine → ℕ → List Entity → List Made → List ℕ → List Made → List ℕ → Type 0
 Turned On part g lines number es before was after now = Turns part g lines number es before was after now
-Turned Full part g lines number es before was after now = length after ≡ MAX_ENTRIES
+Turned Full part g lines number es before was after now = ToFull part g lines number es before was after now
 
 -- the turns of the entities that are not settled in one front that was seen
 abbrev pub RoundOf : Part → Group → List WireLine → ℕ → List Made → List ℕ → List Made → List ℕ → Type 0
 RoundOf part g lines number before was after now = (f : List Made) × IsPrefix before f × Turns part g lines number (unsettled g (past_in f)) f was after now
 
--- and what is told of them: how many entities are not settled in the new front
+-- those turns, as far as the journal had room
+abbrev pub RoundToFull : Part → Group → List WireLine → ℕ → List Made → List ℕ → List Made → List ℕ → Type 0
+RoundToFull part g lines number before was after now = (f : List Made) × IsPrefix before f × ToFull part g lines number (unsettled g (past_in f)) f was after now
+
+-- and what is told of them: how many entities are not settled in the new front, or that an event met a full journal
 abbrev pub RoundTold : Rounded → Part → Group → List WireLine → ℕ → List Made → List ℕ → List Made → List ℕ → Type 0
 RoundTold (Did count) part g lines number before was after now = RoundOf part g lines number before was after now × (count ≡ length (unsettled g (past_in after)))
-RoundTold (JournalFull entries) part g lines number before was after now = (length after ≡ MAX_ENTRIES) × (entries ≡ MAX_ENTRIES)
+RoundTold (JournalFull entries) part g lines number before was after now = RoundToFull part g lines number before was after now × (entries ≡ MAX_ENTRIES)
 
 -- so many rounds, one after another
 abbrev pub RoundsMade : Group → List WireLine → ℕ → ℕ → List Made → List ℕ → List Made → List ℕ → Type 0

@@ -9,11 +9,12 @@ use Rattle.st_event.specs.declared.journal.Entry.{Entry}
 use Rattle.st_event.specs.Proposals.{deciders, proposals}
 use Rattle.st_wire.specs.declared.line.WireLine.{WireLine}
 use Rattle.st_world.specs.Acts.{ActFits, course_of}
+use Rattle.st_world.specs.Commits.{MayCommit}
 use Rattle.st_world.specs.Rounds.{Run, run_from, enter, update_turn, poll, turn}
 use Rattle.st_service.specs.declared.work.Part.{Part}
 use Rattle.st_service.specs.declared.work.Part.TheVariants.{Whole, Update, Monitor}
 use Rattle.st_service.specs.declared.work.Work.{Work}
-use Rattle.st_service.specs.declared.work.Work.TheVariants.{OneAct, CheckFor, Turn}
+use Rattle.st_service.specs.declared.work.Work.TheVariants.{OneAct, Commit, Turn}
 
 -- the ticket is decided in this journal
 abbrev pub IsDecided : ℕ → List Entry → Type 0
@@ -32,15 +33,15 @@ part_of Whole g lines run e = turn g lines run e
 part_of Update g lines run e = update_turn g lines run e
 part_of Monitor g lines run e = poll g lines run e
 
--- a check, unless the ticket is decided
+-- a check for a ticket, unless it is decided
 abbrev pub check_course : ℕ → Group → List Entry → Run
 check_course ticket g past = if is_decided ticket past then run_from past else enter g (run_from past) Check
 
--- the course of a work of the pass of this number, where this is the journal: an act's own course; a check, unless the ticket is decided; an
+-- the course of a work of the pass of this number, where this is the journal: an act's own course; the check that a ticket was judged for; an
 -- entity's turn
 abbrev pub course_at : ℕ → Work → Group → List WireLine → List Entry → Run
 course_at number (OneAct act) g lines past = course_of (record { 0 = number }) act.now g lines (run_from past)
-course_at number (CheckFor ticket) g lines past = check_course ticket g past
+course_at number (Commit judged) g lines past = check_course judged.now.ticket g past
 course_at number (Turn part entity) g lines past = part_of part g lines (run_from past) entity
 
 -- an act that is made under one hold
@@ -57,8 +58,14 @@ is_of_one_hold (Poll n entity) = true
 
 abbrev pub WorkFits : Work → Group → Type 0
 WorkFits (OneAct act) g = ActFits act.now g × (is_of_one_hold act.now ≡ true)
-WorkFits (CheckFor ticket) g = Unit {0}
+WorkFits (Commit judged) g = Unit {0}
 WorkFits (Turn part entity) g = IsEntityOf g entity
+
+-- where this is the journal, what was judged may be committed
+abbrev pub MayDo : Work → List Entry → Type 0
+MayDo (OneAct act) past = Unit {0}
+MayDo (Commit judged) past = MayCommit past judged.now.ticket
+MayDo (Turn part entity) past = Unit {0}
 
 -- an act that may make a check, and a work
 abbrev pub act_decides : Act → Bool
@@ -74,5 +81,5 @@ act_decides (Poll n entity) = false
 
 abbrev pub decides : Work → Bool
 decides (OneAct act) = act_decides act.now
-decides (CheckFor ticket) = true
+decides (Commit judged) = true
 decides (Turn part entity) = false

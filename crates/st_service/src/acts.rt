@@ -22,6 +22,7 @@ use st_world::{Going, group_number};
 use std::alloc::{AllocError, Global};
 use std::sync::Wait;
 use std::sync::ledger::Ledger;
+use std::thread::Threads;
 
 /// The answer to an act.
 #[derive(Clone, Copy, Debug, PartialEq, Eq)]
@@ -34,10 +35,11 @@ pub enum Acted {
 
 impl<J: Naming, L: Ledger, H: Wait + Drop> Service<J, L, H> {
     /// Does an act for the pass of an application. An act that takes the lock of a room teaches the pass the room's latest front, and
-    /// what that accepts; a read takes no lock, and the gate is called behind it. Entries made before a refusal stand, and are in the
-    /// pass's list. Where a publication is refused the room is spent: this call answers want of memory, and so does each later call that
-    /// takes its lock, which enters nothing. A read goes on. It may wait for the room, and for readers.
-    pub fn step_app<R: Wait, G: Gate>(
+    /// what that accepts; a read takes no lock, and the gate is called behind it; the checks of an await are judged off the lock, and the
+    /// gate is called before each. Entries made before a refusal stand, and are in the pass's list. Where a publication is refused the
+    /// room is spent: this call answers want of memory, and so does each later call that takes its lock, which enters nothing. A read goes
+    /// on. It may wait for the room, and for readers.
+    pub fn step_app<R: Threads + Wait + Sync, G: Gate>(
         &self,
         rt: &R,
         alloc: Global,
@@ -60,7 +62,7 @@ impl<J: Naming, L: Ledger, H: Wait + Drop> Service<J, L, H> {
     }
 
     /// Does an act for a pass. At `Full` an event met the journal of its group full.
-    fn act<R: Wait, G: Gate>(
+    fn act<R: Threads + Wait + Sync, G: Gate>(
         &self,
         rt: &R,
         alloc: Global,
@@ -77,7 +79,7 @@ impl<J: Naming, L: Ledger, H: Wait + Drop> Service<J, L, H> {
     {
         let group = group_number(act) as usize;
         match act {
-            Act::Await { .. } => self.await_latest(rt, alloc, pass, group),
+            Act::Await { .. } => self.await_latest(rt, alloc, pass, group, gate),
             Act::Settle { rounds, .. } => self.settle(rt, alloc, pass, group, *rounds),
             Act::Read { entity, var, .. } => {
                 pass.read(group, *entity, *var)?;

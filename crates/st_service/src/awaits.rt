@@ -1,9 +1,9 @@
-//! Awaiting a proposal's decision: a pass checks while its latest ticket in a room is pending. The loop is over one call of one check, so
-//! that a check may be judged away from the lock with nothing else changed.
+//! Awaiting a proposal's decision: a pass checks while its latest ticket in a room is pending. Each check is judged off the lock, after the
+//! lock showed that the ticket is pending; the loop is over one call of one check.
 
 ghost use Rattle.std.specs.Prelude.{◌≡◌, ◌<◌, length, IfOk};
 ghost use Rattle.st_event.specs.declared.journal.TheConstants.{MAX_PENDING as most_pending};
-ghost use Rattle.st_service.specs.Awaits.{ChecksFor, Awaited};
+ghost use Rattle.st_service.specs.Awaits.{BeginsFor, ChecksFor, Awaited, checked_of};
 ghost use Rattle.st_service.specs.Kept.{Kept};
 ghost use Rattle.st_service.specs.Made.{past_in};
 ghost use Rattle.st_service.specs.Passes.{front_at, mine_at, IsTaught};
@@ -14,12 +14,14 @@ use crate::locked::Locked;
 use crate::naming::Naming;
 use crate::pass::Pass;
 use crate::service::Service;
-use crate::work::Work;
+use st_control::Begin;
+use st_crew::Gate;
 use st_event::MAX_PENDING;
-use st_world::Going;
+use st_world::{Committed, Going};
 use std::alloc::{AllocError, Global};
 use std::sync::Wait;
 use std::sync::ledger::Ledger;
+use std::thread::Threads;
 
 /// The answer to one check for a ticket.
 #[derive(Clone, Copy, Debug, PartialEq, Eq)]
@@ -28,46 +30,73 @@ pub enum Checked {
     Over,
     /// It was pending, and the ticket that was then the oldest is decided now.
     Went,
-    /// It is pending, and the journal is full.
+    /// It was pending, and the journal is full.
     Full,
 }
 
-/// Makes one check in a room that is lent to a pass, unless the ticket is decided.
-fn check_in<J: Naming, L: Ledger, H: Wait + Drop>(
-    alloc: Global,
-    pass: &mut Pass<J, L>,
-    room: &mut Locked<J, L, H>,
-    ticket: u32,
-) -> Result<Checked, AllocError>
-    requires room { room.old.group < length pass.old.fronts }
-    requires given { IsGiven ticket (past_in (front_at pass.old.fronts room.old.group)) }
-    ensures kept { Kept pass.old pass.new room.old.group 1 }
-    ensures log { pass.new.log ≡ pass.old.log }
-    ensures checked { IfOk result (λ checked. ChecksFor checked (J.group room.old.group) ticket pass.old.number (front_at pass.old.fronts room.old.group) (mine_at pass.old.mines room.old.group) (front_at pass.new.fronts room.old.group) (mine_at pass.new.mines room.old.group)) }
-    ensures reads { IfOk result (λ _. IsTaught pass.new room.old.group) }
+/// What one check comes to by its commit.
+fn checked_by(committed: &Committed) -> Checked
+    ensures { result ≡ checked_of committed.now }
 {
-    // In a room whose line lacks an entry, the journal is not what the line says.
-    if room.lost {
-        return Err(AllocError);
-    }
-    room.room.is_legal();
-    let is_over = room.room.is_decided(ticket);
-    match pass.work_in(alloc, room, Work::CheckFor(ticket))? {
-        Going::On if is_over => Ok(Checked::Over),
-        Going::On => Ok(Checked::Went),
-        Going::Full => Ok(Checked::Full),
+    match committed {
+        Committed::Did(_) | Committed::Gone { .. } => Checked::Went,
+        Committed::JournalFull { .. } => Checked::Full,
     }
 }
 
+/// What the oldest proposal is judged on in a room that is lent to a pass, while a ticket is pending there. `Idle` where it is decided.
+fn begin_for_in<J: Naming, L: Ledger, H: Wait + Drop>(
+    pass: &mut Pass<J, L>,
+    room: &Locked<J, L, H>,
+    ticket: u32,
+) -> Result<Begin, AllocError>
+    requires room { room.now.group < length pass.old.fronts }
+    requires given { IsGiven ticket (past_in (front_at pass.old.fronts room.now.group)) }
+    ensures kept { Kept pass.old pass.new room.now.group 0 }
+    ensures log { pass.new.log ≡ pass.old.log }
+    ensures begins { IfOk result (BeginsFor ticket (J.group room.now.group) (past_in (front_at pass.new.fronts room.now.group))) }
+    ensures reads { IfOk result (λ _. IsTaught pass.new room.now.group) }
+{
+    room.room.is_legal();
+    if room.room.is_decided(ticket) {
+        pass.look_in(room)?;
+        return Ok(Begin::Idle);
+    }
+    pass.begin_in(room)
+}
+
 impl<J: Naming, L: Ledger, H: Wait + Drop> Service<J, L, H> {
-    /// Makes one check in a room, unless the ticket is decided. It may wait for the room.
-    fn check_for<R: Wait>(
+    /// What the oldest proposal of a room is judged on, while a ticket is pending there. It may wait for the room.
+    fn begin_for<R: Wait>(
+        &self,
+        rt: &R,
+        pass: &mut Pass<J, L>,
+        group: usize,
+        ticket: u32,
+    ) -> Result<Begin, AllocError>
+        requires room { (group < length self.now.rooms.items) × (length pass.old.fronts ≡ length self.now.rooms.items) }
+        requires given { IsGiven ticket (past_in (front_at pass.old.fronts group)) }
+        ensures kept { Kept pass.old pass.new group 0 }
+        ensures log { pass.new.log ≡ pass.old.log }
+        ensures begins { IfOk result (BeginsFor ticket (J.group group) (past_in (front_at pass.new.fronts group))) }
+        ensures reads { IfOk result (λ _. IsTaught pass.new group) }
+    {
+        let room = self.rooms[group].lock(rt);
+        if room.group != group {
+            return Err(AllocError);
+        }
+        begin_for_in(pass, &room, ticket)
+    }
+
+    /// Makes one check in a room off the lock, unless the ticket is decided. It may wait for the room, and for readers.
+    fn check_for<R: Threads + Wait + Sync, G: Gate>(
         &self,
         rt: &R,
         alloc: Global,
         pass: &mut Pass<J, L>,
         group: usize,
         ticket: u32,
+        gate: &G,
     ) -> Result<Checked, AllocError>
         requires room { (group < length self.now.rooms.items) × (length pass.old.fronts ≡ length self.now.rooms.items) }
         requires given { IsGiven ticket (past_in (front_at pass.old.fronts group)) }
@@ -76,21 +105,25 @@ impl<J: Naming, L: Ledger, H: Wait + Drop> Service<J, L, H> {
         ensures checked { IfOk result (λ checked. ChecksFor checked (J.group group) ticket pass.old.number (front_at pass.old.fronts group) (mine_at pass.old.mines group) (front_at pass.new.fronts group) (mine_at pass.new.mines group)) }
         ensures reads { IfOk result (λ _. IsTaught pass.new group) }
     {
-        let mut room = self.rooms[group].lock(rt);
-        if room.group != group {
-            return Err(AllocError);
+        let begun = self.begin_for(rt, pass, group, ticket)?;
+        match begun {
+            Begin::Basis(basis) => {
+                let committed = self.decide(rt, alloc, pass, group as u32, basis, gate)?;
+                Ok(checked_by(&committed))
+            }
+            Begin::Idle => Ok(Checked::Over),
         }
-        check_in(alloc, pass, &mut room, ticket)
     }
 
     /// Checks while the latest ticket of a pass in a room is pending, 64 times at the most: no more are pending, and each check decides
     /// the oldest. Nothing is done where the pass made no proposal there.
-    pub(crate) fn await_latest<R: Wait>(
+    pub(crate) fn await_latest<R: Threads + Wait + Sync, G: Gate>(
         &self,
         rt: &R,
         alloc: Global,
         pass: &mut Pass<J, L>,
         group: usize,
+        gate: &G,
     ) -> Result<Going, AllocError>
         requires room { (group < length self.now.rooms.items) × (length pass.old.fronts ≡ length self.now.rooms.items) }
         ensures kept { Kept pass.old pass.new group most_pending }
@@ -103,7 +136,7 @@ impl<J: Naming, L: Ledger, H: Wait + Drop> Service<J, L, H> {
             return Ok(Going::On);
         };
         for _check in 0..MAX_PENDING as u32 {
-            match self.check_for(rt, alloc, pass, group, ticket)? {
+            match self.check_for(rt, alloc, pass, group, ticket, gate)? {
                 Checked::Over => return Ok(Going::On),
                 Checked::Went => {}
                 Checked::Full => return Ok(Going::Full),

@@ -7,6 +7,7 @@ ghost use Rattle.st_net.specs.Groups.{IsEntityOf};
 ghost use Rattle.st_event.specs.Legal.{IsLegal};
 ghost use Rattle.st_event.specs.Proposals.{accepted};
 ghost use Rattle.st_world.specs.Acts.{seen_at as seen_at_lem};
+ghost use Rattle.st_world.specs.Commits.{Begins};
 ghost use Rattle.st_world.specs.Rounds.{unsettled as unsettled_lem};
 ghost use Rattle.st_service.specs.Kept.{Grows};
 ghost use Rattle.st_service.specs.Lines.{flat};
@@ -14,13 +15,14 @@ ghost use Rattle.st_service.specs.Made.{past_in};
 ghost use Rattle.st_service.specs.Puts.{Enters, EntersOrNot};
 ghost use Rattle.st_service.specs.Rooms.{IsOpen, IsShut, WasRefused};
 ghost use Rattle.st_service.specs.Shares.{work_share};
-ghost use Rattle.st_service.specs.Works.{WorkFits, course_at};
+ghost use Rattle.st_service.specs.Works.{MayDo, WorkFits, course_at};
 
 use crate::makers::Makers;
 use crate::naming::Naming;
 use crate::place::Place;
 use crate::room::Room;
 use crate::work::Work;
+use st_control::Begin;
 use st_event::LogSaw;
 use st_net::{Entity, Var};
 use st_world::Going;
@@ -45,11 +47,24 @@ pub struct Locked<J: Naming, L: Ledger, H: Wait + Drop> {
 }
 
 impl<J: Naming, L: Ledger, H: Wait + Drop> Locked<J, L, H> {
+    /// Whether the journal goes on from what a place has seen of it, as it does.
+    fn goes_on_from(&self, place: &Place<J>) -> bool
+        requires { place.now.group ≡ self.now.group }
+        ensures few { MatchBool result (place.now.batches ≤ self.now.makers.batches) (Unit {0}) }
+        ensures begins { MatchBool result (IsPrefix (flat place.now.seen.log) (flat self.now.makers.seen.log)) (Unit {0}) }
+    {
+        // In proofs alone: of two that saw one line, one has seen the beginning of what the other has.
+        let mut both = place.seen.again();
+        both.learn(&self.makers.seen);
+        place.batches <= self.makers.batches
+    }
+
     /// Whether nothing more is entered here, or the place has seen more than there is, as none has.
     fn is_shut_to(&self, place: &Place<J>) -> bool
-        ensures { MatchBool result (Unit {0}) ((self.now.lost ≡ false) × (self.now.room.spent ≡ false) × (place.now.batches ≤ self.now.makers.batches)) }
+        requires { place.now.group ≡ self.now.group }
+        ensures { MatchBool result (Unit {0}) ((self.now.lost ≡ false) × (self.now.room.spent ≡ false) × (place.now.batches ≤ self.now.makers.batches) × IsPrefix (flat place.now.seen.log) (flat self.now.makers.seen.log)) }
     {
-        self.lost || self.room.is_spent() || place.batches > self.makers.batches
+        self.lost || self.room.is_spent() || !self.goes_on_from(place)
     }
 
     /// Does a work for a pass, and teaches it the journal and what is published. At `Full` an event met a full journal; then, and at
@@ -65,6 +80,7 @@ impl<J: Naming, L: Ledger, H: Wait + Drop> Locked<J, L, H> {
         requires group { place.old.group ≡ self.old.group }
         requires part { 0 < share.old.parts }
         requires fits { WorkFits work (J.group self.old.group) }
+        requires may { MayDo work (past_in (flat place.old.seen.log)) }
         ensures group { self.new.group ≡ self.old.group }
         ensures place { (place.new.group ≡ place.old.group) × (place.new.number ≡ place.old.number) }
         ensures share { (share.new.parts ≡ share.old.parts) × (share.new.amount + length place.old.mine.items ≡ share.old.amount + length place.new.mine.items) }
@@ -117,6 +133,24 @@ impl<J: Naming, L: Ledger, H: Wait + Drop> Locked<J, L, H> {
         place.look(&self.makers.seen, self.makers.batches);
         place.reader.learn(&self.room.note(), self.room.target());
         Ok(())
+    }
+
+    /// What the oldest proposal is judged on, by the journal that a pass is taught. `Idle` where none is pending.
+    pub fn begin(&self, place: &mut Place<J>) -> Result<Begin, AllocError>
+        requires group { place.old.group ≡ self.now.group }
+        ensures place { (place.new.group ≡ place.old.group) × (place.new.number ≡ place.old.number) × (place.new.mine ≡ place.old.mine) }
+        ensures seen { IsPrefix (flat place.old.seen.log) (flat place.new.seen.log) }
+        ensures begins { IfOk result (Begins (record { group = J.group self.now.group; past = past_in (flat place.new.seen.log) })) }
+        ensures open { OnOk result (IsOpen self.now.lost self.now.room) }
+        ensures journal { IfOk result (λ _. past_in (flat place.new.seen.log) ≡ self.now.room.history.past) }
+        ensures legal { IsLegal (J.group self.now.group) (past_in (flat place.old.seen.log)) → IsLegal (J.group self.now.group) (past_in (flat place.new.seen.log)) }
+        ensures reader { IsPrefix place.old.reader.proposals place.new.reader.proposals }
+        ensures reads { IfOk result (λ _. IsPrefix (accepted (past_in (flat place.new.seen.log))) place.new.reader.proposals) }
+    {
+        match self.look(place) {
+            Ok(()) => self.room.begin_check(),
+            Err(error) => Err(error),
+        }
     }
 
     /// The entities that are not settled, in order, as a pass sees by the journal that it is taught.

@@ -3,6 +3,7 @@
 ghost use Rattle.std.specs.Prelude.{ℕ, ◌≡◌, ◌+◌, ◌<◌, ◌++◌, ◌∷◌, [], length, IfOk, IfSome, OnOk, OnErr};
 ghost use Rattle.st_net.specs.Groups.{IsEntityOf};
 ghost use Rattle.st_world.specs.Acts.{seen_at as seen_at_lem};
+ghost use Rattle.st_world.specs.Commits.{Begins};
 ghost use Rattle.st_world.specs.Rounds.{unsettled as unsettled_lem};
 ghost use Rattle.st_service.specs.Kept.{Kept};
 ghost use Rattle.st_service.specs.Lines.{flat};
@@ -11,12 +12,13 @@ ghost use Rattle.st_service.specs.Passes.{front_at, mine_at, IsTaught, Reads};
 ghost use Rattle.st_service.specs.Puts.{Enters};
 ghost use Rattle.st_service.specs.Shares.{work_share};
 ghost use Rattle.st_service.specs.Tickets.{latest_in};
-ghost use Rattle.st_service.specs.Works.{IsGiven, WorkFits, course_at};
+ghost use Rattle.st_service.specs.Works.{IsGiven, MayDo, WorkFits, course_at};
 
 use crate::locked::Locked;
 use crate::naming::Naming;
 use crate::place::Place;
 use crate::work::Work;
+use st_control::Begin;
 use st_event::{LogEntries, LogEntry, LogSaw};
 use st_net::{Entity, Var};
 use st_world::Going;
@@ -112,9 +114,11 @@ impl<J: Naming, L: Ledger> Pass<J, L> {
     ) -> Result<Going, AllocError>
         requires room { room.old.group < length self.old.fronts }
         requires fits { WorkFits work (J.group room.old.group) }
+        requires may { MayDo work (past_in (front_at self.old.fronts room.old.group)) }
         ensures kept { Kept self.old self.new room.old.group (work_share work.entry (J.group room.old.group) (J.lines room.old.group)) }
         ensures log { self.new.log ≡ self.old.log }
         ensures entered { IfOk result (λ going. Enters (course_at self.old.number work.entry (J.group room.old.group) (J.lines room.old.group)) going self.old.number (flat room.old.makers.seen.log) (front_at self.old.fronts room.old.group) (mine_at self.old.mines room.old.group) (front_at self.new.fronts room.old.group) (mine_at self.new.mines room.old.group)) }
+        ensures journal { IfOk result (λ _. past_in (front_at self.new.fronts room.old.group) ≡ room.new.room.history.past) }
         ensures reads { IfOk result (λ _. IsTaught self.new room.old.group) }
         ensures room { room.new.group ≡ room.old.group }
     {
@@ -130,9 +134,25 @@ impl<J: Naming, L: Ledger> Pass<J, L> {
         requires room { room.now.group < length self.old.fronts }
         ensures kept { Kept self.old self.new room.now.group 0 }
         ensures log { self.new.log ≡ self.old.log }
+        ensures journal { OnOk result (past_in (front_at self.new.fronts room.now.group) ≡ room.now.room.history.past) }
         ensures reads { OnOk result (IsTaught self.new room.now.group) }
     {
         room.look(&mut self.places[room.group])
+    }
+
+    /// What the oldest proposal is judged on in a room that is lent to it. `Idle` where none is pending.
+    pub(crate) fn begin_in<H: Wait + Drop>(
+        &mut self,
+        room: &Locked<J, L, H>,
+    ) -> Result<Begin, AllocError>
+        requires room { room.now.group < length self.old.fronts }
+        ensures kept { Kept self.old self.new room.now.group 0 }
+        ensures log { self.new.log ≡ self.old.log }
+        ensures begins { IfOk result (Begins (record { group = J.group room.now.group; past = past_in (front_at self.new.fronts room.now.group) })) }
+        ensures journal { IfOk result (λ _. past_in (front_at self.new.fronts room.now.group) ≡ room.now.room.history.past) }
+        ensures reads { IfOk result (λ _. IsTaught self.new room.now.group) }
+    {
+        room.begin(&mut self.places[room.group])
     }
 
     /// The entities that are not settled in a room that is lent to it, in order.

@@ -1,25 +1,29 @@
 //! A room: a group's world with the board by which its target is published. It lies behind a lock, and every event of the group is
 //! entered here.
 
-ghost use Rattle.std.specs.Prelude.{ℕ, ◌≡◌, ◌≤◌, ◌++◌, List, [], true, false, IfOk, IsErr, OnOk, OnErr, length, reverse};
+ghost use Rattle.std.specs.Prelude.{ℕ, ◌≡◌, ◌<◌, ◌≤◌, ◌++◌, List, [], true, false, IfOk, IsErr, OnOk, OnErr, is_some, length, reverse};
 ghost use Rattle.st_event.specs.declared.journal.Entry.{Entry as entry};
 ghost use Rattle.st_net.specs.Groups.{IsEntityOf};
+ghost use Rattle.st_net.specs.Numbered.{nth};
 ghost use Rattle.st_board.specs.Published.{IsMergeOf};
 ghost use Rattle.st_event.specs.Legal.{IsLegal};
-ghost use Rattle.st_event.specs.Proposals.{first_rows, pending, accepted};
+ghost use Rattle.st_event.specs.Proposals.{first_rows, pending, accepted, deciders};
 ghost use Rattle.st_world.specs.Acts.{seen_at as seen_at_lem};
+ghost use Rattle.st_world.specs.Commits.{Begins, MayCommit};
 ghost use Rattle.st_world.specs.Rounds.{HasSamePlant, IsPartOf, is_full, unsettled as unsettled_lem};
 ghost use Rattle.st_world.specs.World.{IsBeginning};
+ghost use Rattle.st_service.specs.OffLock.{going_by};
 ghost use Rattle.st_service.specs.Rooms.{Adds, IsSameRoom, WasRefused};
 ghost use Rattle.st_service.specs.Shares.{work_share};
-ghost use Rattle.st_service.specs.Works.{WorkFits, check_course, course_at, decides, is_decided as is_decided_lem};
+ghost use Rattle.st_service.specs.Works.{MayDo, WorkFits, check_course, course_at, decides, is_decided as is_decided_lem};
 
 use crate::work::{Part, Work};
 use st_board::{Board, Held, Note};
-use st_event::{Act, Entry, Event, LogSaw, MAX_ENTRIES, Rows};
+use st_control::{Begin, Judged};
+use st_event::{Act, Entry, LogSaw, MAX_ENTRIES, Rows};
 use st_net::{AppId, Entity, Var};
 use st_overlay::Table;
-use st_world::{Going, Stepped, World};
+use st_world::{Committed, Going, World};
 use std::alloc::{AllocError, Global};
 use std::marker::Model;
 use std::sync::Wait;
@@ -45,32 +49,40 @@ impl<H: Wait + Drop> Model for Room<H> {
 /// Enters the events of a work in a world. At `Full` an event met a full journal; then, and at `Err`, a part of the events was entered,
 /// from the first, and stands.
 fn enter(world: &mut World, number: u32, work: Work<'_>) -> Result<Going, AllocError>
-    requires { WorkFits work world.old.history.group }
+    requires fits { WorkFits work world.old.history.group }
+    requires may { MayDo work world.old.history.past }
     ensures ok { IfOk result (λ going. course_at number work.entry world.old.history.group world.old.lines world.old.history.past ≡ record { past = world.new.history.past; stopped = is_full going }) }
     ensures err { OnErr result (IsPartOf world.old world.new (course_at number work.entry world.old.history.group world.old.lines world.old.history.past)) }
     ensures plant { HasSamePlant world.old world.new }
 {
     match work {
         Work::OneAct(act) => world.act(AppId(number), act),
-        Work::CheckFor(ticket) => check_for(world, ticket),
+        Work::Commit(judged) => commit(world, judged),
         Work::Turn(Part::Whole, entity) => world.turn(entity),
         Work::Turn(Part::Update, entity) => world.update_turn(entity),
         Work::Turn(Part::Monitor, entity) => world.poll(entity),
     }
 }
 
-/// Enters a check in a world, unless the ticket is decided there. At `Full` the journal is full; then, and at `Err`, nothing was entered.
-fn check_for(world: &mut World, ticket: u32) -> Result<Going, AllocError>
-    ensures ok { IfOk result (λ going. check_course ticket world.old.history.group world.old.history.past ≡ record { past = world.new.history.past; stopped = is_full going }) }
+/// Commits what was judged away from a world. At `Full` the journal is full; then, at `Err`, and where the ticket is decided, nothing was
+/// entered.
+fn commit(world: &mut World, judged: &Judged) -> Result<Going, AllocError>
+    requires { MayCommit world.old.history.past judged.now.ticket }
+    ensures ok { IfOk result (λ going. check_course judged.now.ticket world.old.history.group world.old.history.past ≡ record { past = world.new.history.past; stopped = is_full going }) }
     ensures err { OnErr result (world.new.history ≡ world.old.history) }
     ensures plant { HasSamePlant world.old world.new }
 {
-    if is_decided(world, ticket) {
-        return Ok(Going::On);
-    }
-    match world.step(Event::Check)? {
-        Stepped::Did(_) => Ok(Going::On),
-        Stepped::JournalFull { .. } => Ok(Going::Full),
+    let committed = world.commit(judged)?;
+    Ok(going_of(&committed))
+}
+
+/// Whether a commit met a full journal.
+fn going_of(committed: &Committed) -> Going
+    ensures { result ≡ going_by committed.now }
+{
+    match committed {
+        Committed::Did(_) | Committed::Gone { .. } => Going::On,
+        Committed::JournalFull { .. } => Going::Full,
     }
 }
 
@@ -107,6 +119,7 @@ impl<H: Wait + Drop> Room<H> {
     pub fn work(&mut self, alloc: Global, number: u32, work: Work<'_>) -> Result<Going, AllocError>
         requires open { self.old.spent ≡ false }
         requires fits { WorkFits work self.old.history.group }
+        requires may { MayDo work self.old.history.past }
         ensures ok { IfOk result (λ going. course_at number work.entry self.old.history.group self.old.lines self.old.history.past ≡ record { past = self.new.history.past; stopped = is_full going }) }
         ensures full { IfOk result (λ going. is_full going ≡ true → length self.new.history.past ≡ MAX_ENTRIES) }
         ensures open { OnOk result (self.new.spent ≡ false) }
@@ -160,8 +173,24 @@ impl<H: Wait + Drop> Room<H> {
             Work::OneAct(Act::Poll { .. }) | Work::Turn(Part::Monitor, _) => 2 + lines,
             Work::Turn(Part::Update, _) => 3 + lines,
             Work::Turn(Part::Whole, _) => 5 + 2 * lines,
-            Work::OneAct(_) | Work::CheckFor(_) => 1,
+            Work::OneAct(_) | Work::Commit(_) => 1,
         }
+    }
+
+    /// The entry that decided a ticket, counted from 1, if it is decided.
+    pub fn decided(&self, ticket: u32) -> Option<u32>
+        requires { 0 < ticket }
+        ensures entry { result ≡ nth (deciders self.now.history.past) ticket }
+        ensures decided { is_some result ≡ is_decided_lem ticket self.now.history.past }
+    {
+        self.world.control().store().decided(ticket)
+    }
+
+    /// What the oldest proposal is judged on, in copies. `Idle` where none is pending.
+    pub fn begin_check(&self) -> Result<Begin, AllocError>
+        ensures { IfOk result (Begins self.now.history) }
+    {
+        self.world.begin_check()
     }
 
     /// Whether a ticket is decided.

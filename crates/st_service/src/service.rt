@@ -8,7 +8,7 @@ ghost use Rattle.st_service.specs.Made.{Made, past_in};
 ghost use Rattle.st_service.specs.Passes.{front_at, mine_at, IsTaught};
 ghost use Rattle.st_service.specs.Puts.{Enters};
 ghost use Rattle.st_service.specs.Shares.{work_share};
-ghost use Rattle.st_service.specs.Works.{WorkFits, course_at};
+ghost use Rattle.st_service.specs.Works.{MayDo, WorkFits, course_at};
 
 use crate::locked::Locked;
 use crate::naming::Naming;
@@ -57,6 +57,7 @@ impl<J: Naming, L: Ledger, H: Wait + Drop> Service<J, L, H> {
     ) -> Result<Going, AllocError>
         requires room { (group < length self.now.rooms.items) × (length pass.old.fronts ≡ length self.now.rooms.items) }
         requires fits { WorkFits work (J.group group) }
+        requires may { MayDo work (past_in (front_at pass.old.fronts group)) }
         ensures kept { Kept pass.old pass.new group (work_share work.entry (J.group group) (J.lines group)) }
         ensures log { pass.new.log ≡ pass.old.log }
         ensures entered { IfOk result (λ going. (mid : List Made) × Enters (course_at pass.old.number work.entry (J.group group) (J.lines group)) going pass.old.number mid (front_at pass.old.fronts group) (mine_at pass.old.mines group) (front_at pass.new.fronts group) (mine_at pass.new.mines group)) }

@@ -190,6 +190,28 @@ fn workers_do_a_round_by_halves(rt: HostRuntime) -> Result<(), Fail> {
 }
 
 #[test]
+fn workers_check_off_the_lock_and_do_halves(rt: HostRuntime) -> Result<(), Fail> {
+    let counts = counted(&rt, rt.alloc(), 1, 3, Scenario::WorkerCalls)?;
+    assert_eq!(rt; counts, (7, 1));
+    Ok(())
+}
+
+#[test]
+fn a_settle_follows_a_workers_check(rt: HostRuntime) -> Result<(), Fail> {
+    let counts = counted(&rt, rt.alloc(), 1, 3, Scenario::SettleAfterCheck)?;
+    assert_eq!(rt; counts, (7, 0));
+    Ok(())
+}
+
+#[test]
+fn a_check_is_judged_off_the_lock(rt: HostRuntime) -> Result<(), Fail> {
+    let counts = counted(&rt, rt.alloc(), 2, 0, Scenario::JudgedAway)?;
+    // The proposal, the lock and the check.
+    assert_eq!(rt; counts, (3, 2));
+    Ok(())
+}
+
+#[test]
 fn each_act_enters_its_events(rt: HostRuntime) -> Result<(), Fail> {
     let counts = counted(&rt, rt.alloc(), 1, 0, Scenario::EachAct)?;
     // Lock, unlock, failure; a report and its hearing.

@@ -3,6 +3,7 @@
 ghost use Rattle.std.specs.Prelude.{◌≡◌};
 ghost use Rattle.st_service.specs.Works.{decides as decides_lem};
 
+use st_control::Judged;
 use st_event::Act;
 use st_net::Entity;
 
@@ -19,8 +20,8 @@ pub enum Part {
 pub enum Work<'a> {
     /// An act of an application that is made under one hold: a proposal, a lock asked for or given back, a failure, or a poll.
     OneAct(&'a Act),
-    /// A check, unless this ticket is decided.
-    CheckFor(u32),
+    /// The check of a proposal that was judged off the lock, unless it is decided.
+    Commit(&'a Judged),
     /// An entity's turn, or a half of it.
     Turn(Part, Entity),
 }
@@ -31,7 +32,7 @@ impl Work<'_> {
         ensures { result ≡ decides_lem self.entry }
     {
         match self {
-            Work::OneAct(Act::Propose { .. }) | Work::CheckFor(_) => true,
+            Work::OneAct(Act::Propose { .. }) | Work::Commit(_) => true,
             Work::OneAct(_) | Work::Turn(..) => false,
         }
     }

@@ -1,11 +1,11 @@
 //! What the tests play on a service, each with its own passes.
 
-use crate::tests::gate::Meeting;
+use crate::tests::gate::{HeldJudge, Meeting};
 use crate::tests::jobs::{Played, Script};
 use crate::tests::stage::{Stage, has_latest};
-use crate::{Acted, Naming, Pass};
+use crate::{Acted, Naming, OffLock, Pass};
 use st_crew::{Gate, NoGate, crew_run};
-use st_event::{Act, Rows};
+use st_event::{Act, LogSaw, Rows, Verdict};
 use st_net::{Entity, Prio, Row, Var};
 use st_world::Rounded;
 use std::alloc::Global;
@@ -25,6 +25,12 @@ pub enum Scenario {
     WorkerRound,
     /// One worker updates, and another monitors.
     WorkerHalves,
+    /// A worker checks off the lock, twice; then one updates, and another monitors.
+    WorkerCalls,
+    /// A worker checks off the lock, and the application settles.
+    SettleAfterCheck,
+    /// An application awaits, and its judge waits until another has locked and read.
+    JudgedAway,
     /// An application does an act of each other kind.
     EachAct,
     /// Each application reads, and waits until all have read.
@@ -56,6 +62,18 @@ fn propose(alloc: Global, entity: Entity) -> Result<Act, Fail> {
         group: 0,
         rows: Rows::new(rows),
     })
+}
+
+/// Whether an application has logged one line, of value 2 at version 1.
+fn has_read_two<J: Naming, L: Ledger>(pass: &Pass<J, L>) -> bool {
+    match pass.log().as_slice() {
+        [line] => line.saw
+            == LogSaw::At {
+                version: 1,
+                value: 2,
+            },
+        _ => false,
+    }
 }
 
 const AWAIT: Act = Act::Await { group: 0 };
@@ -105,6 +123,9 @@ pub fn play<
         Scenario::SettleAfterAwait => settle_after_await(rt, stage, passes),
         Scenario::WorkerRound => worker_round(rt, stage, passes),
         Scenario::WorkerHalves => worker_halves(rt, stage, passes),
+        Scenario::WorkerCalls => worker_calls(rt, stage, passes),
+        Scenario::SettleAfterCheck => settle_after_check(rt, stage, passes),
+        Scenario::JudgedAway => judged_away(rt, stage, passes),
         Scenario::EachAct => each_act(rt, stage, passes),
         Scenario::AllRead => all_read(rt, stage, passes),
         Scenario::FullJournal => full_journal(rt, stage, passes),
@@ -153,7 +174,7 @@ fn two_propose<
     passes_of(stage.alloc, ends)
 }
 
-fn settle_after_await<J: Naming, L: Ledger, H: Wait + Drop, R: Wait>(
+fn settle_after_await<J: Naming, L: Ledger, H: Wait + Drop, R: Threads + Wait + Sync>(
     rt: &R,
     stage: &Stage<'_, J, L, H>,
     mut passes: Vec<Pass<J, L>>,
@@ -168,7 +189,7 @@ fn settle_after_await<J: Naming, L: Ledger, H: Wait + Drop, R: Wait>(
     Ok(passes)
 }
 
-fn worker_round<J: Naming, L: Ledger, H: Wait + Drop, R: Wait>(
+fn worker_round<J: Naming, L: Ledger, H: Wait + Drop, R: Threads + Wait + Sync>(
     rt: &R,
     stage: &Stage<'_, J, L, H>,
     mut passes: Vec<Pass<J, L>>,
@@ -180,7 +201,7 @@ fn worker_round<J: Naming, L: Ledger, H: Wait + Drop, R: Wait>(
     Ok(passes)
 }
 
-fn worker_halves<J: Naming, L: Ledger, H: Wait + Drop, R: Wait>(
+fn worker_halves<J: Naming, L: Ledger, H: Wait + Drop, R: Threads + Wait + Sync>(
     rt: &R,
     stage: &Stage<'_, J, L, H>,
     mut passes: Vec<Pass<J, L>>,
@@ -191,17 +212,93 @@ fn worker_halves<J: Naming, L: Ledger, H: Wait + Drop, R: Wait>(
     expect(updated == Rounded::Did { unsettled: 1 })?;
     let monitored = stage.monitor(rt, pass_at(&mut passes, 2)?)?;
     expect(monitored == Rounded::Did { unsettled: 0 })?;
-    let read_at = Act::ReadAt {
-        group: 0,
-        version: 1,
-        entity: A1,
-        var: Var::Firmware,
-    };
-    stage.do_all(rt, pass_at(&mut passes, 0)?, &[read_at], &NoGate)?;
+    stage.do_all(rt, pass_at(&mut passes, 0)?, &[READ_FIRST], &NoGate)?;
     Ok(passes)
 }
 
-fn each_act<J: Naming, L: Ledger, H: Wait + Drop, R: Wait>(
+/// Whether a check decided ticket 1 by entry 2, which accepted it as version 1.
+fn has_decided_first(checked: &OffLock) -> bool {
+    match checked {
+        OffLock::Decided(receipt) => {
+            let first = matches!(receipt.verdict, Verdict::Accepted { version: 1 });
+            receipt.ticket == 1 && receipt.entry == 2 && first
+        }
+        OffLock::Gone { .. } | OffLock::Idle | OffLock::JournalFull { .. } => false,
+    }
+}
+
+const READ_FIRST: Act = Act::ReadAt {
+    group: 0,
+    version: 1,
+    entity: A1,
+    var: Var::Firmware,
+};
+
+fn worker_calls<J: Naming, L: Ledger, H: Wait + Drop, R: Threads + Wait + Sync>(
+    rt: &R,
+    stage: &Stage<'_, J, L, H>,
+    mut passes: Vec<Pass<J, L>>,
+) -> Result<Vec<Pass<J, L>>, Fail> {
+    let first = [propose(stage.alloc, A1)?];
+    stage.do_all(rt, pass_at(&mut passes, 0)?, &first, &NoGate)?;
+    let checker = pass_at(&mut passes, 1)?;
+    expect(has_decided_first(&stage.check(rt, checker, &NoGate)?))?;
+    let again = stage.check(rt, checker, &NoGate)?;
+    expect(matches!(again, OffLock::Idle))?;
+    let updated = stage.update(rt, pass_at(&mut passes, 2)?)?;
+    expect(updated == Rounded::Did { unsettled: 1 })?;
+    let monitored = stage.monitor(rt, pass_at(&mut passes, 3)?)?;
+    expect(monitored == Rounded::Did { unsettled: 0 })?;
+    let app = pass_at(&mut passes, 0)?;
+    stage.do_all(rt, app, &[READ_FIRST], &NoGate)?;
+    expect(has_read_two(app))?;
+    Ok(passes)
+}
+
+fn settle_after_check<J: Naming, L: Ledger, H: Wait + Drop, R: Threads + Wait + Sync>(
+    rt: &R,
+    stage: &Stage<'_, J, L, H>,
+    mut passes: Vec<Pass<J, L>>,
+) -> Result<Vec<Pass<J, L>>, Fail> {
+    let first = [propose(stage.alloc, A1)?];
+    stage.do_all(rt, pass_at(&mut passes, 0)?, &first, &NoGate)?;
+    let checked = stage.check(rt, pass_at(&mut passes, 1)?, &NoGate)?;
+    expect(has_decided_first(&checked))?;
+    let settle = Act::Settle {
+        group: 0,
+        rounds: 1,
+    };
+    stage.do_all(rt, pass_at(&mut passes, 0)?, &[settle], &NoGate)?;
+    Ok(passes)
+}
+
+/// One application awaits its proposal. The other reads, waits until the proposal is judged, locks a switch, and reads again, which the
+/// judge waits for.
+fn judged_away<
+    J: Naming + Send + Sync,
+    L: Ledger + Send + Sync,
+    H: Wait + Drop + Send + Sync,
+    R: Threads + Wait + Sync,
+>(rt: &R, stage: &Stage<'_, J, L, H>, passes: Vec<Pass<J, L>>) -> Result<Vec<Pass<J, L>>, Fail> {
+    let first = [propose(stage.alloc, A1)?, AWAIT];
+    let lock = Act::Lock {
+        group: 0,
+        entity: A2,
+        prio: Prio::Low,
+    };
+    let second = [READ, lock, READ];
+    let mut jobs = Vec::new(stage.alloc);
+    for pass in passes {
+        let acts: &[Act] = if pass.number() == 0 { &first } else { &second };
+        jobs.push(Script { stage, pass, acts })?;
+    }
+    let gate = HeldJudge::new();
+    let ends = crew_run(rt, jobs, &gate)?;
+    expect(gate.was_kept())?;
+    passes_of(stage.alloc, ends)
+}
+
+fn each_act<J: Naming, L: Ledger, H: Wait + Drop, R: Threads + Wait + Sync>(
     rt: &R,
     stage: &Stage<'_, J, L, H>,
     mut passes: Vec<Pass<J, L>>,
@@ -267,7 +364,7 @@ fn all_read<
 }
 
 /// A switch that fails at its target is sent to in each round, and settled in none.
-fn full_journal<J: Naming, L: Ledger, H: Wait + Drop, R: Wait>(
+fn full_journal<J: Naming, L: Ledger, H: Wait + Drop, R: Threads + Wait + Sync>(
     rt: &R,
     stage: &Stage<'_, J, L, H>,
     mut passes: Vec<Pass<J, L>>,
@@ -289,7 +386,7 @@ fn full_journal<J: Naming, L: Ledger, H: Wait + Drop, R: Wait>(
 }
 
 /// Whatever takes the lock of a spent room is refused. A read does not.
-fn spent_room<J: Naming, L: Ledger, H: Wait + Drop, R: Wait>(
+fn spent_room<J: Naming, L: Ledger, H: Wait + Drop, R: Threads + Wait + Sync>(
     rt: &R,
     stage: &Stage<'_, J, L, H>,
     mut passes: Vec<Pass<J, L>>,

@@ -7,7 +7,7 @@ ghost use Rattle.st_net.specs.Groups.{Group};
 ghost use Rattle.st_net.specs.Ranges.{is_health_of};
 ghost use Rattle.st_service.specs.Acts.{CanDo};
 
-use crate::{Acted, Naming, Pass, Service};
+use crate::{Acted, Naming, OffLock, Pass, Service};
 use st_crew::Gate;
 use st_event::Act;
 use st_net::{Entity, GroupTopo, Var};
@@ -15,6 +15,7 @@ use st_world::{Rounded, group_number};
 use std::alloc::{AllocError, Global};
 use std::sync::Wait;
 use std::sync::ledger::Ledger;
+use std::thread::Threads;
 
 /// Whether this is a variable that the tests read.
 fn is_read(entity: Entity, var: Var) -> bool
@@ -83,7 +84,7 @@ impl<J: Naming, L: Ledger, H: Wait + Drop> Stage<'_, J, L, H> {
     }
 
     /// Does an act for the pass of an application. Want of memory stands for an act that may not be done here, too.
-    pub fn act<R: Wait, G: Gate>(
+    pub fn act<R: Threads + Wait + Sync, G: Gate>(
         &self,
         rt: &R,
         pass: &mut Pass<J, L>,
@@ -97,7 +98,7 @@ impl<J: Naming, L: Ledger, H: Wait + Drop> Stage<'_, J, L, H> {
     }
 
     /// Does these acts in order, each to its end.
-    pub fn do_all<R: Wait, G: Gate>(
+    pub fn do_all<R: Threads + Wait + Sync, G: Gate>(
         &self,
         rt: &R,
         pass: &mut Pass<J, L>,
@@ -111,6 +112,19 @@ impl<J: Naming, L: Ledger, H: Wait + Drop> Stage<'_, J, L, H> {
             }
         }
         Ok(())
+    }
+
+    /// A check off the lock.
+    pub fn check<R: Threads + Wait + Sync, G: Gate>(
+        &self,
+        rt: &R,
+        pass: &mut Pass<J, L>,
+        gate: &G,
+    ) -> Result<OffLock, AllocError> {
+        if !self.has(pass) {
+            return Err(AllocError);
+        }
+        self.service.check_off_lock(rt, self.alloc, pass, 0, gate)
     }
 
     /// Leaves each room as a refused publication does.

@@ -1,5 +1,5 @@
-use Rattle.st_service.proofs.RoomLaws.{check_part}
+use Rattle.st_service.proofs.RoomLaws.{commit_part}
 use Rattle.st_service.proofs.room.enter.Goals as goal
 
-pub returns-in-CheckFor-clause-err : goal.returns-in-CheckFor-clause-err
-returns-in-CheckFor-clause-err c = check_part c.check_for.result c.args.number c.args.work c.in-CheckFor.ticket c.args.world.now c.check_for.new.world c.in-CheckFor.is c.check_for.ensures.err
+pub returns-in-Commit-clause-err : goal.returns-in-Commit-clause-err
+returns-in-Commit-clause-err c = commit_part c.commit.result c.args.number c.args.work c.in-Commit.judged c.args.world.now c.commit.new.world c.in-Commit.is c.commit.ensures.err

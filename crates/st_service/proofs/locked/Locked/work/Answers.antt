@@ -12,9 +12,10 @@ use Rattle.st_service.specs.Lines.{flat}
 use Rattle.st_service.specs.Made.{IsMine, past_in}
 use Rattle.st_service.specs.Shares.{work_share}
 use Rattle.st_service.specs.Tickets.{latest_in}
-use Rattle.st_service.specs.Works.{WorkFits, course_at}
+use Rattle.st_service.specs.Works.{MayDo, WorkFits, course_at}
 use Rattle.st_service.proofs.HoldLaws.{taken, held, enters_all, enters_part, puts_grows, look_grows, length_past}
 use Rattle.st_service.proofs.HeldLaws.{legal_taught, reads_taught, puts_share, on_err, ok_open, open_not_shut, lacks}
+use Rattle.st_service.proofs.OffLockLaws.{may_later}
 use Rattle.st_service.proofs.locked.Locked.work.Goals as goal
 
 pub returns-then-is_shut_to-clause-group : goal.returns-then-is_shut_to-clause-group
@@ -134,6 +135,11 @@ returns-in_err-reserve-clause-reads g c = IfOk-from_err c.from_residual.result _
 
 pub work-going-requires-clause-open : goal.work-going-requires-clause-open
 work-going-requires-clause-open g c = c.if-is_shut_to.ensures.1
+
+pub work-going-requires-clause-may : goal.work-going-requires-clause-may
+work-going-requires-clause-may g c =
+    let room = c.args.self.now in
+    subst (λ (past : List Entry). MayDo c.args.work past) (room.kept c.if-is_shut_to.ensures.0) (may_later c.args.work (flat c.args.place.now.seen.log) (flat room.makers.seen.log) c.if-is_shut_to.ensures.3 c.requires.may)
 
 pub work-going-requires-clause-fits : goal.work-going-requires-clause-fits
 work-going-requires-clause-fits g c = subst (λ (h : Group). WorkFits c.args.work h) (sym c.args.self.now.group_is) c.requires.fits

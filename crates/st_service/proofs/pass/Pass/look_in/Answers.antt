@@ -57,3 +57,12 @@ invariant_of-self g c =
     let here : good n new = (same.0 ∙ was.0, same.1 ∙ was.1, c.look.ensures.legal was.2) in
     let before = c.self.inside.share.amount in
     (items_set good places n new there inv.0 here, inv.1, units_set units places n old new before before there at inv.2 (ap (λ v. before + length v.items) (sym same.2)))
+
+pub returns-clause-journal : goal.returns-clause-journal
+returns-clause-journal g c =
+    let log = λ (q : Place g.row.J.Denot g.J.Naming). flat q.seen.log in
+    let places = c.self.inside.places.items in
+    let n = c.args.room.now.group in
+    let fronts : map log places ≡ c.args.self.now.fronts = ap (λ (h : Holder). h.fronts) c.self.view_is in
+    let there : n < length places = omega (arith, c.requires.room, ap length fronts, length-map places log) in
+    rw (wrote_at log places n c.look.new.place there) c.look.ensures.journal

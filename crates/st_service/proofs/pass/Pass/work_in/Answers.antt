@@ -8,6 +8,7 @@ use Rattle.st_service.specs.Lines.{flat}
 use Rattle.st_service.specs.Made.{Made, past_in}
 use Rattle.st_service.specs.Passes.{Holder, front_at, mine_at, no_reader}
 use Rattle.st_service.specs.Shares.{work_share}
+use Rattle.st_service.specs.Works.{MayDo}
 use Rattle.st_service.proofs.HolderLaws.{holder, kept_set}
 use Rattle.st_service.proofs.Mines.{read_at, wrote_at, item_is}
 use Rattle.st_service.proofs.PlaceItems.{items_set, units_set}
@@ -70,3 +71,23 @@ invariant_of-self g c =
     let here : good n new = (same.0 ∙ was.0, same.1 ∙ was.1, c.work.ensures.legal was.2) in
     let before = c.self.inside.share.amount in
     (items_set good places n new there inv.0 here, c.work.ensures.share.0 ∙ inv.1, units_set units places n old new before c.work.new.share.amount there at inv.2 c.work.ensures.share.1)
+
+pub returns-clause-journal : goal.returns-clause-journal
+returns-clause-journal g c =
+    let log = λ (q : Place g.row.J.Denot g.J.Naming). flat q.seen.log in
+    let places = c.self.inside.places.items in
+    let n = c.args.room.now.group in
+    let fronts : map log places ≡ c.args.self.now.fronts = ap (λ (h : Holder). h.fronts) c.self.view_is in
+    let there : n < length places = omega (arith, c.requires.room, ap length fronts, length-map places log) in
+    rw (wrote_at log places n c.work.new.place there) c.work.ensures.journal
+
+pub work-requires-clause-may : goal.work-requires-clause-may
+work-requires-clause-may g c =
+    let log = λ (q : Place g.row.J.Denot g.J.Naming). flat q.seen.log in
+    let places = c.self.inside.places.items in
+    let n = c.args.room.now.group in
+    let old = c.index_mut.result.now in
+    let fronts : map log places ≡ c.args.self.now.fronts = ap (λ (h : Holder). h.fronts) c.self.view_is in
+    let there : n < length places = omega (arith, c.requires.room, ap length fronts, length-map places log) in
+    let front : front_at c.args.self.now.fronts n ≡ flat old.seen.log = ap (λ (l : List (List Made)). get_or l n []) (sym fronts) ∙ read_at log places n old there c.index_mut.ensures.value in
+    subst (λ (f : List Made). MayDo c.args.work (past_in f)) front c.requires.may

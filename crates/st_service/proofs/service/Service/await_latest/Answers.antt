@@ -13,7 +13,7 @@ use Rattle.st_service.proofs.service.Service.await_latest.Goals as goal
 pub check_for-requires-clause-given : goal.check_for-requires-clause-given
 check_for-requires-clause-given g c =
     let n = c.args.group in
-    given_later c.in-Some.ticket (front_at c.args.pass.now.fronts n) (front_at c.loop-check.pass.fronts n) c.loop-check.invariant.kept.grows.0 c.in-Some.ensures.given
+    λ κs lives. given_later c.in-Some.ticket (front_at c.args.pass.now.fronts n) (front_at c.loop-check.pass.fronts n) c.loop-check.invariant.kept.grows.0 c.in-Some.ensures.given
 
 pub returns-in_err-check_for-clause-kept : goal.returns-in_err-check_for-clause-kept
 returns-in_err-check_for-clause-kept g c = kept_on c.args.pass.now c.loop-check.pass c.check_for.new.pass c.args.group c.loop-check._check 1 MAX_PENDING (omega (arith, c.loop-check-test.true)) c.loop-check.invariant.kept c.check_for.ensures.kept

@@ -16,7 +16,7 @@ use Rattle.st_service.specs.Kept.{Kept}
 use Rattle.st_service.specs.Made.{Made, past_in}
 use Rattle.st_service.specs.Passes.{front_at, mine_at, Holder}
 use Rattle.st_service.specs.Shares.{round_share, turn_share}
-use Rattle.st_service.specs.Turns.{Turned, Turns, RoundsMade}
+use Rattle.st_service.specs.Turns.{Turned, Turns, ToFull, RoundsMade}
 use Rattle.st_service.proofs.ChainLaws.{kept_on, same_mine, rounds_more, share_fits, share_next}
 use Rattle.st_service.proofs.RoundChain.{few_turns}
 use Rattle.st_service.proofs.service.Service.settle.Goals as goal
@@ -85,6 +85,17 @@ returns-in_err-turns-clause-kept g c = kept_round c.args.pass.now c.loop-round.p
 pub returns-in-Full-clause-kept : goal.returns-in-Full-clause-kept
 returns-in-Full-clause-kept g c = kept_round c.args.pass.now c.loop-round.pass c.unsettled.new.pass c.turns.new.pass c.args.group c.loop-round._round c.args.rounds (g.J.Naming.group c.args.group) (g.J.Naming.lines c.args.group) c.deref.result.now c.loop-round-test.true
     (c.deref.ensures.value ∙ c.in_ok-entities.ensures.entities) c.loop-round.invariant.kept c.unsettled.ensures.kept c.turns.ensures.kept
+
+pub returns-in-Full-clause-settled : goal.returns-in-Full-clause-settled
+returns-in-Full-clause-settled g c =
+    let n = c.args.group in
+    let h = g.J.Naming.group n in
+    let lines = g.J.Naming.lines n in
+    let seen = c.unsettled.new.pass in
+    let new = c.turns.new.pass in
+    let turned : ToFull Whole h lines seen.number c.deref.result.now (front_at seen.fronts n) (mine_at seen.mines n) (front_at new.fronts n) (mine_at new.mines n) =
+    subst (λ (going : Going). Turned going Whole h lines seen.number c.deref.result.now (front_at seen.fronts n) (mine_at seen.mines n) (front_at new.fronts n) (mine_at new.mines n)) c.in-Full.is c.in_ok-turns.ensures.turned in
+    turned.enters.full refl
 
 pub loop-round-preserved : goal.loop-round-preserved
 loop-round-preserved g c =

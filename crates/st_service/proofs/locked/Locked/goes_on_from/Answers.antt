@@ -1,0 +1,20 @@
+-- The journal of a room goes on from what a place has seen of it, where it has seen no more batches than there are.
+use Rattle.std.proofs.Common.{◌≤◌, ℕ, subst, arith}
+use Rattle.std.proofs.lemmas.Bool.{leb-true}
+use mathlib.Core.List.{IsPrefix}
+use Rattle.logbook.specs.declared.tokens.Seen.{Seen}
+use Rattle.st_service.specs.declared.line.Batch.{Batch}
+use Rattle.st_service.specs.declared.line.Law.{Law}
+use Rattle.st_board.proofs.Prefixes.{prefix_shorter}
+use Rattle.st_service.proofs.ClosingLaws.{when_true}
+use Rattle.st_service.proofs.Lines.{flat_prefix}
+use Rattle.st_service.proofs.locked.Locked.goes_on_from.Goals as goal
+
+pub returns-clause-begins : goal.returns-clause-begins
+returns-clause-begins g c =
+    let old = c.args.place.now in
+    let all = c.args.self.now.makers in
+    let mine : IsPrefix old.seen.log c.learn.new.self.log = subst (λ (s : Seen Batch ℕ Law). IsPrefix s.log c.learn.new.self.log) c.again-both.ensures c.learn.ensures.2 in
+    when_true _ _ (λ t.
+    let le : old.batches ≤ all.batches = leb-true old.batches all.batches t in
+    flat_prefix old.seen.log all.seen.log (prefix_shorter old.seen.log all.seen.log c.learn.new.self.log mine c.learn.ensures.3 (omega (arith, le, old.counted, all.counted))))
