@@ -1,5 +1,5 @@
 -- Where each script was done by its pass, the scripts of the document were carried out, by the journals and logs that the closed service hands out.
-use Rattle.std.proofs.Common.{◌≡◌, ℕ, ◌<◌, List, [], length, map, ap, sym, subst, ◌∙◌, arith}
+use Rattle.std.proofs.Common.{◌≡◌, ℕ, ◌<◌, ◌≤◌, List, [], length, map, ap, sym, subst, ◌∙◌, arith}
 use Rattle.std.specs.Prelude.{Some, slice_get, slice_index_or, option_map, reverse}
 use Rattle.std.proofs.lemmas.List.{length-map, get_or-map}
 use Rattle.std.proofs.lemmas.Option.{slice_get-get_or, slice_get-map, slice_get_within, get_or_from_slice_get, same_Some}
@@ -45,14 +45,15 @@ no_journal = record { group = 0; entries = [] }
 abbrev no_log : Log
 no_log = record { app = record { 0 = 0 }; entries = [] }
 
-has_pass : (groups : ℕ → Group) (rooms : ℕ) (passes : List Holder) (journals : List Journal) (logs : List Log) (a : ℕ) (log : Log)
-    → AreClosed groups rooms passes journals logs → slice_get logs a ≡ Some log → HasPass passes a log
-has_pass groups rooms passes journals logs a log closed at =
+has_pass : (groups : ℕ → Group) (rooms apps : ℕ) (passes : List Holder) (journals : List Journal) (logs : List Log) (a : ℕ) (log : Log) → apps ≤ length passes
+    → AreClosed groups rooms apps passes journals logs → slice_get logs a ≡ Some log → HasPass passes a log
+has_pass groups rooms apps passes journals logs a log many closed at =
     let count = closed.log_count in
     let within = slice_get_within logs a log at in
-    let low : a < length passes = omega (arith, count, within) in
+    let app : a < apps = omega (arith, count, within) in
+    let low : a < length passes = omega (arith, app, many) in
     let own = ap (λ (l : Log). l.entries) (get_or_from_slice_get logs a log log at) in
-    record { pass = slice_index_or passes a no_holder; at = slice_get-get_or passes a no_holder low; is = sym (closed.logged a log no_holder low).1 ∙ own }
+    record { pass = slice_index_or passes a no_holder; at = slice_get-get_or passes a no_holder low; is = sym (closed.logged a log no_holder app).1 ∙ own }
 
 -- the journal of a group with its makers
 record IsToldWhole (groups : ℕ → Group) (lines : ℕ → List WireLine) (passes : List Holder) (n : ℕ) (s : GroupState) : Type 0 where
@@ -69,11 +70,11 @@ laid_by : (groups : ℕ → Group) (lines : ℕ → List WireLine) (n : ℕ) (op
 laid_by groups lines n opening entries s opens is =
     sym (ap (λ (o : GroupState). record { history = record { group = o.history.group; past = reverse entries }; lines = o.lines }) opens) ∙ is
 
-told_whole : (doc : Doc) (groups : ℕ → Group) (lines : ℕ → List WireLine) (passes : List Holder) (journals : List Journal) (logs : List Log) (n : ℕ) (s : GroupState)
+told_whole : (doc : Doc) (groups : ℕ → Group) (lines : ℕ → List WireLine) (apps : ℕ) (passes : List Holder) (journals : List Journal) (logs : List Log) (n : ℕ) (s : GroupState)
     → IsSoundDoc doc → AreStatesOf groups lines doc
-    → AreClosed groups (length doc.groups) passes journals logs → slice_get (groups_by doc journals) n ≡ Some s
+    → AreClosed groups (length doc.groups) apps passes journals logs → slice_get (groups_by doc journals) n ≡ Some s
     → (n < length doc.groups) × IsToldWhole groups lines passes n s
-told_whole doc groups lines passes journals logs n s sound states closed at =
+told_whole doc groups lines apps passes journals logs n s sound states closed at =
     let has = has_journal (all_opened doc.groups doc.wires) journals n s at in
     let count = closed.journal_count in
     let within = slice_get_within journals n has.journal has.told in
@@ -103,40 +104,41 @@ are_numbers number xs count d same each = (
 )
 
 -- so there is a journal for each group, and a log for each application
-pub journals_numbered : (groups : ℕ → Group) (rooms : ℕ) (passes : List Holder) (journals : List Journal) (logs : List Log) → AreClosed groups rooms passes journals logs
+pub journals_numbered : (groups : ℕ → Group) (rooms apps : ℕ) (passes : List Holder) (journals : List Journal) (logs : List Log) → AreClosed groups rooms apps passes journals logs
     → AreNumbers (map (λ j. j.group) journals) rooms
-journals_numbered groups rooms passes journals logs closed =
+journals_numbered groups rooms apps passes journals logs closed =
     are_numbers (λ (j : Journal). j.group) journals rooms no_journal closed.journal_count (λ k low. closed.numbered k no_journal low)
 
-pub logs_numbered : (groups : ℕ → Group) (rooms : ℕ) (passes : List Holder) (journals : List Journal) (logs : List Log) (apps : ℕ) → AreClosed groups rooms passes journals logs
-    → length passes ≡ apps → AreNumbers (map (λ l. l.app.0) logs) apps
-logs_numbered groups rooms passes journals logs apps closed count =
-    are_numbers (λ (l : Log). l.app.0) logs apps no_log (closed.log_count ∙ count) (λ k low. (closed.logged k no_log no_holder (omega (arith, count, low))).0)
+pub logs_numbered : (groups : ℕ → Group) (rooms apps : ℕ) (passes : List Holder) (journals : List Journal) (logs : List Log) → AreClosed groups rooms apps passes journals logs
+    → AreNumbers (map (λ l. l.app.0) logs) apps
+logs_numbered groups rooms apps passes journals logs closed =
+    are_numbers (λ (l : Log). l.app.0) logs apps no_log closed.log_count (λ k low. (closed.logged k no_log no_holder low).0)
 
 -- the points of each script and of all, laid over the document
 pub scripts_are_carried : (doc : Doc) (groups : ℕ → Group) (lines : ℕ → List WireLine) (passes : List Holder) (journals : List Journal) (logs : List Log)
     → IsSoundDoc doc → AreStatesOf groups lines doc
-    → length passes ≡ length (acts_of doc.apps) → AreClosed groups (length doc.groups) passes journals logs
+    → AreClosed groups (length doc.groups) (length (acts_of doc.apps)) passes journals logs
     → HaveRun groups lines (length doc.groups) (acts_of doc.apps) passes → CarriedOut doc journals logs
-scripts_are_carried doc groups lines passes journals logs sound states count closed run =
+scripts_are_carried doc groups lines passes journals logs sound states closed run =
     let rooms = length doc.groups in
     let scripts = acts_of doc.apps in
-    let apps_count : length passes ≡ length doc.apps = count ∙ length-map doc.apps (λ (s : Script). s.acts) in
+    let apps = length scripts in
+    let same : apps ≡ length doc.apps = length-map doc.apps (λ (s : Script). s.acts) in
     record {
-      groups = journals_numbered groups rooms passes journals logs closed;
-      apps = logs_numbered groups rooms passes journals logs (length doc.apps) closed apps_count;
+      groups = journals_numbered groups rooms apps passes journals logs closed;
+      apps = subst (AreNumbers (map (λ l. l.app.0) logs)) same (logs_numbered groups rooms apps passes journals logs closed);
       logged = λ a app log script at.
-          let has = has_pass groups rooms passes journals logs a log closed at in
+          let has = has_pass groups rooms apps passes journals logs a log run.count closed at in
           subst (IsLogged app.acts) has.is (scripts_are_logged groups lines rooms scripts passes a app.acts has.pass run (script_get doc.apps a app script) has.at);
       by_each = λ a n app log s script at laid.
-          let has = has_pass groups rooms passes journals logs a log closed at in
-          let (low, told) = told_whole doc groups lines passes journals logs n s sound states closed laid in
+          let has = has_pass groups rooms apps passes journals logs a log run.count closed at in
+          let (low, told) = told_whole doc groups lines apps passes journals logs n s sound states closed laid in
           let acts_at = script_get doc.apps a app script in
           let done = each_is_carried_out groups lines rooms scripts passes n told.entries told.front a app.acts has.pass run low told.whole acts_at has.at in
           subst (λ (x : GroupState). IsDoneBy (record { 0 = a }) app.acts log.entries n x.history x.lines) told.is
           (subst (λ (x : List LogEntry). IsDoneBy (record { 0 = a }) app.acts x n (history_of (groups n) told.entries) (lines n)) has.is done);
       on_each = λ n s laid.
-          let (low, told) = told_whole doc groups lines passes journals logs n s sound states closed laid in
+          let (low, told) = told_whole doc groups lines apps passes journals logs n s sound states closed laid in
           subst (λ (x : GroupState). IsDoneOn scripts n x.history x.lines) told.is
           (all_are_carried_out groups lines rooms scripts passes n told.entries told.front run low told.whole);
     }

@@ -21,8 +21,10 @@ use Rattle.st_wire.specs.declared.line.WireLine.{WireLine}
 use Rattle.st_board.proofs.Prefixes.{prefix_trans}
 use Rattle.st_world.specs.Acts.{proposed}
 use Rattle.st_world.specs.Rounds.{Run, run_from, enter, unsettled}
-use Rattle.st_world.specs.declared.world.rounds.Going.TheVariants.{On}
-use Rattle.st_service.specs.declared.work.Part.TheVariants.{Whole}
+use Rattle.st_world.specs.declared.world.rounds.Going.{Going}
+use Rattle.st_world.specs.declared.world.rounds.Going.TheVariants.{On, Full}
+use Rattle.st_service.specs.declared.work.Part.{Part}
+use Rattle.st_service.specs.declared.work.Part.TheVariants.{Whole, Update, Monitor}
 use Rattle.st_service.specs.Acts.{ActEnters}
 use Rattle.st_service.specs.Asked.{asker, is_request}
 use Rattle.st_service.specs.Awaits.{Awaits, Waits, WentOn}
@@ -30,13 +32,13 @@ use Rattle.st_service.specs.Made.{Made, past_in}
 use Rattle.st_service.specs.Puts.{Puts, Enters}
 use Rattle.st_run.specs.Requests.{request_by, is_submit}
 use Rattle.st_service.specs.Tickets.{latest_in}
-use Rattle.st_service.specs.Turns.{Turns, RoundsMade}
+use Rattle.st_service.specs.Turns.{Turns, RoundOf, RoundToFull, RoundsMade}
 use Rattle.st_service.specs.Works.{part_of}
 use Rattle.st_run.proofs.DidLaws.{Each, each_append}
 use Rattle.st_service.proofs.HoldLaws.{past_more}
 use Rattle.st_run.proofs.OwnEntries.{Adds, AddsEach, adds_puts, adds_then, each_none}
 use Rattle.st_run.proofs.ProposalLaws.{was_proposed}
-use Rattle.st_run.proofs.RunEntries.{Only, OfTurns, was_entered, only_none, only_enter, only_poll, only_turn, only_made}
+use Rattle.st_run.proofs.RunEntries.{Only, OfTurns, was_entered, only_none, only_enter, only_poll, only_update, only_turn, only_made}
 
 -- an event that is no request
 abbrev pub NoRequest : Event → Type 0
@@ -89,8 +91,8 @@ none_added number act before was after now none a = record { entries = a.entries
 
 -- the events of a hold whose course makes none
 
-pub enters_only : (P : Event → Type 0) (course : List Entry → Run) (number : ℕ) (mid before : List Made) (was : List ℕ) (after : List Made) (now : List ℕ) → Only P (past_in mid) (course (past_in mid)) → Enters course On number mid before was after now → AddsEach (λ e. P e.event) before was after now
-enters_only P course number mid before was after now o e =
+pub enters_only : (P : Event → Type 0) (course : List Entry → Run) (going : Going) (number : ℕ) (mid before : List Made) (was : List ℕ) (after : List Made) (now : List ℕ) → Only P (past_in mid) (course (past_in mid)) → Enters course going number mid before was after now → AddsEach (λ e. P e.event) before was after now
+enters_only P course going number mid before was after now o e =
     let run = course (past_in mid) in
     let is : run.past ≡ reverse e.entries ++ past_in mid = ap (λ (r : Run). r.past) e.run ∙ (ap past_in e.puts.1 ∙ past_more mid number e.entries) in
     record { entries = e.entries; each = only_made P (past_in mid) run e.entries is o; adds = adds_puts number e.entries mid before was after now e.puts }
@@ -98,22 +100,41 @@ enters_only P course number mid before was after now o e =
 pub each_then : (P : Entry → Type 0) (a : List Made) (was : List ℕ) (b : List Made) (mid : List ℕ) (c : List Made) (now : List ℕ) → AddsEach P a was b mid → AddsEach P b mid c now → AddsEach P a was c now
 each_then P a was b mid c now p q = record { entries = p.entries ++ q.entries; each = each_append P p.entries q.entries p.each q.each; adds = adds_then p.entries q.entries a was b mid c now p.adds q.adds }
 
--- a settle, of whose turns each event has a property
+-- a settle, and a round or a half of one, of whose turns each event has a property
 
-turns_only : (P : Event → Type 0) (g : Group) (lines : List WireLine) (number : ℕ) (es : List Entity) (before : List Made) (was : List ℕ) (after : List Made) (now : List ℕ) → OfTurns P → Turns Whole g lines number es before was after now → AddsEach (λ e. P e.event) before was after now
-turns_only P g lines number [] before was after now o t = each_none (λ e. P e.event) before was after now t.0 t.1
-turns_only P g lines number (x ∷ es) before was after now o t =
+only_part : (P : Event → Type 0) (part : Part) (g : Group) (lines : List WireLine) (past : List Entry) (e : Entity) → OfTurns P → Only P past (part_of part g lines (run_from past) e)
+only_part P Whole g lines past e o = only_turn P g lines past (run_from past) e o (only_none P past)
+only_part P Update g lines past e o = only_update P g lines past (run_from past) e o (only_none P past)
+only_part P Monitor g lines past e o = only_poll P g lines past (run_from past) e o (only_none P past)
+
+turns_only : (P : Event → Type 0) (part : Part) (g : Group) (lines : List WireLine) (number : ℕ) (es : List Entity) (before : List Made) (was : List ℕ) (after : List Made) (now : List ℕ) → OfTurns P → Turns part g lines number es before was after now → AddsEach (λ e. P e.event) before was after now
+turns_only P part g lines number [] before was after now o t = each_none (λ e. P e.event) before was after now t.0 t.1
+turns_only P part g lines number (x ∷ es) before was after now o t =
     each_then (λ e. P e.event) before was t.1 t.2 after now
-    (enters_only P (λ past. part_of Whole g lines (run_from past) x) number t.0 before was t.1 t.2 (only_turn P g lines (past_in t.0) (run_from (past_in t.0)) x o (only_none P (past_in t.0))) t.3)
-    (turns_only P g lines number es t.1 t.2 after now o t.4)
+    (enters_only P (λ past. part_of part g lines (run_from past) x) On number t.0 before was t.1 t.2 (only_part P part g lines (past_in t.0) x o) t.3)
+    (turns_only P part g lines number es t.1 t.2 after now o t.4)
+
+pub round_only : (P : Event → Type 0) (part : Part) (g : Group) (lines : List WireLine) (number : ℕ) (before : List Made) (was : List ℕ) (after : List Made) (now : List ℕ) → OfTurns P → RoundOf part g lines number before was after now → AddsEach (λ e. P e.event) before was after now
+round_only P part g lines number before was after now o r =
+    let f = r.0 in
+    let seen : AddsEach (λ e. P e.event) before was f was = each_none (λ e. P e.event) before was f was r.1 refl in
+    each_then (λ e. P e.event) before was f was after now seen (turns_only P part g lines number (unsettled g (past_in f)) f was after now o r.2)
+
+-- or as far as the journal had room
+pub round_full_only : (P : Event → Type 0) (part : Part) (g : Group) (lines : List WireLine) (number : ℕ) (before : List Made) (was : List ℕ) (after : List Made) (now : List ℕ) → OfTurns P → RoundToFull part g lines number before was after now → AddsEach (λ e. P e.event) before was after now
+round_full_only P part g lines number before was after now o r =
+    let f = r.0 in
+    let t = r.2 in
+    let seen : AddsEach (λ e. P e.event) before was f was = each_none (λ e. P e.event) before was f was r.1 refl in
+    let done : AddsEach (λ e. P e.event) f was t.mid t.got = turns_only P part g lines number t.done f was t.mid t.got o t.turns in
+    let last : AddsEach (λ e. P e.event) t.mid t.got after now =
+    enters_only P (λ past. part_of part g lines (run_from past) t.last) Full number t.seen t.mid t.got after now (only_part P part g lines (past_in t.seen) t.last o) t.enters in
+    each_then (λ e. P e.event) before was f was after now seen (each_then (λ e. P e.event) f was t.mid t.got after now done last)
 
 rounds_only : (P : Event → Type 0) (g : Group) (lines : List WireLine) (number k : ℕ) (before : List Made) (was : List ℕ) (after : List Made) (now : List ℕ) → OfTurns P → RoundsMade g lines number k before was after now → AddsEach (λ e. P e.event) before was after now
 rounds_only P g lines number zero before was after now o r = each_none (λ e. P e.event) before was after now r.0 r.1
 rounds_only P g lines number (suc k) before was after now o r =
-    let f = r.2.0 in
-    let seen : AddsEach (λ e. P e.event) before was f was = each_none (λ e. P e.event) before was f was r.2.1 refl in
-    let one : AddsEach (λ e. P e.event) f was r.0 r.1 = turns_only P g lines number (unsettled g (past_in f)) f was r.0 r.1 o r.2.2 in
-    each_then (λ e. P e.event) before was r.0 r.1 after now (each_then (λ e. P e.event) before was f was r.0 r.1 seen one) (rounds_only P g lines number k r.0 r.1 after now o r.3)
+    each_then (λ e. P e.event) before was r.0 r.1 after now (round_only P Whole g lines number before was r.0 r.1 o r.2) (rounds_only P g lines number k r.0 r.1 after now o r.3)
 
 -- an await: only checks, each with the reply that the journal called for
 
@@ -204,6 +225,6 @@ command_adds (Unlock n entity prio) g lines number before was after now legal e 
 command_adds (Read n entity var) g lines number before was after now legal e = none_added number (Read n entity var) before was after now refl (each_none NoneAsks before was after now (subst (IsPrefix before) (sym e.0) ([], append-nil before)) e.1)
 command_adds (ReadAt n version entity var) g lines number before was after now legal e = none_added number (ReadAt n version entity var) before was after now refl (each_none NoneAsks before was after now e.0 e.1)
 command_adds (Fail n entity health rows) g lines number before was after now legal e = none_added number (Fail n entity health rows) before was after now refl
-    (enters_only NoRequest _ number e.0 before was after now (only_enter NoRequest g (past_in e.0) (run_from (past_in e.0)) _ (refl, refl) (only_none NoRequest (past_in e.0))) e.1)
+    (enters_only NoRequest _ On number e.0 before was after now (only_enter NoRequest g (past_in e.0) (run_from (past_in e.0)) _ (refl, refl) (only_none NoRequest (past_in e.0))) e.1)
 command_adds (Poll n entity) g lines number before was after now legal e = none_added number (Poll n entity) before was after now refl
-    (enters_only NoRequest _ number e.0 before was after now (only_poll NoRequest g lines (past_in e.0) (run_from (past_in e.0)) entity no_turns (only_none NoRequest (past_in e.0))) e.1)
+    (enters_only NoRequest _ On number e.0 before was after now (only_poll NoRequest g lines (past_in e.0) (run_from (past_in e.0)) entity no_turns (only_none NoRequest (past_in e.0))) e.1)

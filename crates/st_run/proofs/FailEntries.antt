@@ -1,6 +1,6 @@
 -- The failures that a pass's entries make of a group, by its list of places, as its commands are done: a command that asks for a failure makes it,
 -- and no other command makes one.
-use Rattle.std.proofs.Common.{◌≡◌, ℕ, zero, suc, ◌+◌, ◌<◌, Bool, true, false, List, [], ◌∷◌, ◌++◌, length, take, refl, ap, sym, subst, ◌∙◌, arith, append_assoc}
+use Rattle.std.proofs.Common.{◌≡◌, ℕ, zero, suc, ◌<◌, Bool, true, false, List, [], ◌∷◌, ◌++◌, length, take, refl, ap, sym, subst, ◌∙◌, arith, append_assoc}
 use Rattle.std.specs.Prelude.{Option, Some, None, slice_get, reverse, ◌==◌, if◌then◌else◌}
 use Rattle.std.specs.List.{filter}
 use Rattle.std.proofs.lemmas.List.{append-nil, append_cancel_left, append_cancel_right, reverse-reverse, take-append-le}
@@ -150,7 +150,7 @@ turns_calm : (g : Group) (lines : List WireLine) (number : ℕ) (es : List Entit
     → Turns Whole g lines number es before was after now → AddsEach (NoFailure g) before was after now
 turns_calm g lines number [] before was after now t = each_none (NoFailure g) before was after now t.0 t.1
 turns_calm g lines number (x ∷ es) before was after now t = each_then (NoFailure g) before was t.1 t.2 after now
-    (enters_only (NeverFails g) (λ past. part_of Whole g lines (run_from past) x) number t.0 before was t.1 t.2
+    (enters_only (NeverFails g) (λ past. part_of Whole g lines (run_from past) x) On number t.0 before was t.1 t.2
     (only_turn (NeverFails g) g lines (past_in t.0) (run_from (past_in t.0)) x (calm_turns g) (only_none (NeverFails g) (past_in t.0))) t.3)
     (turns_calm g lines number es t.1 t.2 after now t.4)
 
@@ -226,16 +226,16 @@ pub command_fails : (act : Act) (g : Group) (lines : List WireLine) (number : �
     → AllWithin 0 (length before) was → Grows (act_share act g lines) before was after now
     → ActEnters act g lines number before was after now → Fails g (act ∷ []) before was after now
 command_fails (Propose n rows) g lines number before was after now w grows e = calm_command g (Propose n rows) _ before was after now refl w grows
-    (enters_only (NeverFails g) _ number e.0 before was after now (calm_proposed g number rows (past_in e.0)) e.1)
+    (enters_only (NeverFails g) _ On number e.0 before was after now (calm_proposed g number rows (past_in e.0)) e.1)
 command_fails (Await n) g lines number before was after now w grows e = calm_command g (Await n) _ before was after now refl w grows
     (awaits_calm g before was after now (awaits_checked g number (latest_in before was) before was after now e))
 command_fails (Settle n rounds) g lines number before was after now w grows e = calm_command g (Settle n rounds) _ before was after now refl w grows
     (each_then (NoFailure g) before was e.2 now after now (rounds_calm g lines number e.0 before was e.2 now e.3) (each_none (NoFailure g) e.2 now after now e.4 refl))
 command_fails (Lock n entity prio) g lines number before was after now w grows e = calm_command g (Lock n entity prio) _ before was after now refl w grows
-    (enters_only (NeverFails g) _ number e.0 before was after now (only_enter (NeverFails g) g (past_in e.0) (run_from (past_in e.0))
+    (enters_only (NeverFails g) _ On number e.0 before was after now (only_enter (NeverFails g) g (past_in e.0) (run_from (past_in e.0))
     (lock_event (record { 0 = number }) entity prio) (λ p. refl) (only_none (NeverFails g) (past_in e.0))) e.1)
 command_fails (Unlock n entity prio) g lines number before was after now w grows e = calm_command g (Unlock n entity prio) _ before was after now refl w grows
-    (enters_only (NeverFails g) _ number e.0 before was after now (only_enter (NeverFails g) g (past_in e.0) (run_from (past_in e.0))
+    (enters_only (NeverFails g) _ On number e.0 before was after now (only_enter (NeverFails g) g (past_in e.0) (run_from (past_in e.0))
     (unlock_event (record { 0 = number }) entity prio) (λ p. refl) (only_none (NeverFails g) (past_in e.0))) e.1)
 command_fails (Read n entity var) g lines number before was after now w grows e = calm_command g (Read n entity var) _ before was after now refl w grows
     (each_none (NoFailure g) before was after now (subst (IsPrefix before) (sym e.0) ([], append-nil before)) e.1)
@@ -244,7 +244,7 @@ command_fails (ReadAt n version entity var) g lines number before was after now 
     (each_none (NoFailure g) before was after now e.0 e.1)
 command_fails (Fail n entity health rows) g lines number before was after now w grows e = failed_entry g lines number n entity health rows e.0 before was after now w e.1
 command_fails (Poll n entity) g lines number before was after now w grows e = calm_command g (Poll n entity) _ before was after now refl w grows
-    (enters_only (NeverFails g) _ number e.0 before was after now (only_poll (NeverFails g) g lines (past_in e.0) (run_from (past_in e.0)) entity
+    (enters_only (NeverFails g) _ On number e.0 before was after now (only_poll (NeverFails g) g lines (past_in e.0) (run_from (past_in e.0)) entity
     (calm_turns g) (only_none (NeverFails g) (past_in e.0))) e.1)
 
 -- a chain of commands

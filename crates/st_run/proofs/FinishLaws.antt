@@ -1,10 +1,13 @@
 -- Two lists that grow side by side: what holds of their items at each place, and of some place for the number that was met first.
-use Rattle.std.proofs.Common.{◌≡◌, ◌⊎◌, ⊎_elim, ℕ, ◌+◌, ◌<◌, List, [], ◌∷◌, ◌++◌, length, get_or, sym, subst, ap, arith, length-append}
-use Rattle.std.specs.Prelude.{Option, Some, IfSome}
+use Rattle.std.proofs.Common.{◌≡◌, ◌⊎◌, ⊎_elim, ℕ, ◌+◌, ◌<◌, ◌≤◌, Bool, true, false, List, [], ◌∷◌, ◌++◌, length, get_or, refl, sym, subst, ap, ◌∙◌, arith, length-append}
+use Rattle.std.specs.Prelude.{All, Option, Some, IfSome, nat_lt, if◌then◌else◌}
 use Rattle.std.proofs.lemmas.List.{get_or_append_left, get_or_at}
 use Rattle.std.proofs.lemmas.Option.{IfSome_then}
 use Rattle.std.proofs.Math.Seq.{get_or-append_seam}
+use Rattle.st_net.proofs.Tests.{less, less_is}
+use Rattle.st_event.specs.declared.act.Act.{Act}
 use Rattle.st_service.proofs.ClosingLaws.{both_more}
+use Rattle.st_run.specs.Chores.{awaits_for}
 
 pub pushed_length : {Y : Type 0} (ys new : List Y) (y : Y) → new ≡ ys ++ y ∷ [] → length new ≡ length ys + 1
 pushed_length ys new y items = omega (arith, ap length items, length-append ys (y ∷ []))
@@ -54,3 +57,37 @@ full_of_two P Q a b r first goes old here = IfSome_then r first (λ m which. ⊎
     (λ (e : a ≡ Some m). goes m (subst (λ (o : Option ℕ). IfSome o P) e old))
     (λ (e : b ≡ Some m). subst (λ (o : Option ℕ). IfSome o Q) e here)
     which)
+
+-- the awaits of a number
+
+pub awaits_some : (apps n : ℕ) (xs : List Act) → 0 < length (awaits_for apps n xs) → n < apps
+awaits_some apps n xs = by (nat_lt n apps) refl
+  where
+    by : (b : Bool) → nat_lt n apps ≡ b → 0 < length (if b then xs else []) → n < apps
+    by true is some = less_is n apps is
+    by false is some = absurd (omega (arith, some))
+
+pub awaits_all : (P : Act → Type 0) (apps n : ℕ) (xs : List Act) → All P xs → All P (awaits_for apps n xs)
+awaits_all P apps n xs all = by (nat_lt n apps)
+  where
+    by : (b : Bool) → All P (if b then xs else [])
+    by true = all
+    by false = λ k d lt. absurd (omega (arith, lt))
+
+pub awaits_own : (apps n : ℕ) (xs : List Act) → n < apps → awaits_for apps n xs ≡ xs
+awaits_own apps n xs low = by (nat_lt n apps) refl
+  where
+    by : (b : Bool) → nat_lt n apps ≡ b → (if b then xs else []) ≡ xs
+    by true is = refl
+    by false is = let yes : nat_lt n apps ≡ true = less n apps low in let both : true ≡ false = sym yes ∙ is in absurd (cc both)
+
+pub awaits_none : (apps n : ℕ) (xs : List Act) → apps ≤ n → awaits_for apps n xs ≡ []
+awaits_none apps n xs high = by (nat_lt n apps) refl
+  where
+    by : (b : Bool) → nat_lt n apps ≡ b → (if b then xs else []) ≡ []
+    by true is = absurd (omega (arith, high, less_is n apps is))
+    by false is = refl
+
+-- the item that stands behind those so far
+pub at_seam : {X : Type 0} (all ys rest : List X) (x d : X) → all ≡ ys ++ x ∷ rest → get_or all (length ys) d ≡ x
+at_seam all ys rest x d is = ap (λ l. get_or l (length ys) d) is ∙ get_or-append_seam ys x rest d

@@ -1,11 +1,9 @@
 -- Two legal journals of one group with the same events are the same: each reply is the one that the entries before it call for.
-use Rattle.std.proofs.Common.{◌≡◌, List, [], ◌∷◌, length, map, refl, ap, sym, ◌∙◌, subst, arith}
-use Rattle.std.proofs.lemmas.List.{length-map}
+use Rattle.std.proofs.Common.{◌≡◌, List, [], ◌∷◌, length, refl, ap, sym, ◌∙◌, arith}
 use Rattle.st_net.specs.Groups.{Group}
 use Rattle.st_event.specs.declared.event.Event.{Event}
 use Rattle.st_event.specs.declared.journal.Entry.{Entry}
 use Rattle.st_event.specs.declared.reply.Reply.{Reply}
-use Rattle.st_event.specs.Legal.{IsLegal}
 use Rattle.st_event.specs.Replies.{reply}
 use Rattle.st_run.specs.Isolation.{EventsTellJournals}
 

@@ -3,6 +3,7 @@ pub mod SmallCases
 pub mod WorkedScripts
 pub mod WorkedTurns
 pub mod WorkedOut
+pub mod WorkedWorkers
 pub mod DidLaws
 pub mod OwnEntries
 pub mod OwnRequests
@@ -12,7 +13,9 @@ pub mod CommandEntries
 pub mod ScriptEntries
 pub mod GivenTickets
 pub mod OwnTickets
+pub mod WorkerEntries
 pub mod PendingLaws
+pub mod HalfLaws
 pub mod EntryNumbers
 pub mod SettledTurns
 pub mod LatestTickets
@@ -25,7 +28,6 @@ pub mod LoggedReads
 pub mod SeenAwaited
 pub mod SeenTickets
 pub mod SeenTruths
-pub mod EntryOwners
 pub mod FailEntries
 pub mod Interleaved
 pub mod PollStarts
@@ -37,7 +39,9 @@ pub mod FinishLaws
 pub mod MostMade
 pub mod OpenedGroups
 pub mod OpenedWorlds
+pub mod TaskLaws
 pub mod PlayLaws
+pub mod EndingLaws
 pub mod RunLaws
 pub mod WentLaws
 pub mod Isolation

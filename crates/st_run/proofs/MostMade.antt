@@ -1,9 +1,9 @@
 -- Passes together make no more entries on a group than the scripts of their applications can make at the most.
-use Rattle.std.proofs.Common.{◌≡◌, ℕ, suc, ◌+◌, ◌*◌, ◌<◌, ◌≤◌, Bool, true, false, List, [], ◌∷◌, length, refl, ap, ◌∙◌, arith}
-use Rattle.std.specs.Prelude.{Some, slice_get, sum_by, option_map, ◌==◌, if◌then◌else◌}
-use Rattle.std.proofs.Math.Nat.{mul_comm, mul-suc}
+use Rattle.std.proofs.Common.{◌≡◌, ℕ, suc, ◌+◌, ◌*◌, ◌<◌, ◌≤◌, Bool, true, false, List, [], ◌∷◌, length, refl, ap, sym, subst, ◌∙◌, arith}
+use Rattle.std.specs.Prelude.{Some, drop, slice_get, sum_by, option_map, ◌==◌, if◌then◌else◌}
+use Rattle.std.proofs.Math.Nat.{add-mul, mul_comm, mul-suc}
 use Rattle.std.proofs.lemmas.List.{length-map}
-use Rattle.std.proofs.lemmas.List.Sums.{sum_by-cons, sum_by-le-sum_by}
+use Rattle.std.proofs.lemmas.List.Sums.{sum_by-cons}
 use Rattle.std.proofs.lemmas.Option.{slice_get-map}
 use Rattle.st_net.specs.Groups.{Group}
 use Rattle.st_net.specs.InOrder.{entities_of, entity_count}
@@ -15,25 +15,33 @@ use Rattle.st_wire.specs.declared.line.WireLine.{WireLine}
 use Rattle.st_world.specs.Acts.{group_number}
 use Rattle.st_service.specs.Passes.{Holder, mine_at}
 use Rattle.st_service.specs.Shares.{act_share}
+use Rattle.st_service.proofs.ClosingLaws.{sum_by_map}
 use Rattle.st_grammar.specs.declared.doc.Script.{Script}
 use Rattle.st_serial.specs.Most.{script_most, share_on}
-use Rattle.st_serial.specs.Shares.{share, turn_most}
-use Rattle.st_run.specs.Played.{IsFinished, acts_of}
+use Rattle.st_serial.specs.Shares.{share}
+use Rattle.st_run.specs.Played.{IsFinished, acts_of, made_on}
 use Rattle.st_run.specs.Went.{shares_on}
+use Rattle.st_run.specs.Workers.{worker_share, worker_shares_on}
 
--- the share of a command that a pass does is within that of the command on one thread
+-- the share of a command that a pass does, with that of workers for it, is within that of the command on one thread
 
-rounds_within : (rounds turns own all : ℕ) → own ≡ all → rounds * (turns * own) ≤ turns * all * (rounds + 1)
-rounds_within rounds turns own all is =
+-- a round more than a settle asks for has room for a half of each kind
+halves_are : (d own : ℕ) → (3 + d) * own + (2 + d) * own ≡ (5 + 2 * d) * own
+halves_are d own = sym (add-mul (3 + d) (2 + d) own) ∙ ap (λ (m : ℕ). m * own) (omega arith)
+
+rounds_within : (rounds d own all : ℕ) → own ≡ all → rounds * ((5 + 2 * d) * own) + ((3 + d) * own + (2 + d) * own) ≤ (5 + 2 * d) * all * (rounds + 1)
+rounds_within rounds d own all is =
+    let turns = 5 + 2 * d in
     let same : rounds * (turns * own) ≡ turns * all * rounds = ap (λ (m : ℕ). rounds * (turns * m)) is ∙ mul_comm rounds (turns * all) in
+    let half : (3 + d) * own + (2 + d) * own ≡ turns * all = halves_are d own ∙ ap (λ (m : ℕ). turns * m) is in
     let next : rounds + 1 ≡ suc rounds = omega arith in
     let more = ap (λ (m : ℕ). turns * all * m) next ∙ mul-suc (turns * all) rounds in
-    omega (arith, same, more)
+    omega (arith, same, half, more)
 
-pub share_within : (act : Act) (g : Group) (lines : List WireLine) → act_share act g lines ≤ share act g lines
+pub share_within : (act : Act) (g : Group) (lines : List WireLine) → act_share act g lines + worker_share act g lines ≤ share act g lines
 share_within (Propose n rows) g lines = omega arith
 share_within (Await n) g lines = omega arith
-share_within (Settle n rounds) g lines = rounds_within rounds (turn_most lines) (length (entities_of g)) (entity_count g) (entities_count g)
+share_within (Settle n rounds) g lines = rounds_within rounds (length lines) (length (entities_of g)) (entity_count g) (entities_count g)
 share_within (Lock n entity prio) g lines = omega arith
 share_within (Unlock n entity prio) g lines = omega arith
 share_within (Fail n entity health rows) g lines = omega arith
@@ -43,36 +51,49 @@ share_within (ReadAt n version entity var) g lines = omega arith
 
 -- so are those of a script's commands on a group
 
-one_within : (b : Bool) (own all : ℕ) → own ≤ all → (if b then own else 0) ≤ (if b then all else 0)
-one_within true own all low = low
-one_within false own all low = omega arith
+one_within : (b : Bool) (own workers all : ℕ) → own + workers ≤ all → (if b then own else 0) + (if b then workers else 0) ≤ (if b then all else 0)
+one_within true own workers all low = low
+one_within false own workers all low = omega arith
 
-pub shares_within : (n : ℕ) (g : Group) (lines : List WireLine) (acts : List Act) → shares_on n g lines acts ≤ sum_by (share_on n g lines) acts
-shares_within n g lines acts =
-    sum_by-le-sum_by (λ (act : Act). if group_number act == n then act_share act g lines else 0) (share_on n g lines) acts
-    (λ act. one_within (group_number act == n) (act_share act g lines) (share act g lines) (share_within act g lines))
+pub shares_within : (n : ℕ) (g : Group) (lines : List WireLine) (acts : List Act) → shares_on n g lines acts + worker_shares_on n g lines acts ≤ sum_by (share_on n g lines) acts
+shares_within n g lines [] = omega arith
+shares_within n g lines (act ∷ acts) =
+    let own = λ (act : Act). if group_number act == n then act_share act g lines else 0 in
+    let workers = λ (act : Act). if group_number act == n then worker_share act g lines else 0 in
+    let one = one_within (group_number act == n) (act_share act g lines) (worker_share act g lines) (share act g lines) (share_within act g lines) in
+    let rest = shares_within n g lines acts in
+    omega (arith, one, rest, sum_by-cons own act acts, sum_by-cons workers act acts, sum_by-cons (share_on n g lines) act acts)
 
--- a sum over passes, of which each has little more than its application
-sums_within : (own : Holder → ℕ) (all : Script → ℕ) (few : ℕ) (apps : List Script) (passes : List Holder) → length passes ≡ length apps
-    → ((a : ℕ) (app : Script) (p : Holder) → slice_get apps a ≡ Some app → slice_get passes a ≡ Some p → own p ≤ all app + few)
-    → sum_by own passes ≤ sum_by all apps + few * length apps
-sums_within own all few [] [] same each = omega arith
-sums_within own all few [] (p ∷ passes) same each = absurd (omega (arith, same))
-sums_within own all few (app ∷ apps) [] same each = absurd (omega (arith, same))
-sums_within own all few (app ∷ apps) (p ∷ passes) same each =
-    let rest = sums_within own all few apps passes (omega (arith, same)) (λ a script q. each (suc a) script q) in
+-- a sum over passes, of which those of applications each have little more than its commands, and those behind have what workers may do for all
+-- applications
+sums_within : (own : Holder → ℕ) (acts_most workers all : Script → ℕ) (few : ℕ) (apps : List Script) (passes : List Holder) → length apps ≤ length passes
+    → ((app : Script) → acts_most app + workers app ≤ all app)
+    → ((a : ℕ) (app : Script) (p : Holder) → slice_get apps a ≡ Some app → slice_get passes a ≡ Some p → own p ≤ acts_most app + few)
+    → (more : ℕ) → sum_by own (drop (length apps) passes) ≤ more + sum_by workers apps
+    → sum_by own passes ≤ more + sum_by all apps + few * length apps
+sums_within own acts_most workers all few [] passes many fit each more behind = omega (arith, behind)
+sums_within own acts_most workers all few (app ∷ apps) [] many fit each more behind = absurd (omega (arith, many))
+sums_within own acts_most workers all few (app ∷ apps) (p ∷ passes) many fit each more behind =
     let first = each 0 app p refl refl in
-    omega (arith, rest, first, sum_by-cons own p passes, sum_by-cons all app apps, mul-suc few (length apps))
+    let next : sum_by own (drop (length apps) passes) ≤ (more + workers app) + sum_by workers apps = omega (arith, behind, sum_by-cons workers app apps) in
+    let rest = sums_within own acts_most workers all few apps passes (omega (arith, many)) fit (λ a script q. each (suc a) script q) (more + workers app) next in
+    omega (arith, rest, first, fit app, sum_by-cons own p passes, sum_by-cons all app apps, mul-suc few (length apps))
 
--- what finished passes made on a group
+-- what passes made on a group, of which those of applications are finished
 pub made_within : (groups : ℕ → Group) (lines : ℕ → List WireLine) (rooms n : ℕ) (apps : List Script) (passes : List Holder) → n < rooms
-    → length passes ≡ length (acts_of apps)
+    → length (acts_of apps) ≤ length passes
     → ((a : ℕ) (acts : List Act) (p : Holder) → slice_get (acts_of apps) a ≡ Some acts → slice_get passes a ≡ Some p → IsFinished groups lines rooms a acts p)
-    → sum_by (λ (p : Holder). length (mine_at p.mines n)) passes ≤ sum_by (script_most n (groups n) (lines n)) apps + MAX_PENDING * length apps
-made_within groups lines rooms n apps passes low same finished =
+    → made_on n (drop (length (acts_of apps)) passes) ≤ sum_by (worker_shares_on n (groups n) (lines n)) (acts_of apps)
+    → made_on n passes ≤ sum_by (script_most n (groups n) (lines n)) apps + MAX_PENDING * length apps
+made_within groups lines rooms n apps passes low many finished worked =
     let acts_in : Script → List Act = λ app. app.acts in
-    sums_within (λ (p : Holder). length (mine_at p.mines n)) (script_most n (groups n) (lines n)) MAX_PENDING apps passes (same ∙ length-map apps acts_in)
-    (λ a app p script pass.
-    let few = (finished a app.acts p (slice_get-map acts_in apps a ∙ ap (option_map acts_in) script) pass).few n low in
-    let all = shares_within n (groups n) (lines n) app.acts in
-    omega (arith, few, all))
+    let count = length-map apps acts_in in
+    let own : Holder → ℕ = λ p. length (mine_at p.mines n) in
+    let workers : Script → ℕ = λ app. worker_shares_on n (groups n) (lines n) app.acts in
+    let behind : sum_by own (drop (length apps) passes) ≤ 0 + sum_by workers apps =
+    subst (λ (k : ℕ). sum_by own (drop k passes) ≤ 0 + sum_by workers apps) count (omega (arith, worked, sum_by_map acts_in (worker_shares_on n (groups n) (lines n)) apps)) in
+    let all = sums_within own (λ app. shares_on n (groups n) (lines n) app.acts) workers (script_most n (groups n) (lines n)) MAX_PENDING apps passes (omega (arith, many, count))
+    (λ app. shares_within n (groups n) (lines n) app.acts)
+    (λ a app p script pass. (finished a app.acts p (slice_get-map acts_in apps a ∙ ap (option_map acts_in) script) pass).few n low)
+    0 behind in
+    omega (arith, all)

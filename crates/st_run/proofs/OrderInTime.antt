@@ -15,7 +15,7 @@ use Rattle.st_wire.specs.declared.line.WireLine.{WireLine}
 use Rattle.st_board.proofs.Prefixes.{prefix_trans, prefix_length}
 use Rattle.st_world.specs.Acts.{group_number}
 use Rattle.st_service.specs.Awaits.{Awaits}
-use Rattle.st_run.specs.CarriedOn.{EachAct, IsSettledIn, Settles, done_by, first_of}
+use Rattle.st_run.specs.CarriedOn.{EachAct, IsSettledIn, done_by, first_of}
 use Rattle.st_run.specs.Jobs.{Does, Did}
 use Rattle.st_service.specs.Made.{Made, past_in}
 use Rattle.st_service.specs.Passes.{Holder, front_at, mine_at}

@@ -1,5 +1,5 @@
--- Each request of a journal that was told whole names the pass that made it, and so one of the document's applications.
-use Rattle.std.proofs.Common.{◌≡◌, ℕ, suc, ◌<◌, Bool, true, false, List, [], ◌∷◌, ◌++◌, length, refl, ap, sym, subst, ◌∙◌, arith, append_assoc, length-append}
+-- Each request of a journal that was told whole names the pass that made it, and so one of the document's applications; the passes of workers make none.
+use Rattle.std.proofs.Common.{◌≡◌, ⊎_elim, ℕ, suc, ◌<◌, ◌≤◌, Bool, true, false, List, [], ◌∷◌, ◌++◌, length, refl, ap, sym, subst, ◌∙◌, arith, append_assoc, length-append}
 use Rattle.std.specs.Prelude.{◌==◌, All, Option, Some, None, map, reverse, slice_get, if◌then◌else◌}
 use Rattle.std.proofs.lemmas.List.{reverse-reverse}
 use Rattle.st_net.proofs.Tests.{equal_numbers, equal_self}
@@ -12,8 +12,9 @@ use Rattle.st_service.specs.Closed.{IsWhole, positions}
 use Rattle.st_service.specs.Made.{Made}
 use Rattle.st_service.specs.Passes.{Holder}
 use Rattle.st_run.specs.Running.{IsByOneOf}
+use Rattle.st_run.specs.Workers.{MadeByWorker, is_workers}
 use Rattle.st_run.proofs.DidLaws.{Each, each_all}
-use Rattle.st_run.proofs.EntryOwners.{entries_owned}
+use Rattle.st_run.proofs.WorkerEntries.{IsByOrWorkers, scripts_or_workers}
 
 -- the entry at a place is a request that names an application
 abbrev is_of_at : ℕ → Option Made → Bool
@@ -111,19 +112,38 @@ by_one count n (Report entity) low own = tt
 by_one count n (Hear m) low own = tt
 by_one count n (Fail entity vals health) low own = tt
 
-front_by : (count : ℕ) (ms : List Made) → ((a : ℕ) → a < count → Each (IsOwnOf a) ms) → Each (λ m. m.by < count) ms → Each (λ e. IsByOneOf count e.event) (map (λ m. m.entry) ms)
-front_by count [] own below = tt
-front_by count (m ∷ ms) own below =
-    (by_one count m.by m.entry.event below.0 ((own m.by below.0).0 (equal_self m.by)), front_by count ms (λ a low. (own a low).1) below.1)
+-- an entry that a worker makes is no request
+by_worker : (count : ℕ) (event : Event) → is_workers event ≡ true → IsByOneOf count event
+by_worker count (Submit app rows) is = absurd (cc is)
+by_worker count Check is = tt
+by_worker count (Lock app entity prio) is = absurd (cc is)
+by_worker count (Unlock app entity prio) is = absurd (cc is)
+by_worker count (Send entity) is = tt
+by_worker count (Deliver m) is = tt
+by_worker count (Finish entity) is = tt
+by_worker count (Report entity) is = tt
+by_worker count (Hear m) is = tt
+by_worker count (Fail entity vals health) is = tt
+
+front_by : (count : ℕ) (ms : List Made) → ((a : ℕ) → a < count → Each (IsOwnOf a) ms) → Each (IsByOrWorkers count) ms → Each (λ e. IsByOneOf count e.event) (map (λ m. m.entry) ms)
+front_by count [] own by = tt
+front_by count (m ∷ ms) own by = (
+  ⊎_elim
+      (λ (low : m.by < count). by_one count m.by m.entry.event low ((own m.by low).0 (equal_self m.by)))
+      (λ (is : is_workers m.entry.event ≡ true). by_worker count m.entry.event is)
+      by.0,
+  front_by count ms (λ a low. (own a low).1) by.1,
+)
 
 nobody : Holder
 nobody = record { number = 0; fronts = []; mines = []; readers = []; log = [] }
 
-pub requests_own : (g : Group) (passes : List Holder) (n : ℕ) (entries : List Entry) (front : List Made) → IsWhole g passes n entries front
-    → All (λ entry. IsByOneOf (length passes) entry.event) entries
-requests_own g passes n entries front whole =
-    let count = length passes in
+-- where the passes from this number on made only what workers make
+pub requests_own : (g : Group) (passes : List Holder) (n : ℕ) (entries : List Entry) (front : List Made) (count : ℕ) → count ≤ length passes
+    → ((a : ℕ) (p : Holder) → count ≤ a → slice_get passes a ≡ Some p → MadeByWorker p) → IsWhole g passes n entries front
+    → All (λ entry. IsByOneOf count entry.event) entries
+requests_own g passes n entries front count many workers whole =
     let made = map (λ (m : Made). m.entry) front in
     let same : made ≡ entries = sym (reverse-reverse made) ∙ ap reverse whole.journal ∙ reverse-reverse entries in
-    let each = front_by count front (λ a low. pass_owned g passes n entries front a nobody whole low) (entries_owned g passes n entries front whole) in
+    let each = front_by count front (λ a low. pass_owned g passes n entries front a nobody whole (omega (arith, low, many))) (scripts_or_workers g passes n entries front count workers whole) in
     each_all (λ entry. IsByOneOf count entry.event) entries (subst (Each (λ entry. IsByOneOf count entry.event)) same each)

@@ -6,16 +6,19 @@ use Rattle.std.proofs.lemmas.List.{reverse-append}
 use Rattle.std.proofs.lemmas.Bool.Decides.{nat_tests}
 use Rattle.st_net.specs.Groups.{Group}
 use Rattle.st_net.proofs.Tests.{equal_self}
+use Rattle.st_event.specs.declared.event.Event.{Event}
 use Rattle.st_event.specs.declared.journal.Entry.{Entry}
 use Rattle.st_event.specs.Legal.{IsLegal}
 use Rattle.st_event.specs.Proposals.{proposals}
+use Rattle.st_event.specs.Replies.{reply}
 use Rattle.st_service.specs.Closed.{IsWhole, positions}
 use Rattle.st_service.specs.Made.{Made}
 use Rattle.st_service.specs.Passes.{Holder, mine_at}
 use Rattle.st_service.specs.Tickets.{ticket_in, ticket_of, last_ticket, latest_in}
 use Rattle.st_service.proofs.Counts.{sum_to, sum_by_index, sum_same}
+use Rattle.st_run.specs.Requests.{is_submit}
 use Rattle.st_run.proofs.DidLaws.{Each}
-use Rattle.st_run.proofs.GivenTickets.{counted, last_append}
+use Rattle.st_run.proofs.GivenTickets.{counted, last_append, no_ticket}
 use Rattle.st_run.proofs.OwnEntries.{and_entry, entries_at}
 use Rattle.st_run.proofs.ScriptEntries.{at_if, get_here}
 use Rattle.st_service.proofs.Whole.{one, same, times}
@@ -133,8 +136,8 @@ made_by_passes g passes n entries front w =
     let is : sum_to (λ k. length (mine_at (get_or passes k d).mines n)) (length passes) ≡ sum_to (λ k. times k front) (length passes) = sum_same (λ k. length (mine_at (get_or passes k d).mines n)) (λ k. times k front) (length passes) each in
     makers front (length passes) (omega (arith, sum, is))
 
--- the pass of the latest ticket of a journal, whose newest entry stands first here
-pub newest : (g : Group) (count : ℕ) (ms : List Made) → IsLegal g (map (λ (m : Made). m.entry) ms) → 0 < length (proposals (map (λ (m : Made). m.entry) ms)) → Each (λ (m : Made). m.by < count) ms
+-- the pass of the latest ticket of a journal, whose newest entry stands first here, where these passes alone propose
+pub newest : (g : Group) (count : ℕ) (ms : List Made) → IsLegal g (map (λ (m : Made). m.entry) ms) → 0 < length (proposals (map (λ (m : Made). m.entry) ms)) → Each (λ (m : Made). is_submit m.entry.event ≡ true → m.by < count) ms
     → (b : ℕ) × (b < count) × (last_ticket (own b (reverse ms)) ≡ Some (length (proposals (map (λ (m : Made). m.entry) ms))))
 newest g count [] legal some each = absurd (omega (arith, some))
 newest g count (m ∷ ms) legal some each = ⊎_elim
@@ -142,9 +145,13 @@ newest g count (m ∷ ms) legal some each = ⊎_elim
     let rest = newest g count ms legal.1 (omega (arith, some, t.1)) each.1 in
     (rest.0, rest.1, seam rest.0 ∙ (ap (λ (o : Option ℕ). option_or o (last_ticket (own rest.0 (reverse ms)))) (quiet (m.by == rest.0) t.0) ∙ (rest.2 ∙ ap Some (sym t.1)))))
     (λ (t : ticket_in m.entry.reply ≡ Some (length (proposals (map (λ (x : Made). x.entry) (m ∷ ms))))).
-    (m.by, each.0, seam m.by ∙ ap (λ (o : Option ℕ). option_or o (last_ticket (own m.by (reverse ms)))) (told (m.by == m.by) (equal_self m.by) ∙ t)))
+    (m.by, each.0 (given m.entry.event legal.0.answer t (is_submit m.entry.event) refl), seam m.by ∙ ap (λ (o : Option ℕ). option_or o (last_ticket (own m.by (reverse ms)))) (told (m.by == m.by) (equal_self m.by) ∙ t)))
     (counted g (map (λ (x : Made). x.entry) ms) m.entry legal.0)
   where
+    given : (event : Event) → m.entry.reply ≡ reply g (map (λ (x : Made). x.entry) ms) event → ticket_in m.entry.reply ≡ Some (length (proposals (map (λ (x : Made). x.entry) (m ∷ ms)))) → (b : Bool) → is_submit event ≡ b → is_submit event ≡ true
+    given event answer told_it true is = is
+    given event answer told_it false is = let none : ticket_in m.entry.reply ≡ None = ap ticket_in answer ∙ no_ticket g (map (λ (x : Made). x.entry) ms) event is in absurd (cc none)
+
     seam : (b : ℕ) → last_ticket (own b (reverse (m ∷ ms))) ≡ option_or (last_ticket (own b (m ∷ []))) (last_ticket (own b (reverse ms)))
     seam b = ap (λ (l : List Made). last_ticket (own b l)) (reverse-append (m ∷ []) ms) ∙ (ap last_ticket (own_append b (reverse ms) (m ∷ [])) ∙ last_append (own b (reverse ms)) (own b (m ∷ [])))
 

@@ -1,6 +1,6 @@
 -- Nothing is pending behind the awaits of all passes.
-use Rattle.std.proofs.Common.{◌≡◌, ℕ, zero, suc, ◌<◌, ◌≤◌, List, [], ◌∷◌, ◌++◌, length, map, refl, ap, sym, subst, ◌∙◌, arith, append_assoc}
-use Rattle.std.specs.Prelude.{Option, Some, None, slice_get, reverse}
+use Rattle.std.proofs.Common.{◌≡◌, ⊎_elim, ℕ, zero, suc, ◌<◌, ◌≤◌, List, [], ◌∷◌, ◌++◌, length, map, refl, ap, sym, subst, ◌∙◌, arith, append_assoc}
+use Rattle.std.specs.Prelude.{true, Option, Some, None, slice_get, reverse}
 use Rattle.std.specs.Option.{option_or}
 use Rattle.std.proofs.Math.ListN.{drop_of_length-le}
 use Rattle.std.proofs.lemmas.List.{map-append, reverse-append, reverse-reverse}
@@ -8,6 +8,8 @@ use mathlib.Core.List.{IsPrefix}
 use Rattle.st_net.specs.Groups.{Group}
 use Rattle.st_event.specs.declared.act.Act.{Act}
 use Rattle.st_event.specs.declared.act.Act.TheVariants.{Await}
+use Rattle.st_event.specs.declared.event.Event.{Event}
+use Rattle.st_event.specs.declared.event.Event.TheVariants.{Submit, Check, Lock as lock_event, Unlock as unlock_event, Send, Deliver, Finish, Report, Hear, Fail as fail_event}
 use Rattle.st_event.specs.declared.journal.Entry.{Entry}
 use Rattle.st_event.specs.Legal.{IsLegal}
 use Rattle.st_event.specs.Proposals.{deciders, pending, proposals}
@@ -16,17 +18,20 @@ use Rattle.st_wire.specs.declared.line.WireLine.{WireLine}
 use Rattle.st_service.specs.Awaits.{Awaits}
 use Rattle.st_service.specs.Closed.{IsWhole}
 use Rattle.st_run.specs.Jobs.{HaveRun, awaits_on}
+use Rattle.st_run.specs.Requests.{is_submit}
+use Rattle.st_run.specs.Workers.{is_workers}
 use Rattle.st_service.specs.Kept.{AllWithin}
 use Rattle.st_service.specs.Made.{Made, past_in}
 use Rattle.st_service.specs.Passes.{Holder, front_at, mine_at}
 use Rattle.st_service.specs.Tickets.{last_ticket, latest_in}
 use Rattle.st_service.specs.Works.{IsDecided}
 use Rattle.st_run.proofs.CommandEntries.{awaits_checked}
-use Rattle.st_run.proofs.DidLaws.{Ended, GoesOn, ended, did_at, did_goes, did_others, awaits_around}
+use Rattle.st_run.proofs.DidLaws.{Each, Ended, GoesOn, ended, did_at, did_goes, did_others, awaits_around}
 use Rattle.st_run.proofs.GivenTickets.{checks_none, decided_grows, last_append}
 use Rattle.st_run.proofs.OwnEntries.{entries_at, entries_longer}
-use Rattle.st_run.proofs.OwnTickets.{own, entries_positions, latest_is, made_by_passes, newest}
+use Rattle.st_run.proofs.OwnTickets.{own, entries_positions, latest_is, newest}
 use Rattle.st_run.proofs.RunEntries.{each_reverse}
+use Rattle.st_run.proofs.WorkerEntries.{IsByOrWorkers, scripts_or_workers}
 
 -- a longer front decides no less
 pub decided_prefix : (xs ys : List Made) → IsPrefix xs ys → length (deciders (past_in xs)) ≤ length (deciders (past_in ys))
@@ -86,7 +91,7 @@ own_decided groups lines rooms number n acts front p ticket within e last =
     let grows = decided_prefix (front_at d.mid.fronts n) front (subst (λ (f : List Made). IsPrefix f front) o.0 e.stands.begins) in
     omega (arith, decided, grows)
 
-get_some : {X : Type 0} (xs : List X) (k : ℕ) → k < length xs → (x : X) × (slice_get xs k ≡ Some x)
+pub get_some : {X : Type 0} (xs : List X) (k : ℕ) → k < length xs → (x : X) × (slice_get xs k ≡ Some x)
 get_some [] k lt = absurd (omega (arith, lt))
 get_some (x ∷ xs) zero lt = (x, refl)
 get_some (x ∷ xs) (suc k) lt = get_some xs k (omega (arith, lt))
@@ -98,6 +103,33 @@ map_reverse (m ∷ ms) =
     ∙ (map-append (λ (x : Made). x.entry) (reverse ms) (m ∷ [])
     ∙ (ap (λ (l : List Entry). l ++ m.entry ∷ []) (map_reverse ms) ∙ sym (reverse-append (m.entry ∷ []) (map (λ (x : Made). x.entry) ms))))
 
+-- workers propose nothing
+
+abbrev Proposes : ℕ → Made → Type 0
+Proposes count m = is_submit m.entry.event ≡ true → m.by < count
+
+never_proposed : (event : Event) → is_workers event ≡ true → is_submit event ≡ true → ⊥
+never_proposed (Submit app rows) w s = cc w
+never_proposed Check w s = cc s
+never_proposed (lock_event app e prio) w s = cc w
+never_proposed (unlock_event app e prio) w s = cc w
+never_proposed (Send e) w s = cc s
+never_proposed (Deliver n) w s = cc s
+never_proposed (Finish e) w s = cc s
+never_proposed (Report e) w s = cc s
+never_proposed (Hear n) w s = cc s
+never_proposed (fail_event e vals health) w s = cc w
+
+scripts_propose : (count : ℕ) (ms : List Made) → Each (IsByOrWorkers count) ms → Each (Proposes count) ms
+scripts_propose count [] e = tt
+scripts_propose count (m ∷ ms) e = (
+  λ submits. ⊎_elim
+      (λ (t : m.by < count). t)
+      (λ (t : is_workers m.entry.event ≡ true). absurd (never_proposed m.entry.event t submits))
+      e.0,
+  scripts_propose count ms e.1,
+)
+
 -- each ticket of the journal is decided
 all_decided : (groups : ℕ → Group) (lines : ℕ → List WireLine) (rooms : ℕ) (scripts : List (List Act)) (passes : List Holder) (n : ℕ) (entries : List Entry) (front : List Made) (count : ℕ) → length (proposals (past_in front)) ≡ count
     → HaveRun groups lines rooms scripts passes → n < rooms → IsWhole (groups n) passes n entries front → count ≤ length (deciders (past_in front))
@@ -105,10 +137,10 @@ all_decided groups lines rooms scripts passes n entries front zero is run within
 all_decided groups lines rooms scripts passes n entries front (suc k) is run within whole =
     let ms = reverse front in
     let past : map (λ (m : Made). m.entry) ms ≡ past_in front = map_reverse front in
-    let b = newest (groups n) (length passes) ms (subst (IsLegal (groups n)) (sym past) whole.legal) (omega (arith, is, ap (λ (l : List Entry). length (proposals l)) past))
-    (each_reverse (λ (m : Made). m.by < length passes) front (made_by_passes (groups n) passes n entries front whole)) in
-    let p = get_some passes b.0 b.1 in
-    let acts = get_some scripts b.0 (omega (arith, b.1, run.count)) in
+    let b = newest (groups n) (length scripts) ms (subst (IsLegal (groups n)) (sym past) whole.legal) (omega (arith, is, ap (λ (l : List Entry). length (proposals l)) past))
+    (each_reverse (Proposes (length scripts)) front (scripts_propose (length scripts) front (scripts_or_workers (groups n) passes n entries front (length scripts) run.workers whole))) in
+    let p = get_some passes b.0 (omega (arith, b.1, run.count)) in
+    let acts = get_some scripts b.0 b.1 in
     let e = ended groups lines rooms scripts passes n entries front b.0 acts.0 p.0 run whole acts.1 p.1 in
     let last : last_ticket (own b.0 front) ≡ Some (suc k) = ap (λ (l : List Made). last_ticket (own b.0 l)) (sym (reverse-reverse front)) ∙ (b.2 ∙ ap Some (ap (λ (l : List Entry). length (proposals l)) past ∙ is)) in
     own_decided groups lines rooms b.0 n acts.0 front p.0 (suc k) within e last

@@ -1,10 +1,10 @@
 -- Passes that have gone through their scripts and the awaits behind them, and what a service has of them once it is closed.
-use Rattle.std.proofs.Common.{◌≡◌, ◌≢◌, ◌⊎◌, inl, inr, ⊎_elim, ℕ, zero, suc, ◌+◌, ◌<◌, ◌≤◌, Bool, true, false, List, [], ◌∷◌, ◌++◌, length, map, get_or, sum_by, refl, ap, sym, subst, ◌∙◌, arith}
-use Rattle.std.specs.Prelude.{All, Option, Some, None, IfSome, Result, Ok, Err, IfOk, slice_get, ◌==◌, if◌then◌else◌}
-use Rattle.std.proofs.lemmas.List.{length-map}
+use Rattle.std.proofs.Common.{◌≡◌, ◌≢◌, ◌⊎◌, ⊎_elim, ℕ, zero, suc, ◌+◌, ◌<◌, ◌≤◌, Bool, true, false, List, [], ◌∷◌, length, get_or, sum_by, refl, ap, sym, subst, ◌∙◌, arith}
+use Rattle.std.specs.Prelude.{All, drop, Option, Some, None, IfSome, Result, Ok, Err, IfOk, slice_get, ◌==◌, if◌then◌else◌}
+use Rattle.std.proofs.lemmas.List.{length-map, length-drop}
 use Rattle.std.proofs.lemmas.List.Elements.{All-map, All-push}
-use Rattle.std.proofs.lemmas.List.Sums.{sum_by_push}
-use Rattle.std.proofs.lemmas.Option.{slice_get-get_or, get_or_from_slice_get}
+use Rattle.std.proofs.lemmas.List.Sums.{sum_by-cons, sum_by_push}
+use Rattle.std.proofs.lemmas.Option.{slice_get-get_or, slice_get_within, get_or_from_slice_get}
 use Rattle.st_net.specs.Groups.{Group}
 use Rattle.st_net.proofs.Tests.{equal_numbers}
 use Rattle.st_event.specs.declared.act.Act.{Act}
@@ -16,15 +16,18 @@ use Rattle.st_grammar.specs.declared.doc.Script.{Script}
 use Rattle.st_wire.specs.declared.line.WireLine.{WireLine}
 use Rattle.st_world.specs.Acts.{group_number}
 use Rattle.st_board.proofs.Prefixes.{prefix_length}
-use Rattle.st_crew.specs.Ends.{EndsOf}
 use Rattle.st_service.specs.Acts.{CanDo}
 use Rattle.st_service.specs.Opened.{IsFresh}
 use Rattle.st_service.specs.Passes.{Holder, front_at, mine_at}
 use Rattle.st_service.specs.Shares.{act_share}
-use Rattle.st_service.proofs.Mines.{item_at}
-use Rattle.st_run.specs.Jobs.{Did, HasDone, HaveRun, awaits_on}
-use Rattle.st_run.specs.Played.{AllCanBeDone, AreClosed, IsFinished, IsPlayed, WasFull, acts_of}
+use Rattle.st_run.specs.Jobs.{Did, HasDone, awaits_on}
+use Rattle.st_run.specs.Played.{AllCanBeDone, AreClosed, IsFinished, IsPlayed, WasFull, acts_of, made_on}
 use Rattle.st_run.specs.Went.{CameTo, HasFull, Went, shares_on}
+use Rattle.st_run.specs.Workers.{MadeByWorker, worker_shares_on}
+use Rattle.st_run.specs.Ended.{AreDone, AreEnded}
+use Rattle.st_run.specs.Tasks.{task_share_on, tasks_by}
+use Rattle.st_run.specs.declared.workers.Task.{Task}
+use Rattle.st_run.proofs.TaskLaws.{tasks_within}
 use Rattle.st_run.specs.declared.application.Came.{Came}
 use Rattle.st_run.specs.declared.application.Came.TheVariants.{Through, ToFull}
 use Rattle.st_run.proofs.DidLaws.{did_both, same_or_not}
@@ -42,35 +45,65 @@ at_script P apps passes all a acts p script pass =
     let s = script_at apps a acts script in
     subst (λ (xs : List Act). P a xs p) s.2 (subst (λ (h : Holder). P a (get_or apps a s.0).acts h) (get_or_from_slice_get passes a p p pass) (all a s.0 p s.1))
 
--- a closed service on which scripts were played
-pub is_played : (groups : ℕ → Group) (lines : ℕ → List WireLine) (rooms : ℕ) (apps : List Script) (full : Option ℕ) (journals : List Journal) (logs : List Log) (passes : List Holder)
-    → length passes ≡ length apps → AllCanBeDone groups rooms apps
-    → ((n : ℕ) (s : Script) (p : Holder) → n < length apps → IsFinished groups lines rooms n (get_or apps n s).acts (get_or passes n p))
-    → (full ≡ None → (n : ℕ) (s : Script) (p : Holder) → n < length apps → HasDone groups lines rooms n (get_or apps n s).acts (get_or passes n p))
-    → IfSome full (λ m. WasFull passes m) → AreClosed groups rooms passes journals logs
+-- passes of which each made no more than the share of its task made no more together
+made_few : (n : ℕ) (share : Task → ℕ) (tasks : List Task) (passes : List Holder) → length passes ≡ length tasks
+    → ((k : ℕ) (t : Task) (p : Holder) → k < length tasks → length (mine_at (get_or passes k p).mines n) ≤ share (get_or tasks k t))
+    → made_on n passes ≤ sum_by share tasks
+made_few n share [] [] same each = omega arith
+made_few n share [] (p ∷ passes) same each = absurd (omega (arith, same))
+made_few n share (t ∷ tasks) [] same each = absurd (omega (arith, same))
+made_few n share (t ∷ tasks) (p ∷ passes) same each =
+    let first = each 0 t p (omega arith) in
+    let rest = made_few n share tasks passes (omega (arith, same)) (λ k u q lt. each (suc k) u q (omega (arith, lt))) in
+    omega (arith, first, rest, sum_by-cons (λ (h : Holder). length (mine_at h.mines n)) p passes, sum_by-cons share t tasks)
+
+get_drop : {X : Type 0} (xs : List X) (n k : ℕ) (d : X) → get_or (drop n xs) k d ≡ get_or xs (n + k) d
+get_drop xs zero k d = ap (λ (i : ℕ). get_or xs i d) (omega arith)
+get_drop [] (suc n) k d = refl
+get_drop (x ∷ xs) (suc n) k d =
+    let next : suc (n + k) ≡ suc n + k = omega arith in
+    get_drop xs n k d ∙ ap (λ (i : ℕ). get_or (x ∷ xs) i d) next
+
+-- a closed service on which scripts were played, with the tasks of their workers
+pub is_played : (groups : ℕ → Group) (lines : ℕ → List WireLine) (rooms : ℕ) (apps : List Script) (tasks : List Task) (full : Option ℕ) (journals : List Journal) (logs : List Log) (passes : List Holder)
+    → tasks ≡ tasks_by apps rooms → AllCanBeDone groups rooms apps
+    → AreEnded groups lines rooms apps tasks passes → (full ≡ None → AreDone groups lines rooms apps tasks passes)
+    → IfSome full (λ m. WasFull passes m) → AreClosed groups rooms (length apps) passes journals logs
     → IsPlayed groups lines rooms (acts_of apps) full journals logs passes
-is_played groups lines rooms apps full journals logs passes many can went none one closed =
-    let count : length passes ≡ length (acts_of apps) = many ∙ sym (length-map apps (λ (s : Script). s.acts)) in
+is_played groups lines rooms apps tasks full journals logs passes are can ended none one closed =
+    let same : length (acts_of apps) ≡ length apps = length-map apps (λ (s : Script). s.acts) in
+    let many = ended.count in
+    let count : length (acts_of apps) ≤ length passes = omega (arith, many, same) in
+    let behind : length (drop (length apps) passes) ≡ length tasks = length-drop (length apps) passes ∙ omega (arith, many) in
+    let worked : (n : ℕ) → made_on n (drop (length apps) passes) ≤ sum_by (worker_shares_on n (groups n) (lines n)) (acts_of apps) = λ n.
+    let few = made_few n (task_share_on n (groups n) (lines n)) tasks (drop (length apps) passes) behind
+    (λ k t p lt. subst (λ (h : Holder). length (mine_at h.mines n) ≤ task_share_on n (groups n) (lines n) (get_or tasks k t)) (sym (get_drop passes (length apps) k p)) (ended.few k n t p lt)) in
+    let within = tasks_within n (groups n) (lines n) apps rooms in
+    less_both (made_on n (drop (length apps) passes)) (sum_by (task_share_on n (groups n) (lines n)) tasks) (sum_by (task_share_on n (groups n) (lines n)) (tasks_by apps rooms)) (sum_by (worker_shares_on n (groups n) (lines n)) (acts_of apps))
+    few (ap (sum_by (task_share_on n (groups n) (lines n))) are) within in
+    let workers : (a : ℕ) (p : Holder) → length (acts_of apps) ≤ a → slice_get passes a ≡ Some p → MadeByWorker p = λ a p le at.
+    let lt = slice_get_within passes a p at in
+    subst MadeByWorker (get_or_from_slice_get passes a p p at) (ended.made a p (omega (arith, le, same)) lt) in
     record {
       count = count;
-      finished = at_script (IsFinished groups lines rooms) apps passes went;
+      rooms_are = λ a p at.
+          let lt = slice_get_within passes a p at in
+          subst (λ (h : Holder). length h.fronts ≡ rooms) (get_or_from_slice_get passes a p p at) (ended.rooms_are a p lt);
+      finished = at_script (IsFinished groups lines rooms) apps passes ended.finished;
+      workers = workers;
+      worked = λ n lt. subst (λ (k : ℕ). made_on n (drop k passes) ≤ sum_by (worker_shares_on n (groups n) (lines n)) (acts_of apps)) (sym same) (worked n);
       run = λ e. record {
         count = count;
         fit = All-map (All (CanDo groups rooms)) (λ (s : Script). s.acts) apps can;
-        each = at_script (HasDone groups lines rooms) apps passes (none e);
+        each = at_script (HasDone groups lines rooms) apps passes (none e).done;
+        workers = workers;
       };
       full_is = one;
-      closed = closed;
+      closed = subst (λ (k : ℕ). AreClosed groups rooms k passes journals logs) (sym same) closed;
     }
-
--- what is known of each pass by its number, without its script
-pub numbers_are : (groups : ℕ → Group) (lines : ℕ → List WireLine) (rooms : ℕ) (apps : List Script) (passes : List Holder) → length passes ≡ length apps
-    → ((n : ℕ) (s : Script) (p : Holder) → n < length apps → IsFinished groups lines rooms n (get_or apps n s).acts (get_or passes n p))
-    → (n : ℕ) (p : Holder) → n < length passes → ((get_or passes n p).number ≡ n) × (length (get_or passes n p).fronts ≡ rooms)
-numbers_are groups lines rooms apps passes many went n p lt =
-    let low : n < length apps = omega (arith, lt, many) in
-    let f = went n (item_at apps n low).0 p low in
-    (f.number_is, f.rooms_are.0)
+  where
+    less_both : (a b c d : ℕ) → a ≤ b → b ≡ c → c ≤ d → a ≤ d
+    less_both a b c d p q r = omega (arith, p, q, r)
 
 -- the share of an await on each group
 
@@ -131,15 +164,15 @@ has_done groups lines rooms n acts awaits start mid last came are f p through q 
 }
 
 -- or met a full journal, on its way or behind
-pub was_full : (groups : ℕ → Group) (lines : ℕ → List WireLine) (acts awaits : List Act) (ends : List Holder) (n m : ℕ) (start mid p : Holder) (came : Came) → n < length ends
-    → CameTo came groups lines acts start mid → Went groups lines awaits mid (get_or ends n p) → (came ≡ ToFull m) ⊎ HasFull (get_or ends n p) m → WasFull ends m
-was_full groups lines acts awaits ends n m start mid p came lt c w full = record {
+pub was_full : (groups : ℕ → Group) (lines : ℕ → List WireLine) (awaits : List Act) (ends : List Holder) (n m : ℕ) (mid p : Holder) (came : Came) → n < length ends
+    → (came ≡ ToFull m → HasFull mid m) → Went groups lines awaits mid (get_or ends n p) → (came ≡ ToFull m) ⊎ HasFull (get_or ends n p) m → WasFull ends m
+was_full groups lines awaits ends n m mid p came lt c w full = record {
   number = n;
   pass = get_or ends n p;
   is = slice_get-get_or ends n p lt;
   full = ⊎_elim
       (λ (e : came ≡ ToFull m).
-      let was : HasFull mid m = subst (λ (x : Came). CameTo x groups lines acts start mid) e c in
+      let was : HasFull mid m = c e in
       (omega (arith, was.0, w.rooms.0), omega (arith, was.1, prefix_length (front_at mid.fronts m) (front_at (get_or ends n p).fronts m) (w.fronts m))))
       (λ (h : HasFull (get_or ends n p) m). h)
       full;
@@ -150,32 +183,14 @@ pub awaits_fit : (groups : ℕ → Group) (rooms k : ℕ) → k ≤ rooms → Al
 awaits_fit groups rooms zero le = λ n d lt. absurd (omega (arith, lt))
 awaits_fit groups rooms (suc k) le = All-push (CanDo groups rooms) (awaits_on k) (Await k) (awaits_fit groups rooms k (omega (arith, le))) (omega (arith, le), tt, tt)
 
--- a job of a fresh pass may be worked
-pub job_fits : {S : Type 0} (was is : S) (apps_of rooms_of : S → ℕ) (groups : ℕ → Group) (n : ℕ) (start pass : Holder) (script acts : List Act) → is ≡ was → pass ≡ start → acts ≡ script
-    → IsFresh n (rooms_of was) start → n < apps_of was → All (CanDo groups (rooms_of was)) script → (pass.number < apps_of is) × (length pass.fronts ≡ rooms_of is) × All (CanDo groups (rooms_of is)) acts
-job_fits was is apps_of rooms_of groups n start pass script acts p q r f lt fit = rw (p, q, r) (omega (arith, lt, f.numbered), f.rooms_are.0, fit)
-
--- the jobs of the passes, and what is left of them: each has gone as far as it could from the pass of its number
-pub have_gone : {X Y : Type 0} (jobs : List X) (lefts : List Y) (groups : ℕ → Group) (lines : ℕ → List WireLine) (passes : List Holder) (apps : List Script) (job_pass : X → Holder) (job_acts : X → List Act) (pass : Y → Holder) (came : Y → Came)
-    → EndsOf (λ job left. Went groups lines (job_acts job) (job_pass job) (pass left) × CameTo (came left) groups lines (job_acts job) (job_pass job) (pass left)) jobs lefts
-    → length jobs ≡ length passes
-    → ((n : ℕ) (d : X) (p : Holder) (s : Script) → n < length passes → (job_pass (get_or jobs n d) ≡ get_or passes n p) × (job_acts (get_or jobs n d) ≡ (get_or apps n s).acts))
-    → (n : ℕ) (d : Y) (p : Holder) (s : Script) → n < length passes
-    → Went groups lines (get_or apps n s).acts (get_or passes n p) (pass (get_or lefts n d)) × CameTo (came (get_or lefts n d)) groups lines (get_or apps n s).acts (get_or passes n p) (pass (get_or lefts n d))
-have_gone {X} {Y} jobs lefts groups lines passes apps job_pass job_acts pass came ends many are n d p s lt =
-    let low : n < length jobs = omega (arith, lt, many) in
-    let there : n < length lefts = omega (arith, low, ends.count) in
-    let j : X = (item_at jobs n low).0 in
-    let job = are n j p s lt in
-    let left = get_or lefts n d in
-    let gone = ends.each n (get_or jobs n j) left (slice_get-get_or jobs n j low) (slice_get-get_or lefts n d there) in
-    subst (λ (h : Holder). Went groups lines (get_or apps n s).acts h (pass left) × CameTo (came left) groups lines (get_or apps n s).acts h (pass left)) job.0
-    (subst (λ (xs : List Act). Went groups lines xs (job_pass (get_or jobs n j)) (pass left) × CameTo (came left) groups lines xs (job_pass (get_or jobs n j)) (pass left)) job.1 gone)
-
 -- what follows from what clauses say of the value in an `Ok`
 pub ok_then : {T E : Type 0} (r : Result T E) {P Q : T → Type 0} → IfOk r P → ((x : T) → P x → Q x) → IfOk r Q
 ok_then (Ok x) p f = f x p
 ok_then (Err e) p f = tt
+
+pub ok_both : {T E : Type 0} (r : Result T E) (P Q : T → Type 0) → IfOk r P → IfOk r Q → IfOk r (λ x. P x × Q x)
+ok_both (Ok x) P Q p q = (p, q)
+ok_both (Err e) P Q p q = tt
 
 pub ok_then2 : {T E : Type 0} (r : Result T E) {P Q R : T → Type 0} → IfOk r P → IfOk r Q → ((x : T) → P x → Q x → R x) → IfOk r R
 ok_then2 (Ok x) p q f = f x p q

@@ -2,7 +2,7 @@
 use Rattle.std.proofs.Common.{◌≡◌, ℕ, suc, ◌+◌, ◌*◌, ◌<◌, ◌≤◌, List, [], ◌∷◌, length, map, Option, Some, None, refl, ap, sym, subst, ◌∙◌, arith}
 use Rattle.std.specs.Prelude.{All, IfSome, reverse, slice_get, slice_index_or, sum_by}
 use Rattle.std.proofs.lemmas.List.{length-map, length-reverse}
-use Rattle.std.proofs.lemmas.Option.{slice_get-get_or, slice_get_within, get_or_from_slice_get}
+use Rattle.std.proofs.lemmas.Option.{slice_get_within, get_or_from_slice_get}
 use mathlib.Core.List.{IsPrefix}
 use Rattle.st_net.specs.Faults.{group_of}
 use Rattle.st_net.specs.Groups.{Group}
@@ -47,7 +47,7 @@ are_kept (g ∷ gs) (j ∷ js) same each = (each 0 g j (omega arith), are_kept g
 
 journals_kept : (doc : Doc) (groups : ℕ → Group) (lines : ℕ → List WireLine) (journals : List Journal) (logs : List Log) (passes : List Holder)
     → IsSoundDoc doc → AreStatesOf groups lines doc
-    → AreClosed groups (length doc.groups) passes journals logs → AreKept (groups_of doc) journals
+    → AreClosed groups (length doc.groups) (length doc.apps) passes journals logs → AreKept (groups_of doc) journals
 journals_kept doc groups lines journals logs passes sound states closed =
     let count = length-map doc.groups group_of in
     are_kept (groups_of doc) journals (closed.journal_count ∙ sym count)
@@ -95,11 +95,7 @@ full_in : (groups : ℕ → Group) (lines : ℕ → List WireLine) (rooms : ℕ)
     → IsPlayed groups lines rooms scripts full journals logs passes → WasFull passes n → IsFullIn journals n
 full_in groups lines rooms scripts full journals logs passes n played was =
     let closed = played.closed in
-    let count = played.count in
-    let within = slice_get_within passes was.number was.pass was.is in
-    let script = slice_get-get_or scripts was.number [] (omega (arith, count, within)) in
-    let finished = played.finished was.number (slice_index_or scripts was.number []) was.pass script was.is in
-    let rooms_are = finished.rooms_are.0 in
+    let rooms_are = played.rooms_are was.number was.pass was.is in
     let seen = was.full.0 in
     let low : n < rooms = omega (arith, rooms_are, seen) in
     let journal_count = closed.journal_count in (
@@ -127,12 +123,12 @@ within_most doc groups lines full journals logs passes sound states played = λ 
     let entries = (slice_index_or journals k j).entries in
     let count = entries_count (groups k) passes k entries whole.0 whole.1 in
     let made = whole.1.count in
-    let few = made_within groups lines (length doc.groups) k doc.apps passes within played.count played.finished in
+    let few = made_within groups lines (length doc.groups) k doc.apps passes within played.count played.finished (played.worked k within) in
     let all : most doc k ≡ sum_by (script_most k (groups k) (lines k)) doc.apps + MAX_PENDING * length doc.apps =
     ap (most_in doc.apps k) (opened_get groups lines doc sound states k within) in
     subst (λ (n : ℕ). length entries ≤ most doc n) (sym (closed.numbered k j within)) (omega (arith, count, made, few, all))
 
--- each request there is by an application of the document, as there is a pass for each
+-- each request there is by an application of the document: there is a pass for each, and those behind are workers', which make none
 
 own_requests : (doc : Doc) (groups : ℕ → Group) (lines : ℕ → List WireLine) (full : Option ℕ) (journals : List Journal) (logs : List Log) (passes : List Holder)
     → IsPlayed groups lines (length doc.groups) (acts_of doc.apps) full journals logs passes → All (HasOwnRequests doc) journals
@@ -141,21 +137,25 @@ own_requests doc groups lines full journals logs passes played = λ k j low.
     let journal_count = closed.journal_count in
     let whole = closed.whole k j (omega (arith, journal_count, low)) in
     let entries = (slice_index_or journals k j).entries in
-    let count : length passes ≡ length doc.apps = played.count ∙ length-map doc.apps (λ (s : Script). s.acts) in
-    subst (λ (n : ℕ). All (λ (entry : Entry). IsByOneOf n entry.event) entries) count (requests_own (groups k) passes k entries whole.0 whole.1)
+    let count : length (acts_of doc.apps) ≡ length doc.apps = length-map doc.apps (λ (s : Script). s.acts) in
+    subst (λ (n : ℕ). All (λ (entry : Entry). IsByOneOf n entry.event) entries) count
+    (requests_own (groups k) passes k entries whole.0 (length (acts_of doc.apps)) played.count played.workers whole.1)
 
 -- and so the whole of it
 pub played_is_run : (doc : Doc) (groups : ℕ → Group) (lines : ℕ → List WireLine) (full : Option ℕ) (journals : List Journal) (logs : List Log) (ends : List Holder)
     → IsSoundDoc doc → AreStatesOf groups lines doc
     → IsPlayed groups lines (length doc.groups) (acts_of doc.apps) full journals logs ends → All HasSmallNumbers journals → IsRunOf doc full journals logs
-played_is_run doc groups lines full journals logs ends sound states played small = record {
-  groups = journals_numbered groups (length doc.groups) ends journals logs played.closed;
-  apps = logs_numbered groups (length doc.groups) ends journals logs (length doc.apps) played.closed (played.count ∙ length-map doc.apps (λ (s : Script). s.acts));
-  carried = λ none. scripts_are_carried doc groups lines ends journals logs sound states played.count played.closed (played.run none);
-  full_is = full_if journals ends full (λ n was. full_in groups lines (length doc.groups) (acts_of doc.apps) full journals logs ends n played was)
-      played.full_is;
-  kept = journals_kept doc groups lines journals logs ends sound states played.closed;
-  within = within_most doc groups lines full journals logs ends sound states played;
-  ours = own_requests doc groups lines full journals logs ends played;
-  small = small;
-}
+played_is_run doc groups lines full journals logs ends sound states played small =
+    let closed : AreClosed groups (length doc.groups) (length doc.apps) ends journals logs =
+    subst (λ (apps : ℕ). AreClosed groups (length doc.groups) apps ends journals logs) (length-map doc.apps (λ (s : Script). s.acts)) played.closed in
+    record {
+      groups = journals_numbered groups (length doc.groups) (length doc.apps) ends journals logs closed;
+      apps = logs_numbered groups (length doc.groups) (length doc.apps) ends journals logs closed;
+      carried = λ none. scripts_are_carried doc groups lines ends journals logs sound states played.closed (played.run none);
+      full_is = full_if journals ends full (λ n was. full_in groups lines (length doc.groups) (acts_of doc.apps) full journals logs ends n played was)
+          played.full_is;
+      kept = journals_kept doc groups lines journals logs ends sound states closed;
+      within = within_most doc groups lines full journals logs ends sound states played;
+      ours = own_requests doc groups lines full journals logs ends played;
+      small = small;
+    }

@@ -1,5 +1,5 @@
 -- The failures of a group, as its journal tells them, are those that the scripts' commands ask for, those of each script in its order.
-use Rattle.std.proofs.Common.{◌≡◌, ℕ, zero, suc, ◌+◌, ◌<◌, Bool, true, false, List, [], ◌∷◌, ◌++◌, length, map, get_or, refl, ap, sym, subst, ◌∙◌, arith, append_assoc, length-append}
+use Rattle.std.proofs.Common.{◌≡◌, ⊎_elim, ℕ, zero, suc, ◌<◌, Bool, true, false, List, [], ◌∷◌, ◌++◌, length, map, get_or, refl, ap, sym, subst, ◌∙◌, arith, append_assoc, length-append}
 use Rattle.std.specs.Prelude.{Some, slice_get, reverse, ◌==◌, if◌then◌else◌}
 use Rattle.std.specs.List.{filter}
 use Rattle.std.proofs.lemmas.List.{append-nil, map-append, reverse-append, length-map, get_or-map}
@@ -9,6 +9,8 @@ use Rattle.std.proofs.Math.Seq.{take-append_seam}
 use Rattle.st_net.specs.Groups.{Group}
 use Rattle.st_event.specs.declared.act.Act.{Act}
 use Rattle.st_event.specs.declared.act.Act.TheVariants.{Await}
+use Rattle.st_event.specs.declared.event.Event.{Event}
+use Rattle.st_event.specs.declared.event.Event.TheVariants.{Submit, Check, Lock as lock_event, Unlock as unlock_event, Send, Deliver, Finish, Report, Hear, Fail as fail_event}
 use Rattle.st_event.specs.declared.journal.Entry.{Entry}
 use Rattle.st_wire.specs.declared.line.WireLine.{WireLine}
 use Rattle.st_world.specs.Acts.{group_number}
@@ -22,10 +24,11 @@ use Rattle.st_service.specs.Made.{Made, past_in}
 use Rattle.st_service.specs.Passes.{Holder, front_at, mine_at}
 use Rattle.st_run.specs.Requests.{acts_on}
 use Rattle.st_run.specs.Stands.{IsInterleaving}
+use Rattle.st_run.specs.Workers.{is_workers}
 use Rattle.st_run.proofs.DidLaws.{Each, each_append, ended, ended_enters, enters_grows}
-use Rattle.st_run.proofs.EntryOwners.{entries_owned}
 use Rattle.st_run.proofs.FailEntries.{failure_at, failures_at, failures_longer, grows_within, script_fails}
 use Rattle.st_run.proofs.Interleaved.{Owned, Pairs, get_here, interleaves, items, part}
+use Rattle.st_run.proofs.WorkerEntries.{IsByOrWorkers, scripts_or_workers}
 
 -- the failures that these entries make behind a journal, each with the maker of its entry
 
@@ -45,12 +48,32 @@ each_owned : {X : Type 0} (n a : ℕ) (xs : List X) → a < n → Each (λ (x : 
 each_owned n a [] lt = tt
 each_owned n a (x ∷ xs) lt = (lt, each_owned n a xs lt)
 
-failures_owned : (g : Group) (n : ℕ) (past : List Entry) (ms : List Made) → Each (λ m. m.by < n) ms
+-- workers make none
+
+none_failed : (g : Group) (past : List Entry) (event : Event) → is_workers event ≡ true → failure_by g past event ≡ []
+none_failed g past (Submit app rows) is = refl
+none_failed g past Check is = refl
+none_failed g past (lock_event app e prio) is = refl
+none_failed g past (unlock_event app e prio) is = refl
+none_failed g past (Send e) is = refl
+none_failed g past (Deliver n) is = refl
+none_failed g past (Finish e) is = refl
+none_failed g past (Report e) is = refl
+none_failed g past (Hear n) is = refl
+none_failed g past (fail_event e vals health) is = absurd (cc is)
+
+entry_owned : (g : Group) (n : ℕ) (past : List Entry) (m : Made) → IsByOrWorkers n m
+    → Each (λ (x : Owned Failure). x.by < n) (owned_by m.by (failure_by g past m.entry.event))
+entry_owned g n past m = ⊎_elim
+    (λ (lt : m.by < n). each_owned n m.by (failure_by g past m.entry.event) lt)
+    (λ (is : is_workers m.entry.event ≡ true). subst (λ (fs : List Failure). Each (λ (x : Owned Failure). x.by < n) (owned_by m.by fs)) (sym (none_failed g past m.entry.event is)) tt)
+
+failures_owned : (g : Group) (n : ℕ) (past : List Entry) (ms : List Made) → Each (IsByOrWorkers n) ms
     → Each (λ (x : Owned Failure). x.by < n) (failures_of g past ms)
 failures_owned g n past [] e = tt
 failures_owned g n past (m ∷ ms) e = each_append (λ (x : Owned Failure). x.by < n) (owned_by m.by (failure_by g past m.entry.event))
     (failures_of g (m.entry ∷ past) ms)
-    (each_owned n m.by (failure_by g past m.entry.event) e.0) (failures_owned g n (m.entry ∷ past) ms e.1)
+    (entry_owned g n past m e.0) (failures_owned g n (m.entry ∷ past) ms e.1)
 
 -- all of them are the failures of the journal
 
@@ -163,13 +186,13 @@ fails_as_asked groups lines rooms scripts passes n entries front run within whol
     let g = groups n in
     let lists = map (fails_on n) scripts in
     let made = failures_of g [] front in
-    let as_many : length passes ≡ length lists = omega (arith, run.count, length-map scripts (fails_on n)) in
+    let as_many : length scripts ≡ length lists = sym (length-map scripts (fails_on n)) in
     let owned : Each (λ (x : Owned Failure). x.by < length lists) made =
     subst (λ (k : ℕ). Each (λ (x : Owned Failure). x.by < k) made) as_many
-    (failures_owned g (length passes) [] front (entries_owned g passes n entries front whole)) in
+    (failures_owned g (length scripts) [] front (scripts_or_workers (groups n) passes n entries front (length scripts) run.workers whole)) in
     let each : (a : ℕ) → a < length lists → Pairs IsFailureBy (part a made) (get_or lists a []) = λ a lt.
     let here : a < length scripts = omega (arith, lt, length-map scripts (fails_on n)) in
-    let there : a < length passes = omega (arith, lt, as_many) in
+    let there : a < length passes = omega (arith, here, run.count) in
     subst (Pairs IsFailureBy (part a made)) (sym (get_or-map (fails_on n) scripts a [] [] here))
     (pass_fails groups lines rooms scripts passes n entries front a (get_or scripts a []) (get_or passes a nobody) run whole
     (slice_get-get_or scripts a [] here) (slice_get-get_or passes a nobody there)) in

@@ -1,6 +1,5 @@
 -- The failures of a group that its journal tells, and those that commands ask for. A journal stands here with its newest entry first.
-use Rattle.std.specs.Prelude.{ℕ, ◌≡◌, List, [], ◌∷◌, ◌++◌, map}
-use Rattle.std.specs.List.{filter}
+use Rattle.std.specs.Prelude.{ℕ, ◌≡◌, List, [], ◌∷◌, ◌++◌}
 use Rattle.st_net.specs.declared.entity.Entity.{Entity}
 use Rattle.st_net.specs.declared.entity.Vals.{Vals}
 use Rattle.st_net.specs.Groups.{Group}
@@ -11,7 +10,6 @@ use Rattle.st_event.specs.declared.event.Event.TheVariants.{Submit, Check, Lock 
 use Rattle.st_event.specs.declared.journal.Entry.{Entry}
 use Rattle.st_event.specs.Moments.{vals}
 use Rattle.st_world.specs.Acts.{failed_vals}
-use Rattle.st_run.specs.Requests.{acts_on}
 
 -- what an entity was and became: its values before and after, and its health after
 pub record Failure : Type 0 where

@@ -1,5 +1,5 @@
 -- What a pass has come to by the commands of a script.
-use Rattle.std.specs.Prelude.{ℕ, zero, suc, ◌≡◌, ◌<◌, List, [], ◌∷◌, ◌++◌, All, length, slice_get, Some}
+use Rattle.std.specs.Prelude.{ℕ, zero, suc, ◌≡◌, ◌≤◌, List, [], ◌∷◌, ◌++◌, All, length, slice_get, Some}
 use Rattle.st_net.specs.Groups.{Group}
 use Rattle.st_event.specs.declared.act.Act.{Act}
 use Rattle.st_event.specs.declared.act.Act.TheVariants.{Await}
@@ -10,6 +10,7 @@ use Rattle.st_service.specs.Kept.{Kept}
 use Rattle.st_service.specs.Opened.{IsFresh}
 use Rattle.st_service.specs.Passes.{Holder}
 use Rattle.st_service.specs.Shares.{act_share}
+use Rattle.st_run.specs.Workers.{MadeByWorker}
 
 -- a command was done: it kept what every call keeps, and left what such an act leaves
 pub record Does (groups : ℕ → Group) (lines : ℕ → List WireLine) (act : Act) (old new : Holder) : Type 0 where
@@ -32,8 +33,9 @@ pub record HasDone (groups : ℕ → Group) (lines : ℕ → List WireLine) (roo
   pub fresh : IsFresh number rooms start
   pub did : Did groups lines (acts ++ awaits_on rooms) start p
 
--- each script was done by the pass of its number
+-- each script was done by the pass of its number, and the passes behind those of the scripts made what workers make
 pub record HaveRun (groups : ℕ → Group) (lines : ℕ → List WireLine) (rooms : ℕ) (scripts : List (List Act)) (passes : List Holder) : Type 0 where
-  pub count : length passes ≡ length scripts
+  pub count : length scripts ≤ length passes
   pub fit : All (All (CanDo groups rooms)) scripts
   pub each : (a : ℕ) (acts : List Act) (p : Holder) → slice_get scripts a ≡ Some acts → slice_get passes a ≡ Some p → HasDone groups lines rooms a acts p
+  pub workers : (a : ℕ) (p : Holder) → length scripts ≤ a → slice_get passes a ≡ Some p → MadeByWorker p

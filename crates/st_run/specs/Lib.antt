@@ -4,10 +4,15 @@ pub mod Failures
 pub mod Logs
 pub mod CarriedOn
 pub mod CarriedOut
+pub mod Workers
 pub mod Jobs
 pub mod CarriedLaws
 pub mod Went
+pub mod Duties
+pub mod Tasks
+pub mod Chores
 pub mod Played
+pub mod Ended
 pub mod Running
 pub mod Isolation
 pub mod ShareLaws

@@ -27,6 +27,12 @@ pub record Went (groups : ℕ → Group) (lines : ℕ → List WireLine) (acts :
 abbrev pub HasFull : Holder → ℕ → Type 0
 HasFull p n = (n < length p.fronts) × (MAX_ENTRIES ≤ length (front_at p.fronts n))
 
+-- memory was not refused
+abbrev pub HadMemory : Came → Type 0
+HadMemory Through = Unit {0}
+HadMemory (ToFull n) = Unit {0}
+HadMemory OutOfMemory = ⊥
+
 -- of how far the pass came: through all of the commands, or to a full journal
 abbrev pub CameTo : Came → (ℕ → Group) → (ℕ → List WireLine) → List Act → Holder → Holder → Type 0
 CameTo Through groups lines acts old new = Did groups lines acts old new

@@ -2,9 +2,12 @@
 #![tactic(auto)]
 
 mod application;
+mod jobs;
 pub mod laws;
 mod playing;
+mod tasks;
 mod threads;
+mod workers;
 
 pub use playing::Played;
 pub use threads::run_scripts;

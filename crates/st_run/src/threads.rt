@@ -1,4 +1,5 @@
-//! The scripts of a document run by threads: a service over the groups' worlds, and a job for each application.
+//! The scripts of a document run by threads: a service over the groups' worlds, a job for each application, and jobs of workers beside
+//! them.
 
 ghost use Rattle.std.specs.Prelude.{◌≡◌, ◌+◌, ◌≤◌, List, length, IfOk, All};
 ghost use Rattle.st_grammar.specs.Sound.{IsSoundDoc};
@@ -6,8 +7,11 @@ ghost use Rattle.st_service.specs.Opened.{AreLinesOf, AreWorldsOf};
 ghost use Rattle.st_service.specs.Passes.{Holder};
 ghost use Rattle.st_run.specs.Played.{AllCanBeDone, IsPlayed, acts_of};
 ghost use Rattle.st_run.specs.Running.{HasSmallNumber, HasSmallNumbers, IsRunOf};
+ghost use Rattle.st_run.specs.Tasks.{tasks_by};
 
 use crate::playing::{Played, play};
+use crate::tasks::tasks_of;
+use crate::workers::Task;
 use st_crew::Gate;
 use st_event::{Entry, Event, Journal};
 use st_grammar::{Doc, Script};
@@ -31,7 +35,7 @@ fn lines_of(alloc: Global, rooms: usize) -> Result<Vec<RoomLines>, AllocError>
     Ok(lines)
 }
 
-/// The scripts of a document on a service over its worlds, under names that are picked for this run.
+/// The scripts of a document on a service over its worlds, with the tasks of their workers, under names that are picked for this run.
 fn run_named<
     J: Naming + Send + Sync,
     L: Ledger + Send + Sync,
@@ -44,20 +48,25 @@ fn run_named<
     lines: Vec<RoomLines>,
     blank: Blank,
     apps: &[Script],
+    tasks: &[Task],
     gate: &G,
 ) -> Result<Played, AllocError>
     requires lines { (length lines.items ≡ length worlds.items) × AreLinesOf J.book J.board lines.items }
     requires worlds { AreWorldsOf J.group J.lines worlds.items }
     requires ledger { (blank.name ≡ L.name) × (blank.parts ≡ L.parts) }
-    requires parts { blank.parts ≡ length apps.now + length worlds.items + 1 }
-    requires few { (length worlds.items ≤ 16) × (length apps.now ≤ 512) }
+    requires parts { blank.parts ≡ length apps.now + length tasks.now + length worlds.items + 1 }
+    requires few { (length worlds.items ≤ 16) × (length apps.now + length tasks.now ≤ 512) }
     requires acts { AllCanBeDone J.group (length worlds.items) apps.now }
+    requires tasks { tasks.now ≡ tasks_by apps.now (length worlds.items) }
     ensures { IfOk result (λ played. (ends : List Holder) × IsPlayed J.group J.lines (length worlds.items) (acts_of apps.now) played.full played.journals.items played.logs.items ends) }
 {
     let rooms = worlds.len();
     let count = apps.len() as u32;
-    let (service, passes) = Service::<J, L, &R>::start(rt, alloc, worlds, lines, blank, count, 0)?;
-    play(rt, alloc, service, rooms, passes, apps, gate)
+    let workers = tasks.len() as u32;
+    let (service, passes) = Service::<J, L, &R>::start(
+        rt, alloc, worlds, lines, blank, count, workers,
+    )?;
+    play(rt, alloc, service, rooms, passes, apps, tasks, gate)
 }
 
 /// The number of a message that an event names has 32 bits, as its type says. It does nothing.
@@ -97,9 +106,12 @@ fn all_numbered(journals: &[Journal])
     }
 }
 
-/// Runs the scripts of a document by threads, one for each application, over a service of its groups, and calls the gate behind each
-/// read. The order in which the commands of different applications come is free. Where no event met a full journal the scripts were
-/// carried out. Else a group is named whose journal is full: the lowest at which an application stopped; the others went on. Journals and logs stand
+/// Runs the scripts of a document by threads over a service of its groups: one for each application; one for the checker of each group to
+/// which a `propose` goes, which makes a check off the lock for each of them; and one for the updater and one for the monitor of each group
+/// that a `settle` names, which make a half of a round for each of them. It calls the gate behind each read, before each half that an
+/// updater or a monitor makes, and before each judgement off the lock that a job makes. The order in which what different threads do comes is free. Where
+/// no event met a full journal the scripts were carried out. Else a group is named whose journal is full: the lowest at which a job
+/// stopped; the others went on. Journals and logs stand
 /// in the order of the document. It waits for its threads. At `Err`, which is want of memory alone, nothing is handed back.
 pub fn run_scripts<R: Threads + Wait + Sync, G: Gate + Sync>(
     rt: &R,
@@ -111,10 +123,16 @@ pub fn run_scripts<R: Threads + Wait + Sync, G: Gate + Sync>(
     ensures { IfOk result (λ played. IsRunOf doc.now played.full played.journals.items played.logs.items) }
 {
     let worlds = open_worlds(alloc, doc.groups.as_slice(), doc.wires.as_slice())?;
-    let lines = lines_of(alloc, worlds.len())?;
+    let rooms = worlds.len();
+    let lines = lines_of(alloc, rooms)?;
     let apps = doc.apps.as_slice();
-    let blank = Blank::new(apps.len() as u64 + worlds.len() as u64 + 1);
-    let played = run_named::<Brand, Brand, R, G>(rt, alloc, worlds, lines, blank, apps, gate)?;
+    let planned = tasks_of(alloc, rooms, apps)?;
+    let tasks = planned.as_slice();
+    let parts = apps.len() + tasks.len() + rooms + 1;
+    let blank = Blank::new(parts as u64);
+    let played = run_named::<Brand, Brand, R, G>(
+        rt, alloc, worlds, lines, blank, apps, tasks, gate,
+    )?;
     // Only the type of an event tells this, and who prints the journals has to know it.
     all_numbered(played.journals.as_slice());
     Ok(played)

@@ -1,5 +1,5 @@
 -- Each command is one more of those that were done.
-use Rattle.std.proofs.Common.{◌≡◌, ℕ, ◌+◌, ◌<◌, List, length, take, sym, subst, ◌∙◌, arith}
+use Rattle.std.proofs.Common.{◌+◌, length, sym, subst, ◌∙◌, arith}
 use Rattle.st_event.specs.declared.act.Act.{Act}
 use Rattle.st_world.specs.Acts.{group_number}
 use Rattle.st_service.specs.declared.acts.Acted.{Acted}
@@ -8,15 +8,15 @@ use Rattle.st_run.proofs.WentLaws.{did_more, went_first, went_more}
 use Rattle.st_run.proofs.application.do_all.Goals as goal
 
 pub step_app-requires-clause-app : goal.step_app-requires-clause-app
-step_app-requires-clause-app g c = omega (arith, c.requires.app, c.loop-act.invariant.went.number)
+step_app-requires-clause-app g c = λ κs lives. omega (arith, c.requires.app, c.loop-act.invariant.went.number)
 
 pub step_app-requires-clause-rooms : goal.step_app-requires-clause-rooms
-step_app-requires-clause-rooms g c = c.loop-act.invariant.went.rooms.0 ∙ c.requires.rooms
+step_app-requires-clause-rooms g c = λ κs lives. c.loop-act.invariant.went.rooms.0 ∙ c.requires.rooms
 
 pub step_app-requires-clause-act : goal.step_app-requires-clause-act
 step_app-requires-clause-act g c =
     let rooms = length c.args.service.now.rooms.items in
-    subst (λ (act : Act). CanDo g.J.Naming.group rooms act) (sym c.act-item.is) (c.requires.acts c.loop-act.act-index c.act-item.result c.loop-act-test.true)
+    λ κs lives. subst (λ (act : Act). CanDo g.J.Naming.group rooms act) (sym c.act-item.is) (c.requires.acts c.loop-act.act-index c.act-item.result c.loop-act-test.true)
 
 pub loop-act-preserved : goal.loop-act-preserved
 loop-act-preserved g c =

@@ -1,5 +1,5 @@
 -- What the awaits so far left.
-use Rattle.std.proofs.Common.{◌≡◌, take}
+use Rattle.std.proofs.Common.{◌≡◌, length, take}
 use Rattle.std.specs.Prelude.{None, IfSome}
 use Rattle.st_run.specs.Jobs.{Did}
 use Rattle.st_run.specs.Went.{HasFull, Went}
@@ -10,4 +10,5 @@ invariant-loop-act g l = record {
   went : Went g.J.Naming.group g.J.Naming.lines (take l.act-index l.awaits) l.initial.pass l.pass;
   did : l.full ≡ None → Did g.J.Naming.group g.J.Naming.lines (take l.act-index l.awaits) l.initial.pass l.pass;
   one : IfSome l.full (HasFull l.pass);
+  still : length l.awaits ≡ 0 → l.pass ≡ l.initial.pass;
 }

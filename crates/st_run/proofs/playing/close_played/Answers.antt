@@ -1,5 +1,5 @@
 -- What a closed service hands out is what the contract of its close says.
-use Rattle.std.proofs.Common.{◌∙◌, arith}
+use Rattle.std.proofs.Common.{arith}
 use Rattle.st_run.proofs.playing.close_played.Goals as goal
 
 pub returns-clause-closed : goal.returns-clause-closed
@@ -9,6 +9,6 @@ returns-clause-closed g c =
       journal_count = e.journals;
       numbered = λ k j lt. e.groups k j (omega (arith, lt, e.journals));
       whole = λ k j lt. e.whole k j (omega (arith, lt, e.journals));
-      log_count = e.logs ∙ c.requires.apps;
-      logged = λ a l p lt. e.logged a l p (omega (arith, lt, c.requires.apps));
+      log_count = e.logs;
+      logged = e.logged;
     }

@@ -2,10 +2,14 @@
 use Rattle.std.proofs.Common.{◌≡◌, ℕ, length, get_or, sym, subst, ◌∙◌, arith}
 use Rattle.st_service.specs.Opened.{IsFresh}
 use Rattle.st_run.specs.Played.{AllCanBeDone}
+use Rattle.st_run.specs.Tasks.{tasks_by}
 use Rattle.st_run.proofs.threads.run_named.Goals as goal
 
 pub overflow_cast-count : goal.overflow_cast-count
 overflow_cast-count g c = omega (arith, c.requires.few.1)
+
+pub overflow_cast-workers : goal.overflow_cast-workers
+overflow_cast-workers g c = omega (arith, c.requires.few.1)
 
 pub start-requires-clause-lines : goal.start-requires-clause-lines
 start-requires-clause-lines g c = c.requires.lines
@@ -41,6 +45,11 @@ pub play-requires-clause-acts : goal.play-requires-clause-acts
 play-requires-clause-acts g c =
     let number : c.len-rooms.result ≡ length c.args.worlds.items = omega (arith, c.len-rooms.ensures, c.args.worlds.ok.0) in
     λ κs lives. subst (λ (m : ℕ). AllCanBeDone g.J.Naming.group m c.args.apps.now) (sym number) c.requires.acts
+
+pub play-requires-clause-tasks : goal.play-requires-clause-tasks
+play-requires-clause-tasks g c =
+    let number : c.len-rooms.result ≡ length c.args.worlds.items = omega (arith, c.len-rooms.ensures, c.args.worlds.ok.0) in
+    λ κs lives. subst (λ (m : ℕ). c.args.tasks.now ≡ tasks_by c.args.apps.now m) (sym number) c.requires.tasks
 
 pub returns : goal.returns
 returns g c =

@@ -1,0 +1,125 @@
+//! The tasks of a run's workers, by the commands of all scripts.
+
+ghost use Rattle.std.specs.Prelude.{◌≡◌, ◌<◌, ◌≤◌, ◌++◌, ◌^◌, length, sum_by, count_by, IfOk};
+ghost use Rattle.st_run.specs.Tasks.{is_propose_of, is_settle_of, proposes_of as proposes_of_lem, settles_of as settles_of_lem, tasks_by, tasks_for};
+
+use crate::workers::{Duty, Task};
+use st_event::Act;
+use st_grammar::Script;
+use std::alloc::{AllocError, Global};
+
+/// Whether a command settles this group.
+fn is_settle_of(group: u32, act: &Act) -> bool
+    ensures { result ≡ is_settle_of group act.now }
+{
+    match act {
+        Act::Settle { group: settled, .. } => *settled == group,
+        Act::Propose { .. }
+        | Act::Await { .. }
+        | Act::Lock { .. }
+        | Act::Unlock { .. }
+        | Act::Read { .. }
+        | Act::ReadAt { .. }
+        | Act::Fail { .. }
+        | Act::Poll { .. } => false,
+    }
+}
+
+/// How many of these commands settle this group.
+fn settles_in(acts: &[Act], group: u32) -> usize
+    ensures { result ≡ count_by (is_settle_of group) acts.now }
+{
+    acts.iter().filter(|act| is_settle_of(group, *act)).count()
+}
+
+/// How many commands of all scripts settle this group.
+fn settles_of(apps: &[Script], group: u32) -> usize
+    requires { sum_by (λ app. length app.acts) apps.now < 2 ^ 32 }
+    ensures { result ≡ settles_of_lem group apps.now }
+{
+    let mut count: usize = 0;
+    for app in apps {
+        count += settles_in(app.acts.as_slice(), group);
+    }
+    count
+}
+
+/// Whether a command proposes to this group.
+fn is_propose_of(group: u32, act: &Act) -> bool
+    ensures { result ≡ is_propose_of group act.now }
+{
+    match act {
+        Act::Propose { group: asked, .. } => *asked == group,
+        Act::Settle { .. }
+        | Act::Await { .. }
+        | Act::Lock { .. }
+        | Act::Unlock { .. }
+        | Act::Read { .. }
+        | Act::ReadAt { .. }
+        | Act::Fail { .. }
+        | Act::Poll { .. } => false,
+    }
+}
+
+/// How many of these commands propose to this group.
+fn proposes_in(acts: &[Act], group: u32) -> usize
+    ensures { result ≡ count_by (is_propose_of group) acts.now }
+{
+    acts.iter().filter(|act| is_propose_of(group, *act)).count()
+}
+
+/// How many commands of all scripts propose to this group.
+fn proposes_of(apps: &[Script], group: u32) -> usize
+    requires { sum_by (λ app. length app.acts) apps.now < 2 ^ 32 }
+    ensures { result ≡ proposes_of_lem group apps.now }
+{
+    let mut count: usize = 0;
+    for app in apps {
+        count += proposes_in(app.acts.as_slice(), group);
+    }
+    count
+}
+
+/// Adds a task for each of these duties of a group, to be done so many times, if at all.
+fn add_tasks(
+    tasks: &mut Vec<Task>,
+    group: u32,
+    times: usize,
+    duties: &[Duty],
+) -> Result<(), AllocError>
+    ensures { IfOk result (λ _. tasks.new.items ≡ tasks.old.items ++ tasks_for group times duties.now) }
+{
+    if times == 0 {
+        return Ok(());
+    }
+    for duty in duties {
+        tasks.push(Task {
+            group,
+            duty: *duty,
+            times,
+        })?;
+    }
+    Ok(())
+}
+
+/// The tasks of the workers of so many groups. Each group to which a `propose` goes has a checker, which makes as many checks as there are
+/// such commands. Each group that a `settle` names has an updater and a monitor, each of which makes as many halves as there are such
+/// commands.
+pub fn tasks_of(alloc: Global, rooms: usize, apps: &[Script]) -> Result<Vec<Task>, AllocError>
+    requires rooms { rooms ≤ 16 }
+    requires few { sum_by (λ app. length app.acts) apps.now < 2 ^ 32 }
+    ensures { IfOk result (λ tasks. tasks.items ≡ tasks_by apps.now rooms) }
+{
+    let mut tasks = Vec::new(alloc);
+    for room in 0..rooms {
+        let group = room as u32;
+        add_tasks(&mut tasks, group, proposes_of(apps, group), &[Duty::Check])?;
+        add_tasks(
+            &mut tasks,
+            group,
+            settles_of(apps, group),
+            &[Duty::Update, Duty::Monitor],
+        )?;
+    }
+    Ok(tasks)
+}
