@@ -10,15 +10,18 @@ mod texts;
 use crate::{JournalsRead, Replayed, print_journal, read_journals, replay};
 use faults::{ENTRIES, LINES};
 use groups::{Setting, three_groups};
-use st_event::{Entry, Journal, MAX_ENTRIES};
+use st_event::{Entry, Journal, MAX_ENTRIES, Reply};
 use st_net::GroupTopo;
 use st_text::Text;
 use st_wire::LossPlan;
 use st_world::World;
-use std::alloc::Global;
+use std::alloc::{AllocError, Global};
 use std::process::Abort;
 use std::test::Fail;
-use texts::{ALL, ALTERED, OTHER_SPELLING, SECOND_BROKEN, SIXTEEN, UNTOLD_FAILURE};
+use texts::{
+    ALL, ALTERED, OLD_REPORT, OTHER_SPELLING, RENEWED, SECOND_BROKEN, SIXTEEN, STALE_COMMAND,
+    UNTOLD_FAILURE,
+};
 
 /// What the bytes read as, whose first line has this number.
 fn read(rt: &impl Abort, given: &Setting, bytes: &[u8], line: u32) -> Result<JournalsRead, Fail> {
@@ -207,6 +210,60 @@ fn another_reply_is_found_at_its_entry(rt: HostRuntime) -> Result<(), Fail> {
             let want = format!(in rt.alloc(); "illegal {number}")?;
             assert_eq!(rt; got.as_str(), want.as_str(), "{line}");
         }
+    }
+    Ok(())
+}
+
+/// A reply that is never called for where this one is.
+fn another(reply: &Reply) -> Reply {
+    match reply {
+        Reply::Changed => Reply::Idle,
+        _ => Reply::Changed,
+    }
+}
+
+/// The entries with another reply at one of them, by its place from 0.
+fn altered_at(alloc: Global, entries: &[Entry], at: usize) -> Result<Vec<Entry>, AllocError> {
+    let mut copies = Vec::new(alloc);
+    for (i, entry) in entries.iter().enumerate() {
+        let mut copy = entry.copy(alloc)?;
+        if i == at {
+            copy.reply = another(&entry.reply);
+        }
+        copies.push(copy)?;
+    }
+    Ok(copies)
+}
+
+/// Each entry of the first group's journal in a text is found where its reply alone is another.
+fn each_is_found(rt: &impl Abort, given: &Setting, text: &str) -> Result<usize, Fail> {
+    match read(rt, given, text.as_bytes(), 1)? {
+        JournalsRead::Journals(journals) => {
+            let journal = journals.as_slice().first().ok_or("no journal")?;
+            let topo = given.topos.first().ok_or("no group")?;
+            let entries = journal.entries.as_slice();
+            for at in 0..entries.len() {
+                let altered = altered_at(given.alloc, entries, at)?;
+                let got = replayed(rt, given.alloc, topo, altered.as_slice())?;
+                let want = format!(in given.alloc; "illegal {}", at.saturating_add(1))?;
+                assert_eq!(rt; got.as_str(), want.as_str(), "{text}");
+            }
+            Ok(entries.len())
+        }
+        JournalsRead::Fault { .. } => Err(Fail::new("a fault")),
+    }
+}
+
+#[test]
+fn an_altered_reply_is_found_entry_by_entry(rt: HostRuntime) -> Result<(), Fail> {
+    let given = three_groups(rt.alloc())?;
+    for (text, count) in [
+        (STALE_COMMAND, 15),
+        (OLD_REPORT, 8),
+        (UNTOLD_FAILURE, 8),
+        (RENEWED, 8),
+    ] {
+        assert_eq!(rt; each_is_found(&rt, &given, text)?, count);
     }
     Ok(())
 }

@@ -102,3 +102,46 @@ pub const ALTERED_REPORTS: &str = "\
 6 finish a1 : notbusy
 7 report a1 : reported 2
 8 hear 1 : old 1";
+
+/// A command that comes again behind a later one.
+pub const STALE_COMMAND: &str = "journal dc1
+1 submit up a1.firmware=2 : queued 1
+2 check : receipt 1 accepted 1
+3 send a1 : sent 1
+4 deliver 1 : begun
+5 finish a1 : done
+6 report a1 : reported 1
+7 hear 1 : taken
+8 submit up a1.firmware=3 : queued 2
+9 check : receipt 2 accepted 2
+10 send a1 : sent 2
+11 deliver 2 : begun
+12 deliver 1 : stale 9
+13 finish a1 : done
+14 report a1 : reported 2
+15 hear 2 : taken
+";
+
+/// A report that comes again.
+pub const OLD_REPORT: &str = "journal dc1
+1 submit up a1.firmware=2 : queued 1
+2 check : receipt 1 accepted 1
+3 send a1 : sent 1
+4 deliver 1 : begun
+5 finish a1 : done
+6 report a1 : reported 1
+7 hear 1 : taken
+8 hear 1 : old 1
+";
+
+/// A switch that lost its firmware of itself, and is set back.
+pub const RENEWED: &str = "journal dc1
+1 fail a1 5 power=1 firmware=9 config=1 routing=1 : changed
+2 report a1 : reported 1
+3 hear 1 : taken
+4 send a1 : sent 1
+5 deliver 1 : begun
+6 finish a1 : done
+7 report a1 : reported 2
+8 hear 2 : taken
+";
