@@ -25,22 +25,23 @@ use Rattle.st_top.specs.declared.answer.Status.{Status}
 use Rattle.st_top.specs.declared.answer.Status.TheVariants.{Ok, Usage, ReadFault, TooLong, BadInput, JournalFull, Illegal, WriteFault, OutOfMemory}
 use Rattle.st_top.specs.declared.answer.Outcome.{Outcome}
 use Rattle.st_top.specs.declared.ending.Ending.{Ending}
-use Rattle.st_top.specs.declared.replaying.Again.{Again}
-use Rattle.st_top.specs.declared.replaying.Again.TheVariants as again
+use Rattle.st_replay.specs.declared.replaying.Again.{Again}
+use Rattle.st_replay.specs.declared.replaying.Again.TheVariants as again
 use Rattle.st_top.specs.declared.task.Task.{Task}
 use Rattle.st_top.specs.declared.task.Task.TheVariants.{Serial, Count, Print}
 use Rattle.st_top.specs.declared.task.Showing.TheVariants.{In}
 use Rattle.st_top.specs.declared.task.Reading.{Reading}
 use Rattle.st_top.specs.declared.task.Reading.TheVariants as readings
 use Rattle.st_top.specs.Ways.{Way, nothing, reads, makes, tree_doc}
-use Rattle.st_top.specs.Output.{app_names, shown}
+use Rattle.st_replay.specs.Replaying.{app_names, AreLegal, IsFirstIllegal, Replay, journal_bytes, journal_line, replay_of, replay_with}
+use Rattle.st_top.specs.Output.{shown}
 use Rattle.st_serial.specs.Kept.{groups_of}
-use Rattle.st_top.specs.Replaying.{AreLegal, IsFirstIllegal, Replay, journal_bytes, journal_line, replay_of, replay_with}
 use Rattle.st_top.specs.Answer.{Results, SourceState, SinkState, ComesOf, EndsAtEnd, EndsOn, EndsOnBytes, EndsBy, EndsOnDoc, EndsOnReplay, EndsOnRun, EndsOnRunDoc, HasWritten, IsUnread, StopsTooLong}
 use Rattle.st_top.specs.Completeness.{CanBeDoneBy, CanBeDoneOn, CanBeRead, IsAfterReadFault, IsFaultless}
-use Rattle.st_top.specs.Ending.{IsAgain, IsCalledFor, IsEndOnBytes, IsEndOnDoc, IsEndOnReplay, IsToldAgain, TellsFault, WritesEnding, results_in, told}
+use Rattle.st_replay.specs.Again.{IsAgain}
+use Rattle.st_top.specs.Ending.{IsCalledFor, IsEndOnBytes, IsEndOnDoc, IsEndOnReplay, IsToldAgain, TellsFault, WritesEnding, results_in, told}
 use Rattle.st_top.proofs.PlayedRuns.{run_well}
-use Rattle.st_top.proofs.Replays.{again_kept, legal_amid, one_each}
+use Rattle.st_replay.proofs.Replays.{again_kept, legal_amid, one_each}
 
 -- the ending that tells of a bad line
 pub fault_ends : (form : Form) (line : ℕ) (kind : FaultKind) (ending : Ending) → TellsFault (BadInput line kind) ending → IsEndOnReplay form (Err (record { line = line; kind = kind })) ending

@@ -14,10 +14,11 @@ use Rattle.st_top.specs.declared.answer.Status.TheVariants as statuses
 use Rattle.st_top.specs.declared.task.Showing.{Showing}
 use Rattle.st_top.specs.declared.task.Task.TheVariants.{Serial}
 use Rattle.st_serial.specs.Serial.{GroupState, Run, groups_in, journals_from, logs_from, serial_end, serial_logs, serial_run}
-use Rattle.st_top.specs.Output.{histories_of, shown}
+use Rattle.st_replay.specs.Again.{histories_of, AreKeptSites, IsKeptHistory}
+use Rattle.st_top.specs.Output.{shown}
 use Rattle.st_serial.specs.Kept.{groups_of, AreKept, IsKept}
 use Rattle.st_top.specs.Answer.{Results, AreOfScripts, EndsOnDoc}
-use Rattle.st_top.specs.Ending.{AreKeptSites, IsKeptHistory, IsToldOf}
+use Rattle.st_top.specs.Ending.{IsToldOf}
 use Rattle.st_serial.proofs.Runs.{serial_groups}
 
 -- journals of groups that are kept
@@ -66,11 +67,6 @@ pub ends_told : (showing : Showing) (doc : Doc) (results : Results) (status : St
 ends_told showing doc results statuses.Ok text sound scripts told = record { scripts = scripts; room = told.0; report = told.1 ∙ shown_same showing doc results sound scripts }
 ends_told showing doc results (statuses.JournalFull group) text sound scripts told = (tt, record { scripts = scripts; full = told.0; told = told.1 })
 ends_told showing doc results _ text sound scripts told = absurd told
-
--- one group more at the end
-pub kept_more : (ss : List GroupState) (s : GroupState) → AreKeptSites ss → IsKeptHistory s.history → AreKeptSites (ss ++ s ∷ [])
-kept_more [] s kept here = (here, tt)
-kept_more (first ∷ ss) s kept here = (kept.0, kept_more ss s kept.1 here)
 
 journals_more : (n : ℕ) (ss : List GroupState) (s : GroupState) → journals_from n (ss ++ s ∷ []) ≡ journals_from n ss ++ record { group = n + length ss; entries = reverse s.history.past } ∷ []
 journals_more n [] s = ap (λ m. record { group = m; entries = reverse s.history.past } ∷ []) (omega arith)

@@ -1,9 +1,7 @@
 pub mod Lines
 pub mod Trees
-pub mod FewEntries
 pub mod Endings
 pub mod PlayedRuns
-pub mod Replays
 pub mod PrintedRuns
 pub mod ThreadRuns
 pub mod HandedBack

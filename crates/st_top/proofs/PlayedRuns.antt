@@ -22,7 +22,7 @@ use Rattle.st_top.specs.declared.answer.Status.{Status}
 use Rattle.st_top.specs.declared.answer.Status.TheVariants.{Ok, JournalFull, OutOfMemory}
 use Rattle.st_top.specs.Answer.{EndsOnRunDoc, Results}
 use Rattle.st_top.specs.Ending.{IsToldOfRun}
-use Rattle.st_top.specs.Replaying.{AreLegal, HasFewEntries}
+use Rattle.st_replay.specs.Replaying.{AreLegal, HasFewEntries}
 
 -- the events of a legal journal fit its group, and it has no more entries than a journal may have
 legal_at : (g : Group) (past : List Entry) (k : ℕ) (d : Entry) → IsLegal g past → k < length past → Fits g (slice_index_or past k d).event

@@ -42,9 +42,10 @@ use Rattle.st_journal.specs.JournalReading.{journals_in}
 use Rattle.st_journal.specs.Printing.{journal_text, journal_words, entries_lines}
 use Rattle.st_journal.specs.ReadingBack.{AreNames, AreNumbered, AreTopologies, IsJournalAmong, lines_where, journals_lines, journals_text as numbered_text}
 use Rattle.st_journal.proofs.PrintedBack.{each_prints_back}
-use Rattle.st_top.specs.Output.{app_names, histories_of, journals_text}
+use Rattle.st_replay.specs.Again.{histories_of}
+use Rattle.st_replay.specs.Replaying.{app_names, AreLegal, Replay, journal_bytes, journal_line, replay_of, replay_with}
+use Rattle.st_top.specs.Output.{journals_text}
 use Rattle.st_serial.specs.Kept.{groups_of}
-use Rattle.st_top.specs.Replaying.{AreLegal, Replay, journal_bytes, journal_line, replay_of, replay_with}
 use Rattle.st_words.specs.declared.job.Form.{Form}
 use Rattle.st_words.specs.declared.job.Form.TheVariants as forms
 use Rattle.st_top.specs.declared.answer.Status.{Status}

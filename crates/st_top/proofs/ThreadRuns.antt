@@ -14,7 +14,7 @@ use Rattle.st_grammar.specs.Sound.{IsSoundDoc}
 use Rattle.st_journal.specs.ReadingBack.{AreNumbered, HasSmallNumber, IsAsked, IsByApp}
 use Rattle.st_serial.specs.Kept.{AreKept, groups_of}
 use Rattle.st_run.specs.Running.{HasOwnRequests, HasSmallNumber as has_small, HasSmallNumbers, IsByOneOf, IsRunOf}
-use Rattle.st_top.specs.Output.{app_names}
+use Rattle.st_replay.specs.Replaying.{app_names}
 use Rattle.st_top.specs.PrintedRuns.{IsRun, RunsByThreadsAreReplayed}
 use Rattle.st_top.proofs.PlayedRuns.{numbered_at}
 use Rattle.st_top.proofs.PrintedRuns.{printed_runs_are_replayed}

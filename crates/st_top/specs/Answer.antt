@@ -26,10 +26,11 @@ use Rattle.st_top.specs.declared.task.Reading.{Reading}
 use Rattle.st_top.specs.declared.task.Reading.TheVariants as readings
 use Rattle.st_top.specs.Ways.{Way, nothing, reads, makes, way_of, tree_doc}
 use Rattle.st_serial.specs.Serial.{serial_run, serial_logs, serial_full}
-use Rattle.st_top.specs.Output.{histories_of, shown, check_text}
+use Rattle.st_replay.specs.Again.{histories_of}
+use Rattle.st_top.specs.Output.{shown, check_text}
 use Rattle.st_serial.specs.Kept.{AreKept, groups_of}
 use Rattle.st_run.specs.Running.{IsRunOf}
-use Rattle.st_top.specs.Replaying.{Replay, replay_of, IsFirstIllegal}
+use Rattle.st_replay.specs.Replaying.{Replay, replay_of, IsFirstIllegal}
 
 abbrev pub kind_word : FaultKind → List ℕ
 kind_word kinds.Header = codes "header"

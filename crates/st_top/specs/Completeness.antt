@@ -13,7 +13,7 @@ use Rattle.st_top.specs.Ways.{Way, nothing, reads, makes, way_of, tree_doc}
 use Rattle.st_serial.specs.Most.{HasRoom}
 use Rattle.st_serial.specs.Serial.{serial_full}
 use Rattle.st_serial.specs.Kept.{groups_of}
-use Rattle.st_top.specs.Replaying.{Replay, replay_of, AreLegal}
+use Rattle.st_replay.specs.Replaying.{Replay, replay_of, AreLegal}
 
 -- a call in which a read failed tells it, unless that line could not be written, or memory was refused
 abbrev pub IsAfterReadFault : Status → Type 0

@@ -1,13 +1,8 @@
 -- How a call is to end, before anything is written.
-use Rattle.std.specs.Prelude.{◌≡◌, ℕ, List, [], ◌∷◌, map, Some, None, Result}
+use Rattle.std.specs.Prelude.{◌≡◌, ℕ, List, [], map, Some, None, Result}
 use Rattle.st_io.specs.declared.writing.Written.{Written}
 use Rattle.st_io.specs.declared.writing.Written.TheVariants as ways
 use Rattle.st_io.specs.Output.{Writes}
-use Rattle.st_net.specs.Groups.{Group, IsSound}
-use Rattle.st_event.specs.declared.journal.Journal.{Journal}
-use Rattle.st_event.specs.History.{History}
-use Rattle.st_event.specs.Legal.{IsLegal, AtEach}
-use Rattle.st_event.specs.Network.{KeepsPromises}
 use Rattle.st_grammar.specs.declared.doc.Doc.{Doc}
 use Rattle.st_token.specs.declared.fault.LineFault.{LineFault}
 use Rattle.st_top.specs.declared.answer.Outcome.{Outcome}
@@ -18,14 +13,15 @@ use Rattle.st_top.specs.declared.task.Task.{Task}
 use Rattle.st_top.specs.declared.task.Showing.{Showing}
 use Rattle.st_top.specs.declared.task.Showing.TheVariants.{In}
 use Rattle.st_top.specs.declared.task.Reading.{Reading}
-use Rattle.st_top.specs.declared.replaying.Again.{Again}
-use Rattle.st_top.specs.declared.replaying.Again.TheVariants as again
+use Rattle.st_replay.specs.declared.replaying.Again.{Again}
+use Rattle.st_replay.specs.declared.replaying.Again.TheVariants as again
 use Rattle.st_words.specs.declared.job.Form.{Form}
 use Rattle.st_report.specs.Lines.{histories}
 use Rattle.st_top.specs.Ways.{Way}
-use Rattle.st_serial.specs.Serial.{GroupState, states_of, serial_end, serial_full, serial_logs}
-use Rattle.st_top.specs.Output.{histories_of, shown}
-use Rattle.st_top.specs.Replaying.{Replay, IsFirstIllegal}
+use Rattle.st_serial.specs.Serial.{serial_end, serial_full, serial_logs}
+use Rattle.st_replay.specs.Again.{histories_of}
+use Rattle.st_top.specs.Output.{shown}
+use Rattle.st_replay.specs.Replaying.{Replay}
 use Rattle.st_serial.specs.Kept.{groups_of}
 use Rattle.st_run.specs.declared.playing.Played.{Played}
 use Rattle.st_top.specs.Answer.{Results, SourceState, SinkState, EndsOnDoc, EndsOn, EndsOnRun, EndsOnRunDoc, EndsOnReplay, EndsOnBytes, ComesOf, no_results, fault_line, status_line}
@@ -78,21 +74,6 @@ IsEndOnBytes reading bytes ending = EndsOnBytes reading bytes (results_in ending
 -- why the call is to end so
 abbrev pub IsCalledFor : Way → SourceState → SourceState → Ending → Type 0
 IsCalledFor way old new ending = ComesOf way old new (results_in ending) ending.text ending.status
-
--- the group is sound, the journal is legal, and at each of its moments the group's promises were kept
-pub record IsKeptHistory (h : History) : Type 0 where
-  pub sound : IsSound h.group
-  pub legal : IsLegal h.group h.past
-  pub promises : AtEach (KeepsPromises h.group) h.past
-
-abbrev pub AreKeptSites : List GroupState → Type 0
-AreKeptSites [] = Unit {0}
-AreKeptSites (s ∷ ss) = IsKeptHistory s.history × AreKeptSites ss
-
--- what came of the journals of groups: worlds with these journals, each of them kept, or their first entry that is not legal
-abbrev pub IsAgain : List Group → List Journal → Again → Type 0
-IsAgain groups journals (again.Worlds worlds) = (histories worlds.items ≡ histories_of groups journals) × AreKeptSites (states_of worlds.items)
-IsAgain groups journals (again.Illegal group entry) = IsFirstIllegal groups journals group entry
 
 -- the status and the text of a replay that came to this
 abbrev pub IsToldAgain : Form → Doc → Again → Status → List ℕ → Type 0

@@ -1,7 +1,6 @@
 pub mod Ways
 pub mod Output
 pub mod Exit
-pub mod Replaying
 pub mod Answer
 pub mod Completeness
 pub mod PrintedRuns

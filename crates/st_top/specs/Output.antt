@@ -1,9 +1,7 @@
 -- What the tasks write.
 use Rattle.std.specs.Prelude.{ℕ, List, [], ◌∷◌, ◌++◌, length, map, flat_map, reverse, codes, decimal, sum_by}
 use Rattle.st_text.specs.Words.{line}
-use Rattle.st_net.specs.Groups.{Group}
 use Rattle.st_event.specs.declared.act.Log.{Log}
-use Rattle.st_event.specs.declared.journal.Journal.{Journal}
 use Rattle.st_event.specs.History.{History}
 use Rattle.st_grammar.specs.declared.doc.Doc.{Doc}
 use Rattle.st_words.specs.declared.job.FatTree.{FatTree}
@@ -14,17 +12,9 @@ use Rattle.st_journal.specs.Printing.{journal_text}
 use Rattle.st_report.specs.Text.{report_text_of}
 use Rattle.st_report.specs.Json.{report_json_of}
 use Rattle.st_report.specs.Sums.{sums_text}
+use Rattle.st_replay.specs.Replaying.{app_names}
 use Rattle.st_top.specs.declared.task.Showing.{Showing}
 use Rattle.st_top.specs.declared.task.Showing.TheVariants.{In, Sums}
-
--- groups, each with its journal
-abbrev pub histories_of : List Group → List Journal → List History
-histories_of [] journals = []
-histories_of (g ∷ groups) [] = []
-histories_of (g ∷ groups) (journal ∷ journals) = record { group = g; past = reverse journal.entries } ∷ histories_of groups journals
-
-abbrev pub app_names : Doc → List (List ℕ)
-app_names doc = map (λ script. script.name) doc.apps
 
 -- the journal of each group, in order
 abbrev pub journals_text : List History → List (List ℕ) → List ℕ

@@ -13,10 +13,11 @@ use Rattle.st_top.specs.declared.answer.Status.{Status}
 use Rattle.st_top.specs.declared.answer.Status.TheVariants.{Ok}
 use Rattle.st_top.specs.declared.task.Showing.TheVariants.{In}
 use Rattle.st_top.specs.declared.task.Reading.TheVariants.{Journals}
-use Rattle.st_top.specs.Output.{app_names, histories_of, shown}
+use Rattle.st_replay.specs.Again.{histories_of}
+use Rattle.st_replay.specs.Replaying.{app_names, AreLegal, IsFirstIllegal, replay_of}
+use Rattle.st_top.specs.Output.{shown}
 use Rattle.st_serial.specs.Kept.{groups_of}
 use Rattle.st_run.specs.Running.{IsRunOf}
-use Rattle.st_top.specs.Replaying.{AreLegal, IsFirstIllegal, replay_of}
 use Rattle.st_top.specs.Answer.{Results, EndsOnBytes}
 use Rattle.st_top.specs.Completeness.{CanBeRead}
 

@@ -4,30 +4,19 @@ ghost use Rattle.std.specs.Prelude.{◌≡◌, ◌∷◌, ◌++◌, ◌<◌, ◌
 ghost use Rattle.st_grammar.specs.Sound.{IsSoundDoc};
 ghost use Rattle.st_report.specs.Lines.{histories};
 ghost use Rattle.st_report.specs.Sums.{sums_text};
-ghost use Rattle.st_top.specs.Output.{app_names as app_names_lem, journals_text, demo_text as demo_text_lem, shown, check_text as check_text_lem};
+ghost use Rattle.st_top.specs.Output.{journals_text, demo_text as demo_text_lem, shown, check_text as check_text_lem};
 
 use crate::task::Showing;
 use st_doc::{Doc, Script, print_doc};
 use st_event::Log;
 use st_journal::print_world;
 use st_net::{Name, Parts};
+use st_replay::app_names;
 use st_report::{print_sums, report_json, report_text};
 use st_text::{Text, Word, print_line};
 use st_words::{FatTree, Form};
 use st_world::World;
 use std::alloc::{AllocError, Global};
-
-/// The names of a document's applications, in order.
-pub fn app_names(alloc: Global, doc: &Doc) -> Result<Vec<Name>, AllocError>
-    ensures { IfOk result (λ names. names.items ≡ app_names_lem doc.now) }
-{
-    let apps = doc.apps.as_slice();
-    let mut names = Vec::new(alloc);
-    for script in apps {
-        names.push(script.name.copy(alloc)?)?;
-    }
-    Ok(names)
-}
 
 /// Adds the journal of each world, in order.
 fn print_journals(

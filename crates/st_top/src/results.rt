@@ -2,7 +2,7 @@
 
 ghost use Rattle.std.specs.Prelude.{◌≡◌, ◌<◌, ◌^◌, length, IfOk};
 ghost use Rattle.st_serial.specs.Serial.{states_of, journals_from, logs_from};
-ghost use Rattle.st_top.specs.Ending.{AreKeptSites};
+ghost use Rattle.st_replay.specs.Again.{AreKeptSites};
 
 use crate::answer::{Journals, Logs};
 use st_event::{Log, LogEntries};

@@ -1,6 +1,7 @@
 //! Whole calls: words and bytes in; text, status and journals out. Expected texts are worked by hand.
 
 mod gates;
+mod hostile;
 mod jobs;
 mod replays;
 mod runs;
@@ -339,8 +340,8 @@ fn parts_are_counted(rt: HostRuntime) -> Result<(), Fail> {
     Ok(())
 }
 
-/// What `serial` and `run` are both to write of the two paths with a promise of half their capacity, these wire lines and this script of
-/// one application, which has only one order.
+/// What `serial` is to write of the two paths with a promise of half their capacity, these wire lines and this script of one application.
+/// A `run`, of which workers make checks and halves where they come, is only to be Ok.
 fn plant_writes<R: Abort + Threads + Wait + Sync>(
     rt: &R,
     alloc: Global,
@@ -351,7 +352,6 @@ fn plant_writes<R: Abort + Threads + Wait + Sync>(
     let parts = [TWO_PATHS, HALF, lines, script];
     let run = call(rt, alloc, &["run"], &parts)?;
     assert_eq!(rt; run.outcome.status, Status::Ok);
-    assert_eq!(rt; run.text.as_slice(), text);
     let called = call(rt, alloc, &["serial"], &parts)?;
     assert_eq!(rt; called.outcome.status, Status::Ok);
     assert_eq!(rt; called.text.as_slice(), text);

@@ -2,9 +2,9 @@ use Rattle.std.proofs.Common.{List, ap, map, subst, ◌∙◌}
 use Rattle.st_net.specs.Faults.{group_of}
 use Rattle.st_net.specs.Groups.{Group}
 use Rattle.st_serial.specs.Kept.{groups_of}
-use Rattle.st_top.specs.declared.replaying.Again.{Again}
-use Rattle.st_top.specs.Ending.{IsAgain}
-use Rattle.st_top.specs.Replaying.{IsFirstIllegal}
+use Rattle.st_replay.specs.declared.replaying.Again.{Again}
+use Rattle.st_replay.specs.Again.{IsAgain}
+use Rattle.st_replay.specs.Replaying.{IsFirstIllegal}
 use Rattle.st_top.proofs.Endings.{none_illegal}
 use Rattle.st_top.proofs.PlayedRuns.{all_few}
 use Rattle.st_top.proofs.playing.journals_shown.Goals as goal

@@ -2,7 +2,7 @@ use Rattle.std.proofs.Common.{List, subst, sym}
 use Rattle.st_event.specs.declared.journal.Journal.{Journal}
 use Rattle.st_journal.specs.JournalReading.{AreJournalsOf}
 use Rattle.st_serial.specs.Kept.{groups_of}
-use Rattle.st_top.specs.Replaying.{AreLegal}
+use Rattle.st_replay.specs.Replaying.{AreLegal}
 use Rattle.st_top.proofs.PlayedRuns.{journals_each, kept_legal}
 use Rattle.st_top.proofs.playing.played_text.Goals as goal
 

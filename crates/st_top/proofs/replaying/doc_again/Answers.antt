@@ -5,9 +5,8 @@ use Rattle.st_net.specs.Faults.{group_of}
 use Rattle.st_token.specs.declared.fault.LineFault.{LineFault}
 use Rattle.st_journal.specs.JournalReading.{journals_in, Reads}
 use Rattle.st_journal.specs.declared.reading.JournalsRead.{JournalsRead}
-use Rattle.st_top.specs.Output.{app_names}
+use Rattle.st_replay.specs.Replaying.{app_names, journal_bytes, journal_line}
 use Rattle.st_serial.specs.Kept.{groups_of}
-use Rattle.st_top.specs.Replaying.{journal_bytes, journal_line}
 use Rattle.st_top.proofs.Endings.{fault_ends, journals_end}
 use Rattle.st_top.proofs.replaying.doc_again.Goals as goal
 

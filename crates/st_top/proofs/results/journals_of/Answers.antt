@@ -1,8 +1,9 @@
 use Rattle.std.proofs.Common.{◌≡◌, List, ◌++◌, ◌∷◌, [], length, length-append, refl, sym, ◌∙◌, ap, subst, arith}
 use Rattle.std.proofs.lemmas.List.{append_assoc}
 use Rattle.st_serial.specs.Serial.{GroupState, journals_from, state_of, states_of}
-use Rattle.st_top.specs.Ending.{AreKeptSites}
-use Rattle.st_top.proofs.HandedBack.{journal_next, journals_long, kept_more}
+use Rattle.st_replay.specs.Again.{AreKeptSites}
+use Rattle.st_replay.proofs.Replays.{kept_more}
+use Rattle.st_top.proofs.HandedBack.{journal_next, journals_long}
 use Rattle.st_serial.proofs.Worlds.{states_many, states_push}
 use Rattle.st_top.proofs.results.journals_of.Goals as goal
 

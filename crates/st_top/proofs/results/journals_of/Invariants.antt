@@ -1,6 +1,6 @@
 use Rattle.std.proofs.Common.{◌≡◌, ◌++◌}
 use Rattle.st_serial.specs.Serial.{journals_from, states_of}
-use Rattle.st_top.specs.Ending.{AreKeptSites}
+use Rattle.st_replay.specs.Again.{AreKeptSites}
 use Rattle.st_top.proofs.results.journals_of.Given as goal
 
 -- the journals so far, and the groups that are left

@@ -1,0 +1,3 @@
+pub mod FewEntries
+pub mod Names
+pub mod Replays
