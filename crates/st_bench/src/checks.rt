@@ -33,7 +33,7 @@ pub struct Decided {
 
 /// What came of a proposal.
 #[derive(Clone, Copy)]
-enum Outcome {
+pub enum Outcome {
     Accepted,
     Refused,
     Undecided,
@@ -57,7 +57,8 @@ impl Decided {
     }
 }
 
-fn outcome_of(verdict: &Verdict) -> Outcome {
+/// What a verdict says.
+pub fn outcome_of(verdict: &Verdict) -> Outcome {
     match verdict {
         Verdict::Accepted { .. } => Outcome::Accepted,
         Verdict::Refused(_) => Outcome::Refused,
@@ -78,13 +79,23 @@ fn outcome_of_commit(committed: &Committed) -> Outcome {
     }
 }
 
-/// Proposes that a switch gets this firmware.
-fn submit(alloc: Global, world: &mut World, switch: u32, firmware: u32) -> Result<(), AllocError> {
-    let row = Row {
+/// Gives a switch this firmware.
+pub fn row_of(switch: u32, firmware: u32) -> Row {
+    Row {
         entity: Entity::Device(switch),
         var: Var::Firmware,
         value: firmware,
-    };
+    }
+}
+
+/// Proposes that a switch gets this firmware.
+pub fn submit(
+    alloc: Global,
+    world: &mut World,
+    switch: u32,
+    firmware: u32,
+) -> Result<(), AllocError> {
+    let row = row_of(switch, firmware);
     let rows = Rows::from_slice(alloc, [row].as_slice())?;
     let app = AppId(0);
     let event = Event::Submit { app, rows };
@@ -106,12 +117,14 @@ fn judged(
     }
 }
 
-fn check(world: &mut World) -> Result<Outcome, AllocError> {
+/// Decides the oldest proposal by a step.
+pub fn check(world: &mut World) -> Result<Outcome, AllocError> {
     let stepped = world.step(Event::Check)?;
     Ok(outcome_of_step(&stepped))
 }
 
-fn commit(world: &mut World, judged: &Judged) -> Result<Outcome, AllocError> {
+/// Decides a proposal that was judged away from its world.
+pub fn commit(world: &mut World, judged: &Judged) -> Result<Outcome, AllocError> {
     if !world.may_commit(judged) {
         return Ok(Outcome::Undecided);
     }

@@ -51,7 +51,8 @@ fn first_tor(topo: &GroupTopo) -> u32 {
     0
 }
 
-fn take_down(topo: &GroupTopo, up: &mut EntitySet, device: u32)
+/// Takes a device down.
+pub fn take_down(topo: &GroupTopo, up: &mut EntitySet, device: u32)
     requires { MarksOf topo.now up.old }
     ensures { MarksOf topo.now up.new }
 {

@@ -1,6 +1,7 @@
 //! The words of the command line: each names a task and the group that it is done on.
 
 use crate::checks::Way;
+use crate::crew::{Crew, Judging};
 use crate::proposals::Outage;
 use crate::reads::{Audience, Pace};
 use crate::worlds::Course;
@@ -27,6 +28,10 @@ pub enum Task {
     Check(Way),
     /// Reads of its published target.
     Read(Audience),
+    /// Checks of it by threads.
+    CheckBy(Crew),
+    /// Checks of its world, part by part.
+    Hold,
 }
 
 /// A task, and how much is promised of each pair of leaves of its group, in percent.
@@ -109,10 +114,42 @@ fn reads_of(word: &str) -> (Task, &str) {
     (Task::Cuts, word)
 }
 
+/// The checks by threads that a word names by its first part, and what is left of the word.
+fn crew_of(word: &str) -> Option<(Crew, &str)> {
+    let crews = [
+        ("off-lock-1-", Judging::OffLock, 1),
+        ("off-lock-2-", Judging::OffLock, 2),
+        ("off-lock-4-", Judging::OffLock, 4),
+        ("under-lock-1-", Judging::UnderLock, 1),
+        ("under-lock-2-", Judging::UnderLock, 2),
+        ("under-lock-4-", Judging::UnderLock, 4),
+    ];
+    for (prefix, judging, threads) in &crews {
+        if let Some(rest) = word.strip_prefix(*prefix) {
+            let crew = Crew {
+                threads: *threads,
+                judging: *judging,
+            };
+            return Some((crew, rest));
+        }
+    }
+    None
+}
+
 /// The work that a word names, and what is left of the word: the name of its group.
 pub fn work_of(word: &str) -> (Work, &str) {
     if let Some(rest) = word.strip_prefix("proposals-") {
         return proposals_of(rest);
+    }
+    if let Some(rest) = word.strip_prefix("holds-") {
+        let (percent, rest) = percent_of(rest);
+        let task = Task::Hold;
+        return (Work { task, percent }, rest);
+    }
+    if let Some((crew, rest)) = crew_of(word) {
+        let (percent, rest) = percent_of(rest);
+        let task = Task::CheckBy(crew);
+        return (Work { task, percent }, rest);
     }
     let (task, rest) = match word.strip_prefix("reads-") {
         Some(rest) => reads_of(rest),

@@ -1,4 +1,5 @@
 //! Worlds that are driven: locks asked for, reports heard, and rounds of a group in which every entity failed.
+ghost use Rattle.std.specs.Prelude.{◌≡◌, [], IfOk};
 
 use st_event::Event;
 use st_net::{AppId, Entity, GroupTopo, Prio, Vals};
@@ -138,7 +139,9 @@ fn run(world: &mut World, course: Course, times: u32) -> Result<Driven, AllocErr
 }
 
 /// A world of this group, in which no message is lost.
-pub fn open(alloc: Global, topo: GroupTopo) -> Result<World, AllocError> {
+pub fn open(alloc: Global, topo: GroupTopo) -> Result<World, AllocError>
+    ensures { IfOk result (λ world. world.history ≡ record { group = topo; past = [] }) }
+{
     let plan = LossPlan::from_lines(alloc, Vec::new(alloc));
     World::start(alloc, topo, plan)
 }
