@@ -7,6 +7,7 @@ differs, 2 where nothing could be tried. `--show S` prints a case with what the 
 
 import argparse
 import difflib
+import multiprocessing
 import os
 import sys
 import time
@@ -40,12 +41,22 @@ def main():
         print("no program at %s: ./statesman check <examples/two_path.txt builds it" % options.program)
         return 2
     trial = Trial(options)
-    try:
-        trial.try_all()
-    except KeyboardInterrupt:
-        print("interrupted")
+    for share in in_shares(options):
+        trial.take(share)
     trial.tell()
     return 1 if trial.differing else 0
+
+
+def in_shares(options):
+    """What each share of the cases came to, each tried by a process of its own."""
+    if options.processes < 2:
+        return [Trial(options).tried_all()]
+    with multiprocessing.get_context("fork").Pool(options.processes) as pool:
+        return pool.map(try_share, [(options, share) for share in range(options.processes)], 1)
+
+
+def try_share(work):
+    return Trial(*work).tried_all()
 
 
 def read_options():
@@ -56,6 +67,8 @@ def read_options():
     parser.add_argument("--again", type=int, default=1, metavar="N", help="try run N times on each document whose order is free (1)")
     parser.add_argument("--first", type=int, default=1, help="the seed of the first case (1)")
     parser.add_argument("--seconds", type=float, default=60, help="after so many seconds no new case begins (60)")
+    parser.add_argument("--processes", type=int, default=os.cpu_count() or 1, metavar="N",
+                        help="try N cases at a time (as many as there are processors)")
     parser.add_argument("--edges", action="store_true", help="also the documents at limits, and gen and demo")
     parser.add_argument("--commands", default=",".join(TRIES), help="which commands, of %s (all)" % ",".join(TRIES))
     parser.add_argument("--look-back", type=int, default=0, metavar="N",
@@ -94,16 +107,51 @@ TRIES = {"serial": try_serial, "replay": try_replay, "run": run_difference}
 
 
 class Trial:
-    """The cases that were tried, and what they met."""
+    """The cases that were tried, and what they met. Of several shares each has every so manyth seed, and the first all that has none."""
 
-    def __init__(self, options):
+    def __init__(self, options, share=0):
         self.options = options
+        self.share = share
         self.begin = time.monotonic()
         self.met = Counter()
         self.tried, self.entries, self.differing = 0, 0, 0
         self.last, self.last_crowd = None, None
 
+    def tried_all(self):
+        """Tries all cases of the share, and gives what they came to."""
+        try:
+            self.try_all()
+        except KeyboardInterrupt:
+            print("interrupted")
+        return self.met, self.tried, self.entries, self.differing, self.last, self.last_crowd
+
+    def take(self, share):
+        """Adds what a share came to."""
+        met, tried, entries, differing, last, last_crowd = share
+        self.met.update(met)
+        self.tried, self.entries, self.differing = self.tried + tried, self.entries + entries, self.differing + differing
+        self.last, self.last_crowd = later(self.last, last), later(self.last_crowd, last_crowd)
+
+    def seeds(self, count):
+        """The seeds of the share among so many."""
+        return range(self.options.first + self.share, self.options.first + count, self.options.processes)
+
     def try_all(self):
+        if self.share == 0:
+            self.try_what_has_no_seed()
+        for seed in self.seeds(0 if self.options.documents else self.options.cases):
+            if self.is_over():
+                break
+            looks_back = self.options.look_back and seed % self.options.look_back == 0
+            self.try_one("seed %d" % seed, case_text(seed), looks_back)
+            self.last = seed
+        for seed in self.seeds(self.options.crowds):
+            if self.is_over():
+                break
+            self.try_one("crowd %d" % seed, crowd_text(seed), False, ["run"])
+            self.last_crowd = seed
+
+    def try_what_has_no_seed(self):
         for path in self.options.documents:
             with open(path, "rb") as file:
                 self.try_one(path, file.read(), self.options.look_back)
@@ -112,18 +160,6 @@ class Trial:
                 self.try_one("edge %r" % name, text, False)
             for words, wanted in generated_rows():
                 self.try_words(words, wanted)
-        cases = 0 if self.options.documents else self.options.cases
-        for seed in range(self.options.first, self.options.first + cases):
-            if self.is_over():
-                break
-            looks_back = self.options.look_back and seed % self.options.look_back == 0
-            self.try_one("seed %d" % seed, case_text(seed), looks_back)
-            self.last = seed
-        for seed in range(self.options.first, self.options.first + self.options.crowds):
-            if self.is_over():
-                break
-            self.try_one("crowd %d" % seed, crowd_text(seed), False, ["run"])
-            self.last_crowd = seed
 
     def try_words(self, words, wanted):
         """Words that read nothing."""
@@ -203,6 +239,11 @@ class Trial:
         seeds = ", ".join("%s %d to %d" % (word, self.options.first, last) for word, last in lasts if last is not None) or "no seeds"
         print("%d cases (%s), %d entries, %d differing, %.1f seconds" % (
             self.tried, seeds, self.entries, self.differing, time.monotonic() - self.begin))
+
+
+def later(seed, other):
+    """The later of two seeds, as far as there are some."""
+    return max((each for each in (seed, other) if each is not None), default=None)
 
 
 def reply_word(reply):

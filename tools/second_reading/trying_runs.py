@@ -2,7 +2,7 @@
 
 from carried_out import wrong_in_journals
 from comparisons import Difference, difference_at, program_says
-from document import Read, ReadAt
+from document import Propose, Read, ReadAt, Settle
 from journal import MOST_ENTRIES
 from journal_reading import read_replay
 from judging_reports import wrong_in_report
@@ -91,15 +91,20 @@ def wrong_in_report_text(reading, text):
 
 
 def is_order_free(reading):
-    """Whether it is a document in which several applications have commands."""
-    return reading.document is not None and sum(bool(application.commands) for application in reading.document.applications) > 1
+    """Whether it is a document in which several applications have commands, or workers beside them something to do."""
+    if reading.document is None:
+        return False
+    at_work = [application for application in reading.document.applications if application.commands]
+    return len(at_work) > 1 or any(isinstance(command, (Propose, Settle)) for application in at_work for command in application.commands)
 
 
 def has_one_order(reading, number):
-    """At most one application has commands on the group that enter something, so the order of others tells nothing of its journal."""
-    at_work = [application for application in reading.document.applications
-               if any(command.group == number and not isinstance(command, (Read, ReadAt)) for command in application.commands)]
-    return len(at_work) <= 1 and reading.run.full_group is None
+    """At most one application has commands on the group that enter something, and no checker, updater or monitor works for it, so the order of
+    others tells nothing of its journal."""
+    on_it = [[command for command in application.commands if command.group == number and not isinstance(command, (Read, ReadAt))]
+             for application in reading.document.applications]
+    has_workers = any(isinstance(command, (Propose, Settle)) for commands in on_it for command in commands)
+    return sum(map(bool, on_it)) <= 1 and not has_workers and reading.run.full_group is None
 
 
 def count_orders(count, reading, journals):
