@@ -1,5 +1,5 @@
 -- What a check leaves that is judged off the lock: the ticket that was the oldest is decided, or nothing is entered.
-use Rattle.std.proofs.Common.{◌≡◌, ◌⊎◌, inl, inr, ℕ, zero, suc, ◌+◌, ◌<◌, ◌≤◌, Bool, true, false, List, [], ◌∷◌, ◌++◌, length, refl, ap, sym, subst, ◌∙◌, arith, length-append, length-drop}
+use Rattle.std.proofs.Common.{◌≡◌, inl, inr, ℕ, zero, suc, ◌+◌, ◌<◌, ◌≤◌, Bool, true, false, List, [], ◌∷◌, ◌++◌, length, refl, ap, sym, subst, ◌∙◌, arith, length-append, length-drop}
 use Rattle.std.specs.Prelude.{Option, Some, None, Result, Ok, Err, IfOk, is_some, reverse, nat_le, nat_lt, ◌==◌, slice_get, if◌then◌else◌}
 use Rattle.std.proofs.lemmas.Bool.Decides.{nat_tests}
 use mathlib.Core.List.{IsPrefix}
@@ -37,7 +37,7 @@ use Rattle.st_service.specs.Lines.{tagged, numbers}
 use Rattle.st_service.specs.Made.{Made, past_in}
 use Rattle.st_service.specs.OffLock.{ChecksOff, CommitsIn, IsToldOf, IsVerdictOf, WasOldest, going_by, off_of, verdict_entry}
 use Rattle.st_service.specs.Puts.{Enters, Puts}
-use Rattle.st_service.specs.Works.{IsDecided, IsGiven, MayDo, is_decided, check_course}
+use Rattle.st_service.specs.Works.{IsDecided, IsGiven, IsOldest, MayDo, is_decided, check_course}
 use Rattle.st_service.proofs.AwaitLaws.{past_longer, decided_later, given_later, near_all, is_decided-at, is_pending-at, entered_one, none_put, no_numbers, one_put}
 use Rattle.st_service.proofs.HeldLaws.{legal_taught}
 use Rattle.st_service.proofs.HoldLaws.{length_past, past_more}
@@ -85,13 +85,18 @@ committed_gone g ticket number entry going mid before was after now e is at =
     let none = nothing_put number e.entries mid before was after now e.puts same in
     (none.0, none.1, ap (λ past. nth (deciders past) ticket) same ∙ sym at)
 
--- one that met a full journal
+-- one that met a full journal, which only a ticket that is pending does
+full_waits : (g : Group) (past after : List Entry) (over : Bool) → (if over then run_from past else enter g (run_from past) Check) ≡ record { past = after; stopped = true } → over ≡ false
+full_waits g past after true is = let stopped : false ≡ true = ap (λ (r : Run). r.stopped) is in absurd (cc stopped)
+full_waits g past after false is = refl
+
 pub committed_full : (g : Group) (ticket number entries : ℕ) (mid before : List Made) (was : List ℕ) (after : List Made) (now : List ℕ)
     → Enters (check_course ticket g) Full number mid before was after now → entries ≡ MAX_ENTRIES → CommitsIn (JournalFull entries) g ticket number before was after now
 committed_full g ticket number entries mid before was after now e count =
     let same = full_still g (past_in mid) (past_in after) (is_decided ticket (past_in mid)) e.run in
     let none = nothing_put number e.entries mid before was after now e.puts same in
-    (none.0, none.1, e.full refl, count)
+    let waits = is_pending-at ticket (length (deciders (past_in mid))) (full_waits g (past_in mid) (past_in after) (is_decided ticket (past_in mid)) e.run) in
+    (none.0, none.1, subst (λ (past : List Entry). length (deciders past) < ticket) (sym same) waits, e.full refl, count)
 
 -- a verdict is on the oldest ticket
 same_ticket : (r s : Receipt) → decided_reply r ≡ decided_reply s → r.ticket ≡ s.ticket
@@ -127,9 +132,12 @@ committed_did g ticket number mid before was after now told receipt e is may sin
       subst (λ (es : List Entry). Puts number es mid before was after now) (only ∙ ap (λ x. x ∷ []) whole) e.puts,
     )
 
--- a basis that was seen is of the ticket that was the oldest
+-- a basis is of the ticket that is the oldest, and one that was seen of the one that was it
+basis_oldest : (g : Group) (past : List Entry) (b : BasisView) → IsBasisAt g past b → IsOldest b.ticket past
+basis_oldest g past b of = record { next = of.oldest; given = of.given }
+
 pub was_oldest : (g : Group) (b : BasisView) (before seen after : List Made) → IsPrefix before seen → IsPrefix seen after → IsBasisAt g (past_in seen) b → WasOldest b.ticket before after
-was_oldest g b before seen after later within of = record { seen = seen; later = later; within = within; oldest = of.oldest; given = of.given }
+was_oldest g b before seen after later within of = record { seen = seen; later = later; within = within; oldest = basis_oldest g (past_in seen) b of }
 
 -- what was judged on it may be committed
 pub judged_may : (g : Group) (past : List Entry) (b : BasisView) (j : JudgedView) → IsBasisAt g past b → IsJudgedOf b j → MayCommit past j.ticket
@@ -142,7 +150,7 @@ commits_from (Did receipt) g ticket number before seen was here after now p same
     let q = c.3 in
     (c.0, c.1, c.2, (prefix_trans before seen c.1 p q.0, q.1, q.2 ∙ ap (λ l. l ++ numbers (length c.1) 1) same))
 commits_from (Gone entry) g ticket number before seen was here after now p same c = (prefix_trans before seen after p c.0, c.1 ∙ same, c.2)
-commits_from (JournalFull entries) g ticket number before seen was here after now p same c = (prefix_trans before seen after p c.0, c.1 ∙ same, c.2, c.3)
+commits_from (JournalFull entries) g ticket number before seen was here after now p same c = (prefix_trans before seen after p c.0, c.1 ∙ same, c.2, c.3, c.4)
 
 -- where nothing waits, each ticket that was given is decided
 pub none_waits : (ticket : ℕ) (past : List Entry) → pending past ≡ [] → IsGiven ticket past → IsDecided ticket past
@@ -283,4 +291,4 @@ went_checks (Did receipt) g ticket oldest number before seen was here after now 
     went_off (Did receipt) g ticket oldest number before seen was here after now p same within is waits near c tt
 went_checks (Gone entry) g ticket oldest number before seen was here after now p same within is waits near c =
     went_off (Gone entry) g ticket oldest number before seen was here after now p same within is waits near c tt
-went_checks (JournalFull entries) g ticket oldest number before seen was here after now p same within is waits near c = c.2
+went_checks (JournalFull entries) g ticket oldest number before seen was here after now p same within is waits near c = c.3

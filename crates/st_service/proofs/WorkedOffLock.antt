@@ -1,11 +1,11 @@
 -- Worked examples on checks that are judged off the lock.
-use Rattle.std.proofs.Common.{◌≡◌, ℕ, ◌<◌, ◌≤◌, List, [], ◌∷◌, length, Option, Some, None, refl, ap, sym, ◌∙◌, arith}
+use Rattle.std.proofs.Common.{◌≡◌, ℕ, ◌+◌, ◌<◌, ◌≤◌, List, [], ◌∷◌, length, Option, Some, None, refl, ap, arith}
 use mathlib.Core.List.{IsPrefix}
-use Rattle.st_event.specs.declared.journal.Entry.{Entry}
 use Rattle.st_event.specs.declared.journal.TheConstants.{MAX_ENTRIES}
 use Rattle.st_event.specs.declared.reply.Receipt.{Receipt}
 use Rattle.st_event.specs.declared.reply.Reply.{Reply}
 use Rattle.st_event.specs.declared.reply.Reply.TheVariants.{Decided as decided_reply}
+use Rattle.st_event.specs.Proposals.{deciders}
 use Rattle.st_event.specs.Replies.{receipt_of}
 use Rattle.st_world.specs.declared.world.commits.Committed.TheVariants.{Did, Gone, JournalFull}
 use Rattle.st_board.proofs.Prefixes.{prefix_length}
@@ -13,7 +13,8 @@ use Rattle.st_service.specs.declared.offlock.OffLock.TheVariants.{Decided, Gone 
 use Rattle.st_service.specs.Made.{Made, past_in}
 use Rattle.st_service.specs.OffLock.{ChecksOff, CommitsIn, IsVerdictOf, WasOldest, verdict_entry}
 use Rattle.st_service.specs.Puts.{Puts}
-use Rattle.st_service.specs.Works.{IsGiven}
+use Rattle.st_service.specs.Works.{IsGiven, IsOldest}
+use Rattle.st_service.proofs.AwaitLaws.{decided_later, given_later}
 use Rattle.st_service.proofs.WorkedChains.{checked}
 use Rattle.st_service.proofs.WorkedJournals.{small, app, firmware, idle, made, proposed, decided}
 
@@ -21,18 +22,32 @@ use Rattle.st_service.proofs.WorkedJournals.{small, app, firmware, idle, made, p
 abbrev first : Receipt
 first = receipt_of small (past_in proposed) (record { app = app 0; rows = firmware 2 })
 
--- no ticket is given in an empty front
-nothing_given : (seen : List Made) → length seen ≤ 0 → IsGiven 1 (past_in seen) → ⊥
-nothing_given [] none given = let one : 1 ≤ 0 = given in absurd (omega (arith, one))
-nothing_given (m ∷ ms) none given = absurd (omega (arith, none))
+-- ticket 1 is the oldest where it was proposed
+pub oldest : IsOldest 1 (past_in proposed)
+oldest = record { next = refl; given = omega arith }
 
--- ticket 1 was the oldest where it was proposed
+-- not where it is decided, and not before it is given
+pub not_oldest_once_decided : IsGiven 1 (past_in decided) × (IsOldest 1 (past_in decided) → ⊥)
+not_oldest_once_decided = (omega arith, λ o. let two : 1 ≡ 2 = o.next in absurd (omega (arith, two)))
+
+pub not_oldest_before_it_is_given : (1 ≡ length (deciders []) + 1) × (IsOldest 1 [] → ⊥)
+not_oldest_before_it_is_given = (refl, λ o. let one : 1 ≤ 0 = o.given in absurd (omega (arith, one)))
+
+-- so it was the oldest in a front that was seen from the proposal on
 pub oldest_where_proposed : WasOldest 1 proposed decided
-oldest_where_proposed = record { seen = proposed; later = ([], refl); within = (made 1 (verdict_entry first) ∷ [], refl); oldest = refl; given = omega arith }
+oldest_where_proposed = record { seen = proposed; later = ([], refl); within = (made 1 (verdict_entry first) ∷ [], refl); oldest = oldest }
 
--- and nothing was where nothing is proposed
+-- not behind the verdict, not before the proposal, and ticket 2 in none
+pub not_oldest_behind_the_verdict : WasOldest 1 decided decided → ⊥
+not_oldest_behind_the_verdict w =
+    let more : 1 ≤ length (deciders (past_in w.seen)) = decided_later decided w.seen w.later in
+    absurd (omega (arith, more, w.oldest.next))
+
 pub not_oldest_of_none : WasOldest 1 [] [] → ⊥
-not_oldest_of_none w = let none : length w.seen ≤ 0 = prefix_length w.seen [] w.within in absurd (nothing_given w.seen none w.given)
+not_oldest_of_none w = let one : 1 ≤ 0 = given_later 1 w.seen [] w.within w.oldest.given in absurd (omega (arith, one))
+
+pub not_oldest_of_another_ticket : WasOldest 2 proposed decided → ⊥
+not_oldest_of_another_ticket w = let two : 2 ≤ 1 = given_later 2 w.seen decided w.within w.oldest.given in absurd (omega (arith, two))
 
 -- the first of these entries is the verdict
 pub verdict_first : IsVerdictOf (verdict_entry first ∷ idle ∷ []) first
@@ -94,17 +109,22 @@ not_gone_with_a_place c = absurd (cc (c.1))
 pub not_gone_back : CommitsIn (Gone 2) small 1 0 decided (0 ∷ []) proposed (0 ∷ []) → ⊥
 not_gone_back c = absurd (omega (arith, prefix_length decided proposed c.0))
 
--- a journal that is full, and one that has room
-pub full : (after : List Made) → IsPrefix proposed after → length after ≡ MAX_ENTRIES → CommitsIn (JournalFull 200000) small 1 0 proposed (0 ∷ []) after (0 ∷ [])
-full after p all = (p, refl, all, refl)
+-- a journal that is full, in which the ticket is pending; one in which it is decided, and one that has room
+pub full : (after : List Made) → IsPrefix proposed after → deciders (past_in after) ≡ [] → length after ≡ MAX_ENTRIES → CommitsIn (JournalFull 200000) small 1 0 proposed (0 ∷ []) after (0 ∷ [])
+full after p none all = (p, refl, omega (arith, ap length none), all, refl)
 
-pub not_full : CommitsIn (JournalFull 200000) small 1 0 proposed (0 ∷ []) decided (0 ∷ []) → ⊥
-not_full c = absurd (omega (arith, c.2))
+pub not_full_once_decided : (after : List Made) → IsPrefix decided after → CommitsIn (JournalFull 200000) small 1 0 proposed (0 ∷ []) after (0 ∷ []) → ⊥
+not_full_once_decided after p c =
+    let more : 1 ≤ length (deciders (past_in after)) = decided_later decided after p in
+    absurd (omega (arith, more, c.2))
+
+pub not_full : (ticket : ℕ) (after : List Made) → length after < MAX_ENTRIES → CommitsIn (JournalFull 200000) small ticket 0 proposed (0 ∷ []) after (0 ∷ []) → ⊥
+not_full ticket after room c = absurd (omega (arith, room, c.3))
 
 -- A check off the lock
 
 pub off_decided : ChecksOff (Decided first) small 0 proposed (0 ∷ []) checked (0 ∷ 1 ∷ [])
-off_decided = (record { seen = proposed; later = ([], refl); within = (made 0 (verdict_entry first) ∷ [], refl); oldest = refl; given = omega arith }, did)
+off_decided = (record { seen = proposed; later = ([], refl); within = (made 0 (verdict_entry first) ∷ [], refl); oldest = oldest }, did)
 
 pub off_gone : ChecksOff (was_gone 2) small 0 proposed (0 ∷ []) decided (0 ∷ [])
 off_gone = (1, oldest_where_proposed, gone)
@@ -124,7 +144,4 @@ not_idle_back c = absurd (omega (arith, prefix_length decided proposed c.0))
 
 -- a journal with room is not full, whatever the ticket
 pub off_not_full : ChecksOff (met_full 200000) small 0 proposed (0 ∷ []) decided (0 ∷ []) → ⊥
-off_not_full c = not_full_of c.0 c.2
-  where
-    not_full_of : (ticket : ℕ) → CommitsIn (JournalFull 200000) small ticket 0 proposed (0 ∷ []) decided (0 ∷ []) → ⊥
-    not_full_of ticket d = absurd (omega (arith, d.2))
+off_not_full c = not_full c.0 decided (omega arith) c.2

@@ -1,5 +1,5 @@
 -- What a check leaves that is judged off the lock.
-use Rattle.std.specs.Prelude.{ℕ, ◌≡◌, ◌+◌, List, [], ◌∷◌, length, Option, Some, None}
+use Rattle.std.specs.Prelude.{ℕ, ◌≡◌, ◌<◌, List, [], ◌∷◌, length, Option, Some, None}
 use mathlib.Core.List.{IsPrefix}
 use Rattle.st_net.specs.Groups.{Group}
 use Rattle.st_net.specs.Numbered.{nth}
@@ -18,15 +18,14 @@ use Rattle.st_service.specs.declared.offlock.OffLock.{OffLock}
 use Rattle.st_service.specs.declared.offlock.OffLock.TheVariants.{Decided, Gone as was_gone, Idle, JournalFull as met_full}
 use Rattle.st_service.specs.Made.{Made, past_in}
 use Rattle.st_service.specs.Puts.{Puts}
-use Rattle.st_service.specs.Works.{IsGiven}
+use Rattle.st_service.specs.Works.{IsOldest}
 
 -- in a front that was seen, this ticket was the oldest that was pending
 pub record WasOldest (ticket : ℕ) (before after : List Made) : Type 0 where
   pub seen : List Made
   pub later : IsPrefix before seen
   pub within : IsPrefix seen after
-  pub oldest : ticket ≡ length (deciders (past_in seen)) + 1
-  pub given : IsGiven ticket (past_in seen)
+  pub oldest : IsOldest ticket (past_in seen)
 
 -- the Check entry with this receipt
 abbrev pub verdict_entry : Receipt → Entry
@@ -50,12 +49,13 @@ IsToldOf None made (Did receipt) = IsVerdictOf made receipt
 IsToldOf None made _ = ⊥
 
 -- a ticket is decided by one check of the pass at the end of a journal, with the receipt that this journal calls for; or it had been decided,
--- by this entry; or the journal is full
+-- by this entry; or it is pending, and the journal is full
 abbrev pub CommitsIn : Committed → Group → ℕ → ℕ → List Made → List ℕ → List Made → List ℕ → Type 0
 CommitsIn (Did receipt) g ticket number before was after now =
     (receipt.ticket ≡ ticket) × (mid : List Made) × (entry_after g (past_in mid) Check ≡ verdict_entry receipt) × Puts number (verdict_entry receipt ∷ []) mid before was after now
 CommitsIn (Gone entry) g ticket number before was after now = IsPrefix before after × (now ≡ was) × (nth (deciders (past_in after)) ticket ≡ Some entry)
-CommitsIn (JournalFull entries) g ticket number before was after now = IsPrefix before after × (now ≡ was) × (length after ≡ MAX_ENTRIES) × (entries ≡ MAX_ENTRIES)
+CommitsIn (JournalFull entries) g ticket number before was after now =
+    IsPrefix before after × (now ≡ was) × (length (deciders (past_in after)) < ticket) × (length after ≡ MAX_ENTRIES) × (entries ≡ MAX_ENTRIES)
 
 -- what it answers by its commit
 abbrev pub off_of : Committed → OffLock

@@ -1,5 +1,5 @@
 -- What a pass enters under one hold of a room's lock: its course of events, and how many entries that makes at the most.
-use Rattle.std.specs.Prelude.{◌≡◌, ℕ, ◌≤◌, Bool, true, false, nat_le, List, length, if◌then◌else◌}
+use Rattle.std.specs.Prelude.{◌≡◌, ℕ, ◌+◌, ◌≤◌, Bool, true, false, nat_le, List, length, if◌then◌else◌}
 use Rattle.st_net.specs.declared.entity.Entity.{Entity}
 use Rattle.st_net.specs.Groups.{Group, IsEntityOf}
 use Rattle.st_event.specs.declared.act.Act.{Act}
@@ -23,6 +23,11 @@ IsDecided ticket past = ticket ≤ length (deciders past)
 -- the ticket was given to a proposal
 abbrev pub IsGiven : ℕ → List Entry → Type 0
 IsGiven ticket past = ticket ≤ length (proposals past)
+
+-- it is the lowest that is not decided, and it was given: so it is the oldest that is pending
+pub record IsOldest (ticket : ℕ) (past : List Entry) : Type 0 where
+  pub next : ticket ≡ length (deciders past) + 1
+  pub given : IsGiven ticket past
 
 abbrev pub is_decided : ℕ → List Entry → Bool
 is_decided ticket past = nat_le ticket (length (deciders past))
