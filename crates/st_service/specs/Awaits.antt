@@ -31,7 +31,8 @@ pub record WentOn (g : Group) (ticket number : ℕ) (before : List Made) (was : 
   pub decided : length (deciders (past_in seen)) < length (deciders (past_in after))
   pub made : (now ≡ was) ⊎ Puts number (entry_after g (past_in seen) Check ∷ []) seen seen was after now
 
--- what is taken for a check while a ticket is pending, among 64 at the most: a basis of the oldest; or the ticket is decided
+-- what is taken for a check while a ticket is pending, among 64 at the most: a basis of the oldest. At Idle this ticket is decided, and others may be
+-- pending
 abbrev pub BeginsFor : ℕ → Group → List Entry → Begin → Type 0
 BeginsFor ticket g past (Basis basis) = IsBasisAt g past basis × (length (deciders past) < ticket) × (ticket ≤ length (deciders past) + MAX_PENDING)
 BeginsFor ticket g past Idle = IsDecided ticket past

@@ -44,7 +44,8 @@ fn checked_by(committed: &Committed) -> Checked
     }
 }
 
-/// What the oldest proposal is judged on in a room that is lent to a pass, while a ticket is pending there. `Idle` where it is decided.
+/// What the oldest proposal is judged on in a room that is lent to a pass, while a ticket is pending there. `Idle` where it is decided,
+/// whatever else is pending.
 fn begin_for_in<J: Naming, L: Ledger, H: Wait + Drop>(
     pass: &mut Pass<J, L>,
     room: &Locked<J, L, H>,
@@ -66,7 +67,8 @@ fn begin_for_in<J: Naming, L: Ledger, H: Wait + Drop>(
 }
 
 impl<J: Naming, L: Ledger, H: Wait + Drop> Service<J, L, H> {
-    /// What the oldest proposal of a room is judged on, while a ticket is pending there. It may wait for the room.
+    /// What the oldest proposal of a room is judged on, while a ticket is pending there. `Idle` where it is decided, whatever else is
+    /// pending. It may wait for the room.
     fn begin_for<R: Wait>(
         &self,
         rt: &R,
