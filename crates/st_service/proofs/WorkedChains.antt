@@ -11,14 +11,14 @@ use Rattle.st_event.specs.Services.{entry_after}
 use Rattle.st_world.specs.Rounds.{Run, run_from, turn, unsettled}
 use Rattle.st_world.specs.declared.world.rounds.Going.TheVariants.{On, Full}
 use Rattle.st_world.specs.declared.world.rounds.Rounded.TheVariants.{Did, JournalFull}
-use Rattle.st_board.proofs.Prefixes.{prefix_trans, prefix_length, prefix_whole}
+use Rattle.st_board.proofs.Prefixes.{prefix_trans, prefix_length, prefix_shorter, prefix_whole}
 use Rattle.st_service.specs.declared.awaits.Checked.TheVariants.{Over, Went, Full as full_before}
 use Rattle.st_service.specs.declared.work.Part.TheVariants.{Whole, Update, Monitor}
 use Rattle.st_service.specs.Awaits.{WentOn, ChecksFor, Waits, WaitsOut, Awaits, Awaited}
 use Rattle.st_service.specs.Lines.{tagged}
 use Rattle.st_service.specs.Made.{Made, past_in, maker}
 use Rattle.st_service.specs.Puts.{Enters, Puts}
-use Rattle.st_service.specs.Turns.{Turns, Turned, RoundOf, RoundTold, RoundsMade, WasSettled, Settles, Settled}
+use Rattle.st_service.specs.Turns.{ToFull, Turns, Turned, RoundOf, RoundTold, RoundsMade, WasSettled, Settles, Settled}
 use Rattle.st_service.specs.Works.{part_of}
 use Rattle.st_service.proofs.ChainLaws.{rounds_later}
 use Rattle.st_service.proofs.WorkedJournals.{small, a1, app, firmware, idle, made, then_by, proposed, decided, turned}
@@ -130,6 +130,23 @@ pub not_turned_of_none : (after : List Made) (now : List ℕ) → Turned Full Wh
 not_turned_of_none after now t =
     let ends = length-append (t.done ++ t.last ∷ []) t.begins.0 in
     absurd (omega (arith, ends, ap length t.begins.1, length-append t.done (t.last ∷ [])))
+
+-- one turn was done, and the next met a full journal
+pub full_behind_a_turn : (after : List Made) (now : List ℕ) → MetFull turned (0 ∷ 2 ∷ 3 ∷ 4 ∷ 5 ∷ 6 ∷ []) after now → ToFull Whole small [] 0 (a1 ∷ a1 ∷ []) decided (0 ∷ []) after now
+full_behind_a_turn after now met =
+    record { done = a1 ∷ []; last = a1; begins = ([], refl); mid = turned; got = 0 ∷ 2 ∷ 3 ∷ 4 ∷ 5 ∷ 6 ∷ []; turns = one_turn; seen = met.0; enters = met.1 }
+
+-- a journal that has room behind the turn, or that does not go on from what the pass had seen
+pub not_full_behind_a_turn : ToFull Whole small [] 0 (a1 ∷ a1 ∷ []) decided (0 ∷ []) turned (0 ∷ 2 ∷ 3 ∷ 4 ∷ 5 ∷ 6 ∷ []) → ⊥
+not_full_behind_a_turn t = absurd (omega (arith, t.enters.full refl))
+
+pub not_full_elsewhere : (after : List Made) (was now : List ℕ) → IsPrefix turned after → ToFull Whole small [] 0 (a1 ∷ a1 ∷ []) (made 5 idle ∷ []) was after now → ⊥
+not_full_elsewhere after was now p t =
+    let mid = turns_go_on t.done (made 5 idle ∷ []) t.mid was t.got t.turns in
+    let seen = prefix_trans (made 5 idle ∷ []) t.mid t.seen mid t.enters.puts.0 in
+    let last = prefix_trans (made 5 idle ∷ []) t.seen after seen (tagged 0 t.enters.entries, sym t.enters.puts.1) in
+    let there = prefix_shorter (made 5 idle ∷ []) turned after last p (omega arith) in
+    absurd (omega (arith, ap (λ (f : List Made). maker f 0) there.1))
 
 -- Rounds
 
