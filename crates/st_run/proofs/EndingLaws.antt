@@ -17,7 +17,7 @@ use Rattle.st_service.proofs.Mines.{item_at}
 use Rattle.st_run.specs.declared.application.Came.{Came}
 use Rattle.st_run.specs.declared.application.Came.TheVariants.{Through, ToFull}
 use Rattle.st_run.specs.declared.jobs.Chore.{Chore}
-use Rattle.st_run.specs.declared.jobs.Chore.TheVariants.{Acts, Duty}
+use Rattle.st_run.specs.declared.jobs.Chore.TheVariants.{Acts, Task as task_chore}
 use Rattle.st_run.specs.declared.workers.Task.{Task}
 use Rattle.st_run.specs.Chores.{CanDoChore, ChoreTo, IsChore, WentThrough, awaits_for}
 use Rattle.st_run.specs.Duties.{DoesTimes, WorkedTo, duty_share}
@@ -43,7 +43,7 @@ job_fits {S} was is apps_of rooms_of groups apps tasks n start pass chore p q ar
     by (Acts acts) i =
         let s = (item_at apps n i.0).0 in
         (omega (arith, i.0, f.numbered, count), f.rooms_are.0, subst (All (CanDo groups (rooms_of was))) (sym (i.1 s)) (fit n s i.0))
-    by (Duty task) i =
+    by (task_chore task) i =
         let low : n - length apps < length tasks = omega (arith, i.0, lt) in
         (subst (λ (t : Task). t.group < rooms_of was) (sym (i.1 task)) (tasks_fit (n - length apps) task low), f.rooms_are.0)
 
@@ -83,7 +83,7 @@ gone_script groups lines apps tasks n came start mid s h lt = by h.chore h.is h.
     by : (c : Chore) → IsChore apps tasks n c → WentThrough groups lines c start mid → ChoreTo came groups lines c start mid
         → Went groups lines (get_or apps n s).acts start mid × CameTo came groups lines (get_or apps n s).acts start mid
     by (Acts acts) i w t = (subst (λ (xs : List Act). Went groups lines xs start mid) (i.1 s) w, subst (λ (xs : List Act). CameTo came groups lines xs start mid) (i.1 s) t)
-    by (Duty task) i w t = absurd (omega (arith, i.0, lt))
+    by (task_chore task) i w t = absurd (omega (arith, i.0, lt))
 
 -- that of a worker
 record HasWorked (groups : ℕ → Group) (lines : ℕ → List WireLine) (task : Task) (came : Came) (start mid : Holder) : Type 0 where
@@ -96,7 +96,7 @@ gone_worker groups lines apps tasks n came start mid t h le = by h.chore h.is h.
   where
     by : (c : Chore) → IsChore apps tasks n c → WentThrough groups lines c start mid → ChoreTo came groups lines c start mid → HasWorked groups lines (get_or tasks (n - length apps) t) came start mid
     by (Acts acts) i w to = absurd (omega (arith, i.0, le))
-    by (Duty task) i w to = subst (λ (u : Task). HasWorked groups lines u came start mid) (i.1 t) (record { kept = w; to = to })
+    by (task_chore task) i w to = subst (λ (u : Task). HasWorked groups lines u came start mid) (i.1 t) (record { kept = w; to = to })
 
 -- that of any
 pub gone_on : (groups : ℕ → Group) (lines : ℕ → List WireLine) (apps : List Script) (tasks : List Task) (n : ℕ) (came : Came) (start mid : Holder) → HasGone groups lines apps tasks n came start mid → (mid.number ≡ start.number) × (length mid.fronts ≡ length start.fronts)
@@ -104,14 +104,14 @@ gone_on groups lines apps tasks n came start mid h = by h.chore h.went
   where
     by : (c : Chore) → WentThrough groups lines c start mid → (mid.number ≡ start.number) × (length mid.fronts ≡ length start.fronts)
     by (Acts acts) w = (w.number, w.rooms.0)
-    by (Duty task) w = (w.number, w.rooms.0)
+    by (task_chore task) w = (w.number, w.rooms.0)
 
 pub gone_full : (groups : ℕ → Group) (lines : ℕ → List WireLine) (apps : List Script) (tasks : List Task) (n m : ℕ) (came : Came) (start mid : Holder) → HasGone groups lines apps tasks n came start mid → came ≡ ToFull m → HasFull mid m
 gone_full groups lines apps tasks n m came start mid h e = by h.chore h.to
   where
     by : (c : Chore) → ChoreTo came groups lines c start mid → HasFull mid m
     by (Acts acts) t = subst (λ (x : Came). CameTo x groups lines acts.now start mid) e t
-    by (Duty task) t =
+    by (task_chore task) t =
         let w : WorkedTo (ToFull m) task.times task.duty task.group (groups task.group) (lines task.group) start mid = subst (λ (x : Came). WorkedTo x task.times task.duty task.group (groups task.group) (lines task.group) start mid) e t in
         w.1
 

@@ -23,7 +23,7 @@ use Rattle.st_run.specs.declared.application.Came.{Came}
 use Rattle.st_run.specs.declared.application.Came.TheVariants.{Through, ToFull, OutOfMemory}
 use Rattle.st_run.specs.declared.workers.Duty.{Duty}
 use Rattle.st_run.specs.declared.workers.Duty.TheVariants.{Check, Update, Monitor}
-use Rattle.st_run.specs.Duties.{DidOnce, DoesDuty, DoesTimes, StopsDuty, StopsOf, WorkedTo, came_of, came_off}
+use Rattle.st_run.specs.Duties.{DidOnce, DoesDuty, DoesTimes, StopsDuty, StopsOf, WorkedTo, came_by_half, came_by_check}
 use Rattle.st_run.specs.Went.{HadMemory}
 use Rattle.st_run.specs.Workers.{IsOfWorker, MadeByWorker, is_workers}
 use Rattle.st_run.proofs.CommandEntries.{each_then, round_full_only, round_only}
@@ -150,7 +150,7 @@ pub half_did : {E : Type 0} (r : Result Rounded E) (part : Part) (g : Group) (li
     → (RoundOf part g lines old.number (front_at old.fronts n) (mine_at old.mines n) (front_at new.fronts n) (mine_at new.mines n) → DoesDuty duty n g lines old new)
     → (RoundToFull part g lines old.number (front_at old.fronts n) (mine_at old.mines n) (front_at new.fronts n) (mine_at new.mines n) → StopsDuty duty n g lines old new)
     → IfOk r (λ rounded. RoundTold rounded part g lines old.number (front_at old.fronts n) (mine_at old.mines n) (front_at new.fronts n) (mine_at new.mines n))
-    → DidOnce (came_of n r) duty n g lines old new
+    → DidOnce (came_by_half n r) duty n g lines old new
 half_did (Ok (Did unsettled)) part g lines duty n old new lt does stops told = does told.0
 half_did (Ok (JournalFull entries)) part g lines duty n old new lt does stops told =
     let full : length (front_at new.fronts n) ≡ MAX_ENTRIES = told.0.2.enters.full refl in
@@ -159,7 +159,7 @@ half_did (Err error) part g lines duty n old new lt does stops told = tt
 
 pub check_did : {E : Type 0} (r : Result OffLock E) (g : Group) (lines : List WireLine) (n : ℕ) (old new : Holder) → n < length new.fronts
     → IfOk r (λ off. ChecksOff off g old.number (front_at old.fronts n) (mine_at old.mines n) (front_at new.fronts n) (mine_at new.mines n))
-    → DidOnce (came_off n r) Check n g lines old new
+    → DidOnce (came_by_check n r) Check n g lines old new
 check_did (Ok (Decided receipt)) g lines n old new lt told = (Decided receipt, tt, told)
 check_did (Ok (Gone entry)) g lines n old new lt told = (Gone entry, tt, told)
 check_did (Ok Idle) g lines n old new lt told = (Idle, tt, told)

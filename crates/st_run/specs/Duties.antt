@@ -56,18 +56,18 @@ pub record StopsOf (times : ℕ) (duty : Duty) (n : ℕ) (g : Group) (lines : Li
   pub met : StopsDuty duty n g lines mid new
 
 -- how far a pass came with a half of a round
-abbrev pub came_of : {E : Type 0} → ℕ → Result Rounded E → Came
-came_of group (Ok (Did unsettled)) = Through
-came_of group (Ok (JournalFull entries)) = ToFull group
-came_of group (Err error) = OutOfMemory
+abbrev pub came_by_half : {E : Type 0} → ℕ → Result Rounded E → Came
+came_by_half group (Ok (Did unsettled)) = Through
+came_by_half group (Ok (JournalFull entries)) = ToFull group
+came_by_half group (Err error) = OutOfMemory
 
 -- how far it came with a check
-abbrev pub came_off : {E : Type 0} → ℕ → Result OffLock E → Came
-came_off group (Ok (Decided receipt)) = Through
-came_off group (Ok (Gone entry)) = Through
-came_off group (Ok Idle) = Through
-came_off group (Ok (met_full entries)) = ToFull group
-came_off group (Err error) = OutOfMemory
+abbrev pub came_by_check : {E : Type 0} → ℕ → Result OffLock E → Came
+came_by_check group (Ok (Decided receipt)) = Through
+came_by_check group (Ok (Gone entry)) = Through
+came_by_check group (Ok Idle) = Through
+came_by_check group (Ok (met_full entries)) = ToFull group
+came_by_check group (Err error) = OutOfMemory
 
 -- of how far a worker's pass came with a duty: it did it, or met a full journal
 abbrev pub DidOnce : Came → Duty → ℕ → Group → List WireLine → Holder → Holder → Type 0

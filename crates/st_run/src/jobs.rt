@@ -19,7 +19,7 @@ pub enum Chore<'a> {
     /// The commands of an application's script, in order.
     Acts(&'a [Act]),
     /// A worker's task.
-    Duty(Task),
+    Task(Task),
 }
 
 /// A pass, and its chore on a service.
@@ -46,7 +46,7 @@ fn do_chore<J: Naming, L: Ledger, H: Wait + Drop, R: Threads + Wait + Sync, G: G
 {
     match chore {
         Chore::Acts(acts) => do_all(rt, alloc, service, pass, acts, gate),
-        Chore::Duty(task) => do_task(rt, alloc, service, pass, task, gate),
+        Chore::Task(task) => do_task(rt, alloc, service, pass, task, gate),
     }
 }
 

@@ -56,7 +56,7 @@ fn chore_of<'a>(apps: &'a [Script], tasks: &[Task], number: usize) -> Chore<'a>
     if number < apps.len() {
         Chore::Acts(apps[number].acts.as_slice())
     } else {
-        Chore::Duty(tasks[number - apps.len()])
+        Chore::Task(tasks[number - apps.len()])
     }
 }
 

@@ -2,7 +2,7 @@
 
 ghost use Rattle.std.specs.Prelude.{◌≡◌, ◌*◌, ◌<◌, length};
 ghost use Rattle.st_service.specs.Kept.{Kept};
-ghost use Rattle.st_run.specs.Duties.{DidOnce, WorkedTo, came_of as came_of_lem, came_off as came_off_lem, duty_share};
+ghost use Rattle.st_run.specs.Duties.{DidOnce, WorkedTo, came_by_half as came_by_half_lem, came_by_check as came_by_check_lem, duty_share};
 
 use crate::application::Came;
 use st_crew::{Gate, Point};
@@ -33,8 +33,8 @@ pub struct Task {
 }
 
 /// How far a pass came with a half of a round.
-fn came_of(group: u32, half: Result<Rounded, AllocError>) -> Came
-    ensures { result ≡ came_of_lem group half }
+fn came_by_half(group: u32, half: Result<Rounded, AllocError>) -> Came
+    ensures { result ≡ came_by_half_lem group half }
 {
     match half {
         Ok(Rounded::Did { .. }) => Came::Through,
@@ -44,8 +44,8 @@ fn came_of(group: u32, half: Result<Rounded, AllocError>) -> Came
 }
 
 /// How far a pass came with a check off the lock. One that found nothing pending, or its ticket decided meanwhile, is through.
-fn came_off(group: u32, checked: Result<OffLock, AllocError>) -> Came
-    ensures { result ≡ came_off_lem group checked }
+fn came_by_check(group: u32, checked: Result<OffLock, AllocError>) -> Came
+    ensures { result ≡ came_by_check_lem group checked }
 {
     match checked {
         Ok(OffLock::Decided(_) | OffLock::Gone { .. } | OffLock::Idle) => Came::Through,
@@ -69,7 +69,7 @@ fn do_once<J: Naming, L: Ledger, H: Wait + Drop, R: Threads + Wait + Sync, G: Ga
     ensures came { DidOnce result duty group (J.group group) (J.lines group) pass.old pass.new }
 {
     match duty {
-        Duty::Check => came_off(group, service.check_off_lock(rt, alloc, pass, group, gate)),
+        Duty::Check => came_by_check(group, service.check_off_lock(rt, alloc, pass, group, gate)),
         Duty::Update => {
             gate.at(
                 rt,
@@ -78,7 +78,7 @@ fn do_once<J: Naming, L: Ledger, H: Wait + Drop, R: Threads + Wait + Sync, G: Ga
                     monitor: false,
                 },
             );
-            came_of(group, service.update(rt, alloc, pass, group))
+            came_by_half(group, service.update(rt, alloc, pass, group))
         }
         Duty::Monitor => {
             gate.at(
@@ -88,7 +88,7 @@ fn do_once<J: Naming, L: Ledger, H: Wait + Drop, R: Threads + Wait + Sync, G: Ga
                     monitor: true,
                 },
             );
-            came_of(group, service.monitor(rt, alloc, pass, group))
+            came_by_half(group, service.monitor(rt, alloc, pass, group))
         }
     }
 }
