@@ -110,7 +110,9 @@ pub gone_full : (groups : ℕ → Group) (lines : ℕ → List WireLine) (apps :
 gone_full groups lines apps tasks n m came start mid h e = by h.chore h.to
   where
     by : (c : Chore) → ChoreTo came groups lines c start mid → HasFull mid m
-    by (Acts acts) t = subst (λ (x : Came). CameTo x groups lines acts.now start mid) e t
+    by (Acts acts) t =
+        let c : CameTo (ToFull m) groups lines acts.now start mid = subst (λ (x : Came). CameTo x groups lines acts.now start mid) e t in
+        c.0
     by (task_chore task) t =
         let w : WorkedTo (ToFull m) task.times task.duty task.group (groups task.group) (lines task.group) start mid = subst (λ (x : Came). WorkedTo x task.times task.duty task.group (groups task.group) (lines task.group) start mid) e t in
         w.1

@@ -3,6 +3,7 @@ use Rattle.std.proofs.Common.{◌≡◌, ◌≢◌, ⊎_elim, ℕ, zero, suc, �
 use Rattle.std.specs.Prelude.{◌==◌, if◌then◌else◌}
 use Rattle.std.proofs.lemmas.List.Sums.{sum_by-append, sum_by_push, sum_by-take-le}
 use Rattle.std.proofs.Math.Seq.{take-suc}
+use mathlib.Core.List.{IsPrefix}
 use Rattle.st_net.specs.Groups.{Group}
 use Rattle.st_net.proofs.Tests.{equal_numbers, equal_self}
 use Rattle.st_event.specs.declared.act.Act.{Act}
@@ -16,7 +17,7 @@ use Rattle.st_service.specs.Made.{Made}
 use Rattle.st_service.specs.Passes.{Holder, front_at, mine_at}
 use Rattle.st_service.specs.Shares.{act_share}
 use Rattle.st_run.specs.Jobs.{Does, Did, awaits_on}
-use Rattle.st_run.specs.Went.{Went, HasFull, shares_on}
+use Rattle.st_run.specs.Went.{Went, HasFull, MeetsFull, StopsAt, shares_on}
 use Rattle.st_run.proofs.DidLaws.{did_both, goes_front, kept_goes, same_or_not}
 
 -- how many entries a command adds on group n at the most
@@ -144,6 +145,24 @@ went_next groups lines acts k act a b c lt is w one =
 
 pub full_on : (groups : ℕ → Group) (lines : ℕ → List WireLine) (acts : List Act) (n : ℕ) (a b : Holder) → Went groups lines acts a b → HasFull a n → HasFull b n
 full_on groups lines acts n a b w full = (omega (arith, full.0, w.rooms.0), omega (arith, full.1, prefix_length (front_at a.fronts n) (front_at b.fronts n) (w.fronts n)))
+
+-- the commands of a list up to one that met it full
+take_begins : (acts : List Act) (k : ℕ) → IsPrefix (take k acts) acts
+take_begins acts zero = (acts, refl)
+take_begins [] (suc k) = ([], refl)
+take_begins (act ∷ acts) (suc k) = let rest = take_begins acts k in (rest.0, ap (λ (xs : List Act). act ∷ xs) rest.1)
+
+pub stops_at : (groups : ℕ → Group) (lines : ℕ → List WireLine) (n : ℕ) (acts : List Act) (k : ℕ) (act : Act) (a b c : Holder) → k < length acts → act ≡ get_or acts k act → Did groups lines (take k acts) a b
+    → n ≡ group_number act → MeetsFull groups lines act b c → StopsAt groups lines n acts a c
+stops_at groups lines n acts k act a b c lt is d here met = record {
+  done = take k acts;
+  last = act;
+  begins = subst (λ (xs : List Act). IsPrefix xs acts) (sym (take_more acts k act lt is)) (take_begins acts (k + 1));
+  group = sym here;
+  mid = b;
+  did = d;
+  met = met;
+}
 
 -- the group of a command that met it full
 pub full_of : (act : Act) (n : ℕ) (p : Holder) → group_number act < length p.fronts → n ≡ group_number act → length (front_at p.fronts (group_number act)) ≡ MAX_ENTRIES → HasFull p n
