@@ -8,21 +8,18 @@ use Rattle.st_net.proofs.Tests.{less, less_is}
 use Rattle.st_event.specs.declared.act.Act.{Act}
 use Rattle.st_service.proofs.ClosingLaws.{both_more}
 use Rattle.st_run.specs.Chores.{awaits_for}
+use Rattle.st_run.specs.Finished.{EachPair, SomePair}
 
 pub pushed_length : {Y : Type 0} (ys new : List Y) (y : Y) → new ≡ ys ++ y ∷ [] → length new ≡ length ys + 1
 pushed_length ys new y items = omega (arith, ap length items, length-append ys (y ∷ []))
 
 -- what holds of two items at each place below, and of the next two, of which the second was pushed
 pub both_pushed : {X Y : Type 0} (P : ℕ → X → Y → Type 0) (xs : List X) (ys new : List Y) (x : X) (y : Y) → new ≡ ys ++ y ∷ [] → length ys ≡ length xs
-    → ((k : ℕ) (d : X) (e : Y) → k < length xs → P k (get_or xs k d) (get_or ys k e)) → P (length xs) x y
-    → (k : ℕ) (d : X) (e : Y) → k < length (xs ++ x ∷ []) → P k (get_or (xs ++ x ∷ []) k d) (get_or new k e)
+    → EachPair P xs ys → P (length xs) x y → EachPair P (xs ++ x ∷ []) new
 both_pushed P xs ys new x y items same all here k d e lt = subst (λ l. P k (get_or (xs ++ x ∷ []) k d) (get_or l k e)) (sym items) (both_more P xs ys x y same all here k d e lt)
 
 -- the two items at some place fit m
-abbrev pub SomeFits : {X Y : Type 0} → (ℕ → X → Y → Type 0) → List X → List Y → ℕ → Type 0
-SomeFits P xs ys m = (n : ℕ) × (n < length xs) × ((d : _) (e : _) → P m (get_or xs n d) (get_or ys n e))
-
-some_kept : {X Y : Type 0} (P : ℕ → X → Y → Type 0) (xs : List X) (ys new : List Y) (x : X) (y : Y) (m : ℕ) → new ≡ ys ++ y ∷ [] → length ys ≡ length xs → SomeFits P xs ys m → SomeFits P (xs ++ x ∷ []) new m
+some_kept : {X Y : Type 0} (P : ℕ → X → Y → Type 0) (xs : List X) (ys new : List Y) (x : X) (y : Y) (m : ℕ) → new ≡ ys ++ y ∷ [] → length ys ≡ length xs → SomePair (P m) xs ys → SomePair (P m) (xs ++ x ∷ []) new
 some_kept P xs ys new x y m items same s =
     let n = s.0 in
     let low : n < length xs = s.1 in
@@ -34,7 +31,7 @@ some_kept P xs ys new x y m items same s =
           (subst (λ w. P m w (get_or (ys ++ y ∷ []) n e)) (sym (get_or_append_left xs (x ∷ []) d n low)) (subst (λ w. P m (get_or xs n d) w) (sym (get_or_append_left ys (y ∷ []) e n also)) (s.2 d e))),
     )
 
-some_new : {X Y : Type 0} (P : ℕ → X → Y → Type 0) (xs : List X) (ys new : List Y) (x : X) (y : Y) (m : ℕ) → new ≡ ys ++ y ∷ [] → length ys ≡ length xs → P m x y → SomeFits P (xs ++ x ∷ []) new m
+some_new : {X Y : Type 0} (P : ℕ → X → Y → Type 0) (xs : List X) (ys new : List Y) (x : X) (y : Y) (m : ℕ) → new ≡ ys ++ y ∷ [] → length ys ≡ length xs → P m x y → SomePair (P m) (xs ++ x ∷ []) new
 some_new P xs ys new x y m items same fits =
     let ends = length-append xs (x ∷ []) in (
       length xs,
@@ -45,9 +42,9 @@ some_new P xs ys new x y m items same fits =
 
 -- the number r is a, which some two items fit, or b, which the next two fit
 pub first_fits : {X Y : Type 0} (P : ℕ → X → Y → Type 0) (xs : List X) (ys new : List Y) (x : X) (y : Y) (a b r : Option ℕ) → new ≡ ys ++ y ∷ [] → length ys ≡ length xs
-    → IfSome r (λ m. (a ≡ Some m) ⊎ (b ≡ Some m)) → IfSome a (SomeFits P xs ys) → IfSome b (λ m. P m x y) → IfSome r (SomeFits P (xs ++ x ∷ []) new)
+    → IfSome r (λ m. (a ≡ Some m) ⊎ (b ≡ Some m)) → IfSome a (λ m. SomePair (P m) xs ys) → IfSome b (λ m. P m x y) → IfSome r (λ m. SomePair (P m) (xs ++ x ∷ []) new)
 first_fits P xs ys new x y a b r items same first old here = IfSome_then r first (λ m which. ⊎_elim
-    (λ (e : a ≡ Some m). some_kept P xs ys new x y m items same (subst (λ (o : Option ℕ). IfSome o (SomeFits P xs ys)) e old))
+    (λ (e : a ≡ Some m). some_kept P xs ys new x y m items same (subst (λ (o : Option ℕ). IfSome o (λ k. SomePair (P k) xs ys)) e old))
     (λ (e : b ≡ Some m). some_new P xs ys new x y m items same (subst (λ (o : Option ℕ). IfSome o (λ k. P k x y)) e here))
     which)
 

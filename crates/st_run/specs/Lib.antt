@@ -13,6 +13,7 @@ pub mod Tasks
 pub mod Chores
 pub mod Played
 pub mod Ended
+pub mod Finished
 pub mod Running
 pub mod Isolation
 pub mod ShareLaws

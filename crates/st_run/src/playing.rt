@@ -8,6 +8,7 @@ ghost use Rattle.st_service.specs.Passes.{Holder};
 ghost use Rattle.st_crew.specs.Ends.{EndsOf};
 ghost use Rattle.st_run.specs.Chores.{CanDoChore, ChoreTo, IsChore, WentThrough, awaits_for};
 ghost use Rattle.st_run.specs.Ended.{AreDone, AreEnded};
+ghost use Rattle.st_run.specs.Finished.{CameThrough, EachPair, MetFull, SomePair, StaysBehind};
 ghost use Rattle.st_run.specs.Jobs.{Did, Does, awaits_on};
 ghost use Rattle.st_run.specs.Played.{AllCanBeDone, AreClosed, IsPlayed, WasFull, acts_of};
 ghost use Rattle.st_run.specs.Tasks.{tasks_by};
@@ -178,8 +179,8 @@ fn finish<J: Naming, L: Ledger, H: Wait + Drop, R: Threads + Wait + Sync>(
     requires rooms { length left.pass.fronts ≡ length service.now.rooms.items }
     requires awaits { All (CanDo J.group (length service.now.rooms.items)) awaits.now }
     ensures went { IfOk result (λ end. Went J.group J.lines awaits.now left.pass end.0) }
-    ensures none { IfOk result (λ end. end.1 ≡ None → (left.came ≡ Came.Through) × Did J.group J.lines awaits.now left.pass end.0) }
-    ensures one { IfOk result (λ end. IfSome end.1 (λ n. (left.came ≡ Came.ToFull n) ⊎ HasFull end.0 n)) }
+    ensures none { IfOk result (λ end. end.1 ≡ None → CameThrough J.group J.lines awaits.now left.came left.pass end.0) }
+    ensures one { IfOk result (λ end. IfSome end.1 (λ n. MetFull n left.came end.0)) }
     ensures still { IfOk result (λ end. HadMemory left.came × (length awaits.now ≡ 0 → end.0 ≡ left.pass)) }
 {
     let Left { mut pass, came } = left;
@@ -201,13 +202,13 @@ fn finish_all<J: Naming, L: Ledger, H: Wait + Drop, R: Threads + Wait + Sync>(
     awaits: &[Act],
 ) -> Result<(Vec<Pass<J, L>>, Option<u32>), AllocError>
     requires apps { (n : ℕ) (d : _) → n < length lefts.items → n < apps → (slice_index_or lefts.items n d).pass.number < service.now.apps }
-    requires rooms { (n : ℕ) (d : _) → n < length lefts.items → length (slice_index_or lefts.items n d).pass.fronts ≡ length service.now.rooms.items }
+    requires rooms { All (λ left. length left.pass.fronts ≡ length service.now.rooms.items) lefts.items }
     requires awaits { All (CanDo J.group (length service.now.rooms.items)) awaits.now }
     ensures count { IfOk result (λ ends. length ends.0.items ≡ length lefts.items) }
-    ensures went { IfOk result (λ ends. (n : ℕ) (d : _) (p : _) → n < length lefts.items → Went J.group J.lines (awaits_for apps n awaits.now) (slice_index_or lefts.items n d).pass (slice_index_or ends.0.items n p)) }
-    ensures none { IfOk result (λ ends. ends.1 ≡ None → (n : ℕ) (d : _) (p : _) → n < length lefts.items → ((slice_index_or lefts.items n d).came ≡ Came.Through) × Did J.group J.lines (awaits_for apps n awaits.now) (slice_index_or lefts.items n d).pass (slice_index_or ends.0.items n p)) }
-    ensures one { IfOk result (λ ends. IfSome ends.1 (λ m. (n : ℕ) × (n < length lefts.items) × ((d : _) (p : _) → ((slice_index_or lefts.items n d).came ≡ Came.ToFull m) ⊎ HasFull (slice_index_or ends.0.items n p) m))) }
-    ensures still { IfOk result (λ ends. (n : ℕ) (d : _) (p : _) → n < length lefts.items → HadMemory (slice_index_or lefts.items n d).came × (apps ≤ n → slice_index_or ends.0.items n p ≡ (slice_index_or lefts.items n d).pass)) }
+    ensures went { IfOk result (λ ends. EachPair (λ n left end. Went J.group J.lines (awaits_for apps n awaits.now) left.pass end) lefts.items ends.0.items) }
+    ensures none { IfOk result (λ ends. ends.1 ≡ None → EachPair (λ n left end. CameThrough J.group J.lines (awaits_for apps n awaits.now) left.came left.pass end) lefts.items ends.0.items) }
+    ensures one { IfOk result (λ ends. IfSome ends.1 (λ m. SomePair (λ left end. MetFull m left.came end) lefts.items ends.0.items)) }
+    ensures still { IfOk result (λ ends. EachPair (λ n left end. StaysBehind apps n left.came left.pass end) lefts.items ends.0.items) }
 {
     let mut passes = Vec::new(alloc);
     let mut full = None;

@@ -1,15 +1,15 @@
 -- Each pass has awaited on each group, and the first full journal at which one stopped is known.
-use Rattle.std.proofs.Common.{◌≡◌, ◌⊎◌, ℕ, ◌<◌, ◌≤◌, List, ◌∷◌, ◌++◌, [], length, get_or, ap, sym, subst, ◌∙◌, arith, length-append}
+use Rattle.std.proofs.Common.{◌≡◌, ℕ, ◌<◌, List, ◌∷◌, ◌++◌, [], length, get_or, ap, sym, subst, ◌∙◌, arith, length-append}
 use Rattle.std.specs.Prelude.{All}
 use Rattle.std.proofs.lemmas.Option.{IfSome_then}
 use Rattle.st_event.specs.declared.act.Act.{Act}
 use Rattle.st_service.specs.Acts.{CanDo}
 use Rattle.st_service.specs.Passes.{Holder}
-use Rattle.st_run.specs.declared.application.Came.TheVariants.{Through, ToFull}
 use Rattle.st_run.specs.declared.application.Left.{Left}
 use Rattle.st_run.specs.Chores.{awaits_for}
+use Rattle.st_run.specs.Finished.{CameThrough, MetFull, StaysBehind}
 use Rattle.st_run.specs.Jobs.{Did}
-use Rattle.st_run.specs.Went.{HadMemory, HasFull, Went}
+use Rattle.st_run.specs.Went.{Went}
 use Rattle.st_service.proofs.ClosingLaws.{next_all, next_low, none_left}
 use Rattle.st_run.proofs.FinishLaws.{at_seam, awaits_all, awaits_none, awaits_some, both_pushed, first_fits, pushed_length}
 use Rattle.st_run.proofs.playing.finish_all.Goals as goal
@@ -65,11 +65,11 @@ loop-left-preserved g c =
       went = both_pushed (λ (k : ℕ) (l : Left g.row.J.Denot g.row.L.Denot) (p : Holder). Went g.J.Naming.group g.J.Naming.lines (awaits_for apps k awaits) l.pass p) ys passes new left pass items inv.count inv.went here;
       none = λ none. let both = c.first_of-full.ensures.none none in
           let done = c.in_ok-pass.ensures.none both.1 in
-          both_pushed (λ (k : ℕ) (l : Left g.row.J.Denot g.row.L.Denot) (p : Holder). (l.came ≡ Through) × Did g.J.Naming.group g.J.Naming.lines (awaits_for apps k awaits) l.pass p)
+          both_pushed (λ (k : ℕ) (l : Left g.row.J.Denot g.row.L.Denot) (p : Holder). CameThrough g.J.Naming.group g.J.Naming.lines (awaits_for apps k awaits) l.came l.pass p)
           ys passes new left pass items inv.count (inv.none both.0) (done.0, subst (λ (xs : List Act). Did g.J.Naming.group g.J.Naming.lines xs left.pass pass) own done.1);
-      one = first_fits (λ (m : ℕ) (l : Left g.row.J.Denot g.row.L.Denot) (p : Holder). (l.came ≡ ToFull m) ⊎ HasFull p m)
+      one = first_fits (λ (m : ℕ) (l : Left g.row.J.Denot g.row.L.Denot) (p : Holder). MetFull m l.came p)
           ys passes new left pass c.loop-left.full c.in_ok-pass.here c.first_of-full.result items inv.count c.first_of-full.ensures.one inv.one c.in_ok-pass.ensures.one;
-      still = both_pushed (λ (k : ℕ) (l : Left g.row.J.Denot g.row.L.Denot) (p : Holder). HadMemory l.came × (apps ≤ k → p ≡ l.pass)) ys passes new left pass items inv.count inv.still
+      still = both_pushed (λ (k : ℕ) (l : Left g.row.J.Denot g.row.L.Denot) (p : Holder). StaysBehind apps k l.came l.pass p) ys passes new left pass items inv.count inv.still
           (c.in_ok-pass.ensures.still.0, λ le. c.in_ok-pass.ensures.still.1 (ap length (own ∙ awaits_none apps (length ys) awaits le)));
     }
 
@@ -90,14 +90,14 @@ pub returns-clause-still : goal.returns-clause-still
 returns-clause-still g c =
     let none : length c.loop-left.left-iterator.rest.items ≡ 0 = omega (arith, c.in-None.ensures.steps.0) in
     let done = none_left c.args.lefts.items c.loop-left.yielded c.loop-left.left-iterator.rest.items c.loop-left.invariant.all none in
-    λ n d p lt. subst (λ (ls : List (Left g.row.J.Denot g.row.L.Denot)). HadMemory (get_or ls n d).came × (c.args.apps ≤ n → get_or c.loop-left.passes.items n p ≡ (get_or ls n d).pass)) done
+    λ n d p lt. subst (λ (ls : List (Left g.row.J.Denot g.row.L.Denot)). StaysBehind c.args.apps n (get_or ls n d).came (get_or ls n d).pass (get_or c.loop-left.passes.items n p)) done
     (c.loop-left.invariant.still n d p (omega (arith, lt, ap length done)))
 
 pub returns-clause-none : goal.returns-clause-none
 returns-clause-none g c =
     let none : length c.loop-left.left-iterator.rest.items ≡ 0 = omega (arith, c.in-None.ensures.steps.0) in
     let done = none_left c.args.lefts.items c.loop-left.yielded c.loop-left.left-iterator.rest.items c.loop-left.invariant.all none in
-    λ through n d p lt. subst (λ (ls : List (Left g.row.J.Denot g.row.L.Denot)). ((get_or ls n d).came ≡ Through) × Did g.J.Naming.group g.J.Naming.lines (awaits_for c.args.apps n c.args.awaits.now) (get_or ls n d).pass (get_or c.loop-left.passes.items n p)) done
+    λ through n d p lt. subst (λ (ls : List (Left g.row.J.Denot g.row.L.Denot)). CameThrough g.J.Naming.group g.J.Naming.lines (awaits_for c.args.apps n c.args.awaits.now) (get_or ls n d).came (get_or ls n d).pass (get_or c.loop-left.passes.items n p)) done
     (c.loop-left.invariant.none through n d p (omega (arith, lt, ap length done)))
 
 pub returns-clause-one : goal.returns-clause-one
@@ -108,5 +108,5 @@ returns-clause-one g c =
       s.0,
       omega (arith, s.1, ap length done),
       λ d p. subst
-          (λ (ls : List (Left g.row.J.Denot g.row.L.Denot)). ((get_or ls s.0 d).came ≡ ToFull m) ⊎ HasFull (get_or c.loop-left.passes.items s.0 p) m) done (s.2 d p),
+          (λ (ls : List (Left g.row.J.Denot g.row.L.Denot)). MetFull m (get_or ls s.0 d).came (get_or c.loop-left.passes.items s.0 p)) done (s.2 d p),
     ))
