@@ -4,6 +4,7 @@ pub mod WorkedScripts
 pub mod WorkedTurns
 pub mod WorkedOut
 pub mod WorkedWorkers
+pub mod WorkedPlayed
 pub mod DidLaws
 pub mod OwnEntries
 pub mod OwnRequests

@@ -1,9 +1,10 @@
--- Worked cases of what workers enter: passes that made what a worker makes, and ones that made what only an application makes.
-use Rattle.std.proofs.Common.{◌≡◌, ℕ, zero, suc, List, [], ◌∷◌, refl, arith}
+-- Worked cases of what workers enter: passes that made what a worker makes, and ones that made what only an application makes; and of whose chore is which.
+use Rattle.std.proofs.Common.{◌≡◌, ℕ, zero, suc, ◌<◌, ◌≤◌, List, [], ◌∷◌, length, refl, ap, arith}
+use Rattle.std.specs.Borrow.{Bor}
 use Rattle.std.specs.Prelude.{All, codes, slice_get}
 use Rattle.std.proofs.lemmas.List.Elements.{All-cons}
 use Rattle.st_event.specs.declared.act.Act.{Act}
-use Rattle.st_event.specs.declared.act.Act.TheVariants.{Propose, Settle, Lock}
+use Rattle.st_event.specs.declared.act.Act.TheVariants.{Propose, Await, Settle, Lock}
 use Rattle.st_event.specs.declared.event.Event.{Event}
 use Rattle.st_event.specs.declared.event.Event.TheVariants.{Submit, Check, Send, Report, Fail}
 use Rattle.st_event.specs.Services.{entry_after}
@@ -11,7 +12,10 @@ use Rattle.st_net.specs.declared.entity.Prio.TheVariants.{Low}
 use Rattle.st_service.specs.Made.{Made}
 use Rattle.st_service.specs.Passes.{Holder}
 use Rattle.st_grammar.specs.declared.doc.Script.{Script}
+use Rattle.st_run.specs.declared.jobs.Chore.TheVariants.{Acts, Task as task_chore}
+use Rattle.st_run.specs.declared.workers.Task.{Task}
 use Rattle.st_run.specs.declared.workers.Duty.TheVariants.{Check as check_duty, Update as update_duty, Monitor as monitor_duty}
+use Rattle.st_run.specs.Chores.{IsChore, awaits_for}
 use Rattle.st_run.specs.Tasks.{tasks_by}
 use Rattle.st_run.specs.Workers.{IsOfWorker, MadeByWorker, worker_shares_on}
 use Rattle.st_run.proofs.SmallCases.{a1, app, firmware, small, usual}
@@ -74,3 +78,28 @@ three_and_one = refl
 -- and where nothing is proposed or settled there is none
 no_task : tasks_by (record { name = codes "te"; acts = Lock 0 a1 Low ∷ [] } ∷ []) 2 ≡ []
 no_task = refl
+
+-- the chores of these: the first numbers are the applications', with their scripts, and the others the workers', with their tasks
+
+first_script : (acts : Bor (List Act)) → acts.now ≡ Propose 0 (firmware 2) ∷ Settle 0 3 ∷ Propose 1 (firmware 2) ∷ [] → IsChore two_groups (tasks_by two_groups 2) 0 (Acts acts)
+first_script acts is = (omega arith, λ s. is)
+
+last_task : IsChore two_groups (tasks_by two_groups 2) 5 (task_chore (record { group = 1; duty = check_duty; times = 2 }))
+last_task = (omega arith, λ t. refl)
+
+-- a script of another application, or for a worker; a task of another worker, or for an application
+not_anothers_script : (acts : Bor (List Act)) → length acts.now ≡ 3 → IsChore two_groups (tasks_by two_groups 2) 1 (Acts acts) → ⊥
+not_anothers_script acts three c = absurd (omega (arith, three, ap (λ (xs : List Act). length xs) (c.1 (record { name = []; acts = [] }))))
+
+not_for_a_worker : (acts : Bor (List Act)) → IsChore two_groups (tasks_by two_groups 2) 2 (Acts acts) → ⊥
+not_for_a_worker acts c = let low : 2 < 2 = c.0 in absurd (omega (arith, low))
+
+not_anothers_task : IsChore two_groups (tasks_by two_groups 2) 2 (task_chore (record { group = 1; duty = check_duty; times = 2 })) → ⊥
+not_anothers_task c = absurd (omega (arith, ap (λ (t : Task). t.times) (c.1 (record { group = 0; duty = check_duty; times = 0 }))))
+
+not_for_an_application : IsChore two_groups (tasks_by two_groups 2) 1 (task_chore (record { group = 0; duty = check_duty; times = 1 })) → ⊥
+not_for_an_application c = let high : 2 ≤ 1 = c.0 in absurd (omega (arith, high))
+
+-- of two applications the second awaits behind its job, and a worker does not
+awaits_behind : (awaits_for 2 1 (Await 0 ∷ Await 1 ∷ []) ≡ Await 0 ∷ Await 1 ∷ []) × (awaits_for 2 2 (Await 0 ∷ Await 1 ∷ []) ≡ [])
+awaits_behind = (refl, refl)
