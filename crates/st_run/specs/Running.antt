@@ -8,6 +8,7 @@ use Rattle.st_event.specs.declared.journal.Journal.{Journal}
 use Rattle.st_event.specs.declared.journal.TheConstants.{MAX_ENTRIES}
 use Rattle.st_grammar.specs.declared.doc.Doc.{Doc}
 use Rattle.st_serial.specs.Most.{IsWithinMost}
+use Rattle.st_service.specs.Asked.{asker}
 use Rattle.st_serial.specs.Serial.{GroupState, all_opened}
 use Rattle.st_wire.specs.declared.line.WireLine.{WireLine}
 use Rattle.st_serial.specs.Kept.{AreKept, groups_of}
@@ -23,16 +24,7 @@ IsFullIn journals n = (n < length journals) × ((j : Journal) → length (slice_
 
 -- where an event is a request, it names one of so many applications
 abbrev pub IsByOneOf : ℕ → Event → Type 0
-IsByOneOf count (Submit app rows) = app.0 < count
-IsByOneOf count Check = Unit {0}
-IsByOneOf count (Lock app entity prio) = app.0 < count
-IsByOneOf count (Unlock app entity prio) = app.0 < count
-IsByOneOf count (Send entity) = Unit {0}
-IsByOneOf count (Deliver n) = Unit {0}
-IsByOneOf count (Finish entity) = Unit {0}
-IsByOneOf count (Report entity) = Unit {0}
-IsByOneOf count (Hear n) = Unit {0}
-IsByOneOf count (Fail entity vals health) = Unit {0}
+IsByOneOf count event = IfSome (asker event) (λ app. app < count)
 
 -- each request of a journal names an application of the document
 abbrev pub HasOwnRequests : Doc → Journal → Type 0
