@@ -1,94 +1,27 @@
 -- The latest ticket of a pass is the one that the last of its answered proposals was given.
 use Rattle.std.proofs.Common.{◌≡◌, ℕ, zero, suc, pred, Bool, true, false, List, [], ◌∷◌, ◌++◌, length, map, refl, ap, sym, subst, ◌∙◌, arith}
-use Rattle.std.specs.Prelude.{Option, Some, None, slice_get, reverse, nat_lt, ◌==◌, if◌then◌else◌}
+use Rattle.std.specs.Prelude.{Option, Some, None, slice_get, reverse, ◌==◌, if◌then◌else◌}
 use Rattle.std.specs.List.{filter}
 use Rattle.std.specs.Option.{option_or}
 use Rattle.std.proofs.lemmas.List.{reverse-append}
 use Rattle.std.proofs.lemmas.Bool.Decides.{nat_tests}
-use Rattle.st_net.specs.declared.entity.AppId.{AppId}
-use Rattle.st_net.specs.declared.entity.Entity.{Entity}
-use Rattle.st_net.specs.declared.entity.Row.{Row}
-use Rattle.st_net.specs.declared.message.Command.{Command}
-use Rattle.st_net.specs.declared.message.Report.{Report}
 use Rattle.st_net.specs.Groups.{Group}
-use Rattle.st_net.specs.Holders.{is_free_for, is_held_by}
 use Rattle.st_net.specs.Numbered.{nth}
 use Rattle.st_event.specs.declared.event.Event.{Event}
 use Rattle.st_event.specs.declared.event.Event.TheVariants.{Submit, Check, Lock, Unlock, Send, Deliver, Finish, Report as make_report, Hear, Fail}
-use Rattle.st_event.specs.declared.event.Proposal.{Proposal}
 use Rattle.st_event.specs.declared.journal.Entry.{Entry}
-use Rattle.st_event.specs.declared.reply.Lack.{Lack}
 use Rattle.st_event.specs.declared.reply.Reply.{Reply}
-use Rattle.st_event.specs.declared.reply.Reply.TheVariants.{Queued, Settled, Begun, Stale, Done, NotBusy, Taken, Old, Granted, Held, Released, NotYours}
+use Rattle.st_event.specs.declared.reply.Reply.TheVariants.{Queued}
 use Rattle.st_event.specs.Legal.{IsLegal}
-use Rattle.st_event.specs.Judge.{lack_at}
-use Rattle.st_event.specs.Locks.{holder}
-use Rattle.st_event.specs.Moments.{busy, commands, fence, reports}
-use Rattle.st_event.specs.Observed.{is_settled, observed}
-use Rattle.st_event.specs.Proposals.{pending, target}
-use Rattle.st_event.specs.Replies.{blocked_or_sent, check_reply, deliver_reply, governing, hear_reply, lock_reply, reply, row_to}
 use Rattle.st_service.specs.Asked.{asker, is_request}
 use Rattle.st_service.specs.Made.{Made, past_in}
 use Rattle.st_run.specs.Requests.{is_submit, ticket_given, ticket_in as given_in}
-use Rattle.st_service.specs.Tickets.{last_ticket, latest_in, ticket_in, ticket_of}
+use Rattle.st_service.specs.Tickets.{last_ticket, ticket_in}
 use Rattle.st_run.proofs.CommandEntries.{is_asking}
 use Rattle.st_run.proofs.DidLaws.{Each}
+use Rattle.st_run.proofs.GivenTickets.{no_ticket, or_none}
 use Rattle.st_run.proofs.LatestTickets.{entries_in}
 use Rattle.st_run.proofs.OwnEntries.{and_entry, entries_at}
-
-or_none : (o : Option ℕ) → option_or o None ≡ o
-or_none (Some n) = refl
-or_none None = refl
-
--- the latest ticket, by the entries of a pass
-seen_one : (o : Option Made) (es : List Entry) → option_or (last_ticket es) (ticket_of o) ≡ last_ticket (and_entry o es)
-seen_one (Some m) es = refl
-seen_one None es = or_none (last_ticket es)
-
-pub latest_entries : (front : List Made) (mine : List ℕ) → latest_in front mine ≡ last_ticket (entries_at front mine)
-latest_entries front [] = refl
-latest_entries front (n ∷ ns) = ap (λ (o : Option ℕ). option_or o (ticket_of (slice_get front n))) (latest_entries front ns) ∙ seen_one (slice_get front n) (entries_at front ns)
-
--- nothing but a proposal is given a ticket
-
-checked_none : (g : Group) (past : List Entry) (ps : List Proposal) → ticket_in (check_reply g past ps) ≡ None
-checked_none g past [] = refl
-checked_none g past (p ∷ ps) = refl
-
-chosen_none : (b : Bool) (r s : Reply) → ticket_in r ≡ None → ticket_in s ≡ None → ticket_in (if b then r else s) ≡ None
-chosen_none true r s p q = p
-chosen_none false r s p q = q
-
-locked_none : (app : AppId) (o : Option AppId) → ticket_in (lock_reply app o) ≡ None
-locked_none app None = refl
-locked_none app (Some holder) = chosen_none (is_free_for app (Some holder)) Granted (Held holder) refl refl
-
-sent_none : (o : Option Lack) (row : Row) (sent : ℕ) → ticket_in (blocked_or_sent o row sent) ≡ None
-sent_none (Some lack) row sent = refl
-sent_none None row sent = refl
-
-delivered_none : (fence : Entity → ℕ) (sent : ℕ) (o : Option Command) → ticket_in (deliver_reply fence sent o) ≡ None
-delivered_none fence sent None = refl
-delivered_none fence sent (Some c) = chosen_none (nat_lt (fence c.entity) c.stamp) Begun (Stale (fence c.entity)) refl refl
-
-heard_none : (known : Entity → Report) (made : ℕ) (o : Option Report) → ticket_in (hear_reply known made o) ≡ None
-heard_none known made None = refl
-heard_none known made (Some r) = chosen_none (nat_lt (known r.entity).number r.number) Taken (Old (known r.entity).number) refl refl
-
-none_given : (g : Group) (past : List Entry) (event : Event) → is_submit event ≡ false → ticket_in (reply g past event) ≡ None
-none_given g past (Submit app rows) other = absurd cc
-none_given g past Check other = checked_none g past (pending past)
-none_given g past (Lock app e prio) other = locked_none app (holder past e prio)
-none_given g past (Unlock app e prio) other = chosen_none (is_held_by app (holder past e prio)) Released (NotYours (holder past e prio)) refl refl
-none_given g past (Send e) other =
-    let v = governing e (observed g past e).vals (target g past e) in
-    let sent = blocked_or_sent (lack_at g (observed g past) (target g past) e v) (row_to e v (target g past e)) (length (commands g past)) in
-    chosen_none (is_settled g past e) Settled sent refl (sent_none (lack_at g (observed g past) (target g past) e v) (row_to e v (target g past e)) (length (commands g past)))
-none_given g past (Deliver n) other = delivered_none (fence g past) (length (commands g past)) (nth (commands g past) n)
-none_given g past (Finish e) other = chosen_none (busy g past e) Done NotBusy refl refl
-none_given g past (make_report e) other = refl
-none_given g past (Hear n) other = heard_none (observed g past) (length (reports g past)) (nth (reports g past) n)
-none_given g past (Fail e vals health) other = refl
 
 -- an entry of another kind gives none
 abbrev pub OnlyProposals : Entry → Type 0
@@ -96,7 +29,7 @@ OnlyProposals e = is_submit e.event ≡ false → ticket_in e.reply ≡ None
 
 legal_tickets : (g : Group) (past : List Entry) → IsLegal g past → Each OnlyProposals past
 legal_tickets g [] legal = tt
-legal_tickets g (e ∷ past) legal = (λ (other : is_submit e.event ≡ false). ap ticket_in legal.0.answer ∙ none_given g past e.event other, legal_tickets g past legal.1)
+legal_tickets g (e ∷ past) legal = (λ (other : is_submit e.event ≡ false). ap ticket_in legal.0.answer ∙ no_ticket g past e.event other, legal_tickets g past legal.1)
 
 each_parts : {X : Type 0} (P : X → Type 0) (xs ys : List X) → Each P (xs ++ ys) → Each P xs × Each P ys
 each_parts P [] ys e = (tt, e)

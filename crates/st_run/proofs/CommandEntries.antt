@@ -36,6 +36,7 @@ use Rattle.st_service.specs.Turns.{Turns, RoundOf, RoundToFull, RoundsMade}
 use Rattle.st_service.specs.Works.{part_of}
 use Rattle.st_run.proofs.DidLaws.{Each, each_append}
 use Rattle.st_service.proofs.HoldLaws.{past_more}
+use Rattle.st_service.proofs.RoomLaws.{legal_before}
 use Rattle.st_run.proofs.OwnEntries.{Adds, AddsEach, adds_puts, adds_then, each_none}
 use Rattle.st_run.proofs.ProposalLaws.{was_proposed}
 use Rattle.st_run.proofs.RunEntries.{Only, OfTurns, was_entered, only_none, only_enter, only_poll, only_update, only_turn, only_made}
@@ -166,14 +167,10 @@ awaits_ask g before was after now a = record { entries = a.entries; each = check
 
 -- the legal journals before
 
-legal_rest : (g : Group) (more past : List Entry) → IsLegal g (more ++ past) → IsLegal g past
-legal_rest g [] past legal = legal
-legal_rest g (e ∷ more) past legal = legal_rest g more past legal.1
-
 pub legal_prefix : (g : Group) (before after : List Made) → IsPrefix before after → IsLegal g (past_in after) → IsLegal g (past_in before)
 legal_prefix g before after p legal =
     let is : past_in after ≡ reverse (map (λ (m : Made). m.entry) p.0) ++ past_in before = ap past_in (sym p.1) ∙ (ap reverse (map-append (λ (m : Made). m.entry) before p.0) ∙ reverse-append (map (λ (m : Made). m.entry) before) (map (λ (m : Made). m.entry) p.0)) in
-    legal_rest g (reverse (map (λ (m : Made). m.entry) p.0)) (past_in before) (subst (IsLegal g) is legal)
+    legal_before g (reverse (map (λ (m : Made). m.entry) p.0)) (past_in before) (subst (IsLegal g) is legal)
 
 -- a proposal, and a request of one entry
 

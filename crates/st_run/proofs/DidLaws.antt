@@ -1,7 +1,7 @@
 -- What a chain of commands that a pass did keeps of a group, and how it splits.
 use Rattle.std.proofs.Common.{◌≡◌, ◌≢◌, ◌⊎◌, inl, inr, ⊎_elim, ℕ, zero, suc, ◌+◌, ◌<◌, ◌≤◌, Bool, true, false, List, [], ◌∷◌, ◌++◌, length, map, get_or, refl, ap, sym, subst, ◌∙◌, arith, append_assoc}
 use Rattle.std.specs.Prelude.{All, ◌==◌, Some, slice_get, reverse, if◌then◌else◌}
-use Rattle.std.proofs.lemmas.List.{append-nil, reverse-reverse}
+use Rattle.std.proofs.lemmas.List.{append-nil, reverse-append, reverse-reverse}
 use Rattle.std.proofs.lemmas.List.Elements.{All-cons}
 use mathlib.Core.List.{IsPrefix}
 use Rattle.st_net.specs.Groups.{Group}
@@ -151,6 +151,17 @@ pub did_at : (groups : ℕ → Group) (lines : ℕ → List WireLine) (acts befo
 did_at groups lines acts before act behind start last is d =
     let s = did_append groups lines before (act ∷ behind) start last (subst (λ (xs : List Act). Did groups lines xs start last) is d) in
     record { old = s.0; mid = s.2.0; before_it = s.1; does = s.2.1; behind_it = s.2.2 }
+
+-- and at its last, where the commands stand newest first
+pub record DidLast (groups : ℕ → Group) (lines : ℕ → List WireLine) (before : List Act) (act : Act) (start new : Holder) : Type 0 where
+  pub old : Holder
+  pub did : Did groups lines (reverse before) start old
+  pub does : Does groups lines act old new
+
+pub did_last : (groups : ℕ → Group) (lines : ℕ → List WireLine) (before : List Act) (act : Act) (start new : Holder) → Did groups lines (reverse (act ∷ before)) start new → DidLast groups lines before act start new
+did_last groups lines before act start new d =
+    let s = did_append groups lines (reverse before) (act ∷ []) start new (subst (λ (xs : List Act). Did groups lines xs start new) (reverse-append (act ∷ []) before) d) in
+    record { old = s.0; did = s.1; does = subst (λ (h : Holder). Does groups lines act s.0 h) (sym s.2.2) s.2.1 }
 
 -- a chain as one group has it: what each command on it enters there
 

@@ -1,5 +1,5 @@
 -- What is left of the jobs of a run: of applications, which have gone through their scripts and awaited on each group, and of workers behind them.
-use Rattle.std.proofs.Common.{◌≡◌, ◌≢◌, ⊎_elim, ℕ, ◌+◌, ◌-◌, ◌*◌, ◌<◌, ◌≤◌, Bool, true, false, List, [], length, get_or, refl, ap, sym, subst, ◌∙◌, arith, length-append}
+use Rattle.std.proofs.Common.{◌≡◌, ◌≢◌, ⊎_elim, ℕ, ◌+◌, ◌-◌, ◌*◌, ◌<◌, ◌≤◌, Bool, true, false, List, [], length, get_or, refl, ap, sym, subst, ◌∙◌, arith}
 use Rattle.std.specs.Prelude.{All, ◌==◌, if◌then◌else◌}
 use Rattle.std.proofs.lemmas.Option.{slice_get-get_or}
 use Rattle.st_net.specs.Groups.{Group}
@@ -9,8 +9,7 @@ use Rattle.st_grammar.specs.declared.doc.Script.{Script}
 use Rattle.st_wire.specs.declared.line.WireLine.{WireLine}
 use Rattle.st_crew.specs.Ends.{EndsOf}
 use Rattle.st_service.specs.Acts.{CanDo}
-use Rattle.st_service.specs.Kept.{Grows, Kept}
-use Rattle.st_service.specs.Made.{Made}
+use Rattle.st_service.specs.Kept.{Kept}
 use Rattle.st_service.specs.Opened.{IsFresh}
 use Rattle.st_service.specs.Passes.{Holder, front_at, mine_at}
 use Rattle.st_service.proofs.Mines.{item_at}
@@ -31,6 +30,7 @@ use Rattle.st_run.proofs.DidLaws.{same_or_not}
 use Rattle.st_run.proofs.FinishLaws.{awaits_none, awaits_own}
 use Rattle.st_run.proofs.HalfLaws.{task_made}
 use Rattle.st_run.proofs.PlayLaws.{has_done, is_finished}
+use Rattle.st_run.proofs.WentLaws.{grows_few}
 
 -- a job of a fresh pass may be worked
 pub job_fits : {S : Type 0} (was is : S) (apps_of rooms_of : S → ℕ) (groups : ℕ → Group) (apps : List Script) (tasks : List Task) (n : ℕ) (start pass : Holder) (chore : Chore) → is ≡ was → pass ≡ start → IsChore apps tasks n chore
@@ -119,9 +119,6 @@ gone_full groups lines apps tasks n m came start mid h e = by h.chore h.to
 
 -- how many entries a worker's pass made
 
-grew_few : (most : ℕ) (before : List Made) (was : List ℕ) (after : List Made) (now : List ℕ) → Grows most before was after now → length now ≤ length was + most
-grew_few most before was after now g = omega (arith, ap length g.1.1 ∙ length-append was g.1.0, g.1.2)
-
 here_if : (b : Bool) (most : ℕ) → b ≡ true → (if b then most else 0) ≡ most
 here_if true most e = refl
 here_if false most e = absurd (cc e)
@@ -132,7 +129,7 @@ worked_few groups lines task start mid n none kept = ⊎_elim
     (λ (at : task.group ≡ n).
     let most = task.times * duty_share task.duty (groups task.group) (lines task.group) in
     let here : length (mine_at mid.mines task.group) ≤ length (mine_at start.mines task.group) + most =
-    grew_few most (front_at start.fronts task.group) (mine_at start.mines task.group) (front_at mid.fronts task.group) (mine_at mid.mines task.group) kept.grows in
+    grows_few most (front_at start.fronts task.group) (mine_at start.mines task.group) (front_at mid.fronts task.group) (mine_at mid.mines task.group) kept.grows in
     let there : length (mine_at mid.mines n) ≤ length (mine_at start.mines n) + task.times * duty_share task.duty (groups n) (lines n) =
     subst (λ (k : ℕ). length (mine_at mid.mines k) ≤ length (mine_at start.mines k) + task.times * duty_share task.duty (groups k) (lines k)) at here in
     let same : (task.group == n) ≡ true = ap (λ (k : ℕ). k == n) at ∙ equal_self n in

@@ -38,9 +38,11 @@ use Rattle.st_service.specs.Turns.{Turns, RoundsMade}
 use Rattle.st_service.specs.Works.{part_of}
 use Rattle.st_run.proofs.CommandEntries.{IsChecked, awaits_checked, each_then, enters_only}
 use Rattle.st_run.proofs.DidLaws.{Each, EntersAll}
+use Rattle.st_service.proofs.ChainLaws.{within_both}
 use Rattle.st_service.proofs.HoldLaws.{past_more}
+use Rattle.st_service.proofs.TicketLaws.{get_left}
 use Rattle.st_run.proofs.Interleaved.{Pairs, get_here, pairs_append}
-use Rattle.st_run.proofs.OwnEntries.{AddsEach, and_entry, each_none, entries_append, entries_at, entries_longer, within_both, within_longer}
+use Rattle.st_run.proofs.OwnEntries.{AddsEach, and_entry, each_none, entries_append, entries_at, entries_longer, within_longer}
 use Rattle.st_run.proofs.RunEntries.{Only, OfTurns, only_none, only_enter, only_poll, only_turn, was_entered}
 
 -- the failures that the entries at these places make, each of the values that the journal before it tells
@@ -58,11 +60,6 @@ failures_append g front [] ns = refl
 failures_append g front (m ∷ ms) ns =
     let here = failure_at g front m (slice_get front m) in
     ap (λ (l : List Failure). here ++ l) (failures_append g front ms ns) ∙ sym (append_assoc here (failures_at g front ms) (failures_at g front ns))
-
-get_left : (xs ys : List Made) (n : ℕ) → n < length xs → slice_get (xs ++ ys) n ≡ slice_get xs n
-get_left [] ys n lt = absurd (omega (arith, lt))
-get_left (x ∷ xs) ys zero lt = refl
-get_left (x ∷ xs) ys (suc n) lt = get_left xs ys n (omega (arith, lt))
 
 at_longer : (g : Group) (xs more : List Made) (n : ℕ) → n < length xs
     → failure_at g (xs ++ more) n (slice_get (xs ++ more) n) ≡ failure_at g xs n (slice_get xs n)

@@ -3,65 +3,38 @@ use Rattle.std.proofs.Common.{◌≡◌, ◌⊎◌, inl, inr, ℕ, ◌+◌, ◌�
 use Rattle.std.specs.Prelude.{Bool, true, false, nat_lt, Option, Some, None, if◌then◌else◌}
 use Rattle.std.specs.Option.{option_or}
 use Rattle.st_net.specs.declared.entity.AppId.{AppId}
-use Rattle.st_net.specs.declared.entity.Entity.{Entity}
 use Rattle.st_net.specs.declared.entity.Row.{Row}
-use Rattle.st_net.specs.declared.message.Command.{Command}
-use Rattle.st_net.specs.declared.message.Report.{Report}
 use Rattle.st_net.specs.Groups.{Group}
-use Rattle.st_net.specs.Holders.{is_free_for, is_held_by}
+use Rattle.st_net.specs.Holders.{is_held_by}
 use Rattle.st_net.specs.Numbered.{nth}
 use Rattle.st_event.specs.declared.event.Event.{Event}
 use Rattle.st_event.specs.declared.event.Event.TheVariants.{Submit, Check, Lock, Unlock, Send, Deliver, Finish, Report as make_report, Hear, Fail}
-use Rattle.st_event.specs.declared.event.Proposal.{Proposal}
-use Rattle.st_event.specs.declared.reply.Lack.{Lack}
 use Rattle.st_event.specs.declared.reply.Reply.{Reply}
-use Rattle.st_event.specs.declared.reply.Reply.TheVariants.{Queued, Full, Decided, Granted, Held, Released, Settled, Begun, Stale, Done, NotBusy, Taken, Old}
+use Rattle.st_event.specs.declared.reply.Reply.TheVariants.{Queued, Full, Decided, Released, NotYours, Done, NotBusy}
 use Rattle.st_event.specs.declared.journal.Entry.{Entry}
 use Rattle.st_event.specs.declared.journal.TheConstants.{MAX_PENDING}
 use Rattle.st_event.specs.Legal.{IsNext}
 use Rattle.st_event.specs.Locks.{holder}
 use Rattle.st_event.specs.Moments.{busy, commands, fence, reports}
-use Rattle.st_event.specs.Observed.{is_settled, observed}
+use Rattle.st_event.specs.Observed.{observed}
 use Rattle.st_event.specs.Proposals.{deciders, deciders_after, pending, proposals, proposals_after}
-use Rattle.st_event.specs.Replies.{reply, check_reply, lock_reply, blocked_or_sent, deliver_reply, hear_reply}
+use Rattle.st_event.specs.Replies.{reply}
 use Rattle.st_run.specs.Requests.{is_submit}
 use Rattle.st_service.specs.Tickets.{ticket_in, last_ticket}
+use Rattle.st_service.proofs.GivenLaws.{check_none, deliver_none, hear_none, if_none, lock_none, send_none}
+use Rattle.st_service.proofs.TicketLaws.{or_assoc}
 use Rattle.st_run.proofs.CommandEntries.{IsChecked}
 use Rattle.st_run.proofs.DidLaws.{Each}
 
--- an answer of a choice gives no ticket where neither does
-either_none : (b : Bool) (x y : Reply) → ticket_in x ≡ None → ticket_in y ≡ None → ticket_in (if b then x else y) ≡ None
-either_none true x y p q = p
-either_none false x y p q = q
-
-check_none : (g : Group) (past : List Entry) (queue : List Proposal) → ticket_in (check_reply g past queue) ≡ None
-check_none g past [] = refl
-check_none g past (p ∷ ps) = refl
-
-lock_none : (app : AppId) (holder : Option AppId) → ticket_in (lock_reply app holder) ≡ None
-lock_none app None = refl
-lock_none app (Some other) = either_none (is_free_for app (Some other)) Granted (Held other) refl refl
-
-blocked_none : (lack : Option Lack) (row : Row) (sent : ℕ) → ticket_in (blocked_or_sent lack row sent) ≡ None
-blocked_none None row sent = refl
-blocked_none (Some lack) row sent = refl
-
-deliver_none : (fences : Entity → ℕ) (sent : ℕ) (o : Option Command) → ticket_in (deliver_reply fences sent o) ≡ None
-deliver_none fences sent None = refl
-deliver_none fences sent (Some c) = either_none (nat_lt (fences c.entity) c.stamp) Begun (Stale (fences c.entity)) refl refl
-
-hear_none : (seen : Entity → Report) (made : ℕ) (o : Option Report) → ticket_in (hear_reply seen made o) ≡ None
-hear_none seen made None = refl
-hear_none seen made (Some r) = either_none (nat_lt (seen r.entity).number r.number) Taken (Old (seen r.entity).number) refl refl
-
+-- nothing but a proposal is given a ticket
 pub no_ticket : (g : Group) (past : List Entry) (event : Event) → is_submit event ≡ false → ticket_in (reply g past event) ≡ None
 no_ticket g past (Submit app rows) other = absurd (cc other)
 no_ticket g past Check other = check_none g past (pending past)
 no_ticket g past (Lock app e prio) other = lock_none app (holder past e prio)
-no_ticket g past (Unlock app e prio) other = either_none (is_held_by app (holder past e prio)) Released _ refl refl
-no_ticket g past (Send e) other = either_none (is_settled g past e) Settled _ refl (blocked_none _ _ _)
+no_ticket g past (Unlock app e prio) other = if_none (is_held_by app (holder past e prio)) Released (NotYours (holder past e prio)) refl refl
+no_ticket g past (Send e) other = send_none g past e
 no_ticket g past (Deliver n) other = deliver_none (fence g past) (length (commands g past)) (nth (commands g past) n)
-no_ticket g past (Finish e) other = either_none (busy g past e) Done NotBusy refl refl
+no_ticket g past (Finish e) other = if_none (busy g past e) Done NotBusy refl refl
 no_ticket g past (make_report e) other = refl
 no_ticket g past (Hear n) other = hear_none (observed g past) (length (reports g past)) (nth (reports g past) n)
 no_ticket g past (Fail e vals health) other = refl
@@ -98,11 +71,7 @@ checks_none g [] e = refl
 checks_none g (x ∷ es) e = rw (checks_none g es e.1) (ap (λ (y : Entry). ticket_in y.reply) e.0.1 ∙ check_none g e.0.0 (pending e.0.0))
 
 -- the last ticket of two lists
-or_assoc : (a b c : Option ℕ) → option_or (option_or a b) c ≡ option_or a (option_or b c)
-or_assoc (Some n) b c = refl
-or_assoc None b c = refl
-
-or_none : (o : Option ℕ) → option_or o None ≡ o
+pub or_none : (o : Option ℕ) → option_or o None ≡ o
 or_none (Some n) = refl
 or_none None = refl
 

@@ -25,19 +25,7 @@ use Rattle.st_service.specs.Made.{past_in}
 use Rattle.st_service.specs.Passes.{Holder, front_at, reader_at}
 use Rattle.st_run.specs.Requests.{is_await}
 use Rattle.st_run.proofs.AcceptedLater.{front_version}
-use Rattle.st_run.proofs.DidLaws.{Each, GoesOn, did_append, does_goes, each_all, each_append, goes_front}
-
--- chains, by their last command
-
-record DidLast (groups : ℕ → Group) (lines : ℕ → List WireLine) (before : List Act) (act : Act) (start new : Holder) : Type 0 where
-  pub old : Holder
-  pub did : Did groups lines (reverse before) start old
-  pub does : Does groups lines act old new
-
-did_last : (groups : ℕ → Group) (lines : ℕ → List WireLine) (before : List Act) (act : Act) (start new : Holder) → Did groups lines (reverse (act ∷ before)) start new → DidLast groups lines before act start new
-did_last groups lines before act start new d =
-    let s = did_append groups lines (reverse before) (act ∷ []) start new (subst (λ (xs : List Act). Did groups lines xs start new) (reverse-append (act ∷ []) before) d) in
-    record { old = s.0; did = s.1; does = subst (λ (h : Holder). Does groups lines act s.0 h) (sym s.2.2) s.2.1 }
+use Rattle.st_run.proofs.DidLaws.{Each, GoesOn, did_append, did_last, does_goes, each_all, each_append, goes_front}
 
 -- what each command keeps holds at the end. The commands stand newest first
 pub stays_along : (groups : ℕ → Group) (lines : ℕ → List WireLine) (P : List Act → Holder → Type 0) (start last : Holder)

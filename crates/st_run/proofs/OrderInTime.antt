@@ -2,7 +2,7 @@
 use Rattle.std.proofs.Common.{◌≡◌, ℕ, suc, ◌<◌, ◌≤◌, Bool, true, false, List, [], ◌∷◌, ◌++◌, length, refl, ap, sym, subst, ◌∙◌, arith}
 use Rattle.std.specs.Prelude.{All, Option, Some, None, reverse, ◌==◌, if◌then◌else◌}
 use Rattle.std.specs.List.{filter}
-use Rattle.std.proofs.lemmas.List.{length-map, reverse-append}
+use Rattle.std.proofs.lemmas.List.{length-map}
 use Rattle.std.proofs.lemmas.List.Elements.{All-nil, All-cons, All-weaker}
 use mathlib.Core.List.{IsPrefix}
 use Rattle.st_net.specs.declared.entity.AppId.{AppId}
@@ -23,22 +23,11 @@ use Rattle.st_run.specs.Requests.{awaited_by, decision_of, is_asked_by, is_await
 use Rattle.st_service.specs.Tickets.{latest_in}
 use Rattle.st_service.specs.Turns as turns
 use Rattle.st_service.specs.Works.{IsDecided}
-use Rattle.st_run.proofs.DidLaws.{did_append, did_goes, does_goes, goes_front}
+use Rattle.st_run.proofs.DidLaws.{did_goes, did_last, does_goes, goes_front}
 use Rattle.st_run.proofs.EntryNumbers.{first_begins, greatest_within, number_passes, number_reaches, past_begins}
 use Rattle.st_service.proofs.HoldLaws.{length_past}
 use Rattle.st_run.proofs.LatestTickets.{HasAsked, decision_within, entries_begin, entries_in, latest_told}
 use Rattle.st_run.proofs.SettledTurns.{journal_in, settles_in}
-
--- a chain at its last command
-pub record DidLast (groups : ℕ → Group) (lines : ℕ → List WireLine) (before : List Act) (act : Act) (start new : Holder) : Type 0 where
-  pub old : Holder
-  pub did : Did groups lines (reverse before) start old
-  pub does : Does groups lines act old new
-
-pub did_last : (groups : ℕ → Group) (lines : ℕ → List WireLine) (before : List Act) (act : Act) (start new : Holder) → Did groups lines (reverse (act ∷ before)) start new → DidLast groups lines before act start new
-did_last groups lines before act start new d =
-    let s = did_append groups lines (reverse before) (act ∷ []) start new (subst (λ (xs : List Act). Did groups lines xs start new) (reverse-append (act ∷ []) before) d) in
-    record { old = s.0; did = s.1; does = subst (λ (h : Holder). Does groups lines act s.0 h) (sym s.2.2) s.2.1 }
 
 -- what holds of each command where it is done, holds of each with the commands before it. The commands stand newest first
 pub each_done : (groups : ℕ → Group) (lines : ℕ → List WireLine) (P : List Act → Act → Type 0) (start last : Holder)
@@ -51,7 +40,7 @@ each_done groups lines P start last all (act ∷ before) behind mid d e =
 
 -- an await decides the latest ticket of its pass
 
-awaited_decides : (g : Group) (number : ℕ) (latest : Option ℕ) (t : ℕ) (before : List Made) (was : List ℕ) (after : List Made) (now : List ℕ) → latest ≡ Some t → Awaits latest g number before was after now → IsDecided t (past_in after)
+pub awaited_decides : (g : Group) (number : ℕ) (latest : Option ℕ) (t : ℕ) (before : List Made) (was : List ℕ) (after : List Made) (now : List ℕ) → latest ≡ Some t → Awaits latest g number before was after now → IsDecided t (past_in after)
 awaited_decides g number None t before was after now is a = absurd cc
 awaited_decides g number (Some u) t before was after now is a = let same : u ≡ t = cc is in subst (λ (n : ℕ). IsDecided n (past_in after)) same a.3
 
@@ -70,7 +59,7 @@ await_decides groups lines n (Fail m entity health rows) old new t is here d lat
 await_decides groups lines n (Poll m entity) old new t is here d latest = absurd cc
 
 -- what holds of the tickets awaited before, and of the one that is awaited now, if there is one
-adds_ticket : (P : ℕ → Type 0) (waits here : Bool) (latest : Option ℕ) (tickets : List ℕ) → All P tickets → (waits ≡ true → here ≡ true → (t : ℕ) → latest ≡ Some t → P t)
+pub adds_ticket : (P : ℕ → Type 0) (waits here : Bool) (latest : Option ℕ) (tickets : List ℕ) → All P tickets → (waits ≡ true → here ≡ true → (t : ℕ) → latest ≡ Some t → P t)
     → All P (if waits then (if here then with_ticket latest tickets else tickets) else tickets)
 adds_ticket P false here latest tickets all one = all
 adds_ticket P true false latest tickets all one = all

@@ -1,5 +1,5 @@
 -- The entries of a pass in a front, by its list of places there, as both go on.
-use Rattle.std.proofs.Common.{◌≡◌, ℕ, zero, suc, ◌+◌, ◌<◌, ◌≤◌, List, [], ◌∷◌, ◌++◌, length, refl, ap, sym, subst, ◌∙◌, arith, append_assoc, length-append}
+use Rattle.std.proofs.Common.{◌≡◌, ℕ, zero, suc, ◌+◌, ◌≤◌, List, [], ◌∷◌, ◌++◌, length, refl, ap, sym, subst, ◌∙◌, arith, append_assoc, length-append}
 use Rattle.std.specs.Prelude.{Option, Some, None, slice_get}
 use Rattle.std.proofs.lemmas.List.{append-nil}
 use mathlib.Core.List.{IsPrefix}
@@ -10,6 +10,9 @@ use Rattle.st_service.specs.Lines.{tagged, numbers}
 use Rattle.st_service.specs.Made.{Made}
 use Rattle.st_service.specs.Puts.{Puts}
 use Rattle.st_run.proofs.DidLaws.{Each}
+use Rattle.st_run.proofs.Interleaved.{get_here}
+use Rattle.st_service.proofs.ChainLaws.{within_both}
+use Rattle.st_service.proofs.TicketLaws.{get_left}
 use Rattle.st_service.proofs.Lines.{length_tagged}
 
 abbrev pub and_entry : Option Made → List Entry → List Entry
@@ -29,21 +32,12 @@ pub entries_append : (front : List Made) (ms ns : List ℕ) → entries_at front
 entries_append front [] ns = refl
 entries_append front (m ∷ ms) ns = ap (and_entry (slice_get front m)) (entries_append front ms ns) ∙ and_append (slice_get front m) (entries_at front ms) (entries_at front ns)
 
-get_left : (xs ys : List Made) (n : ℕ) → n < length xs → slice_get (xs ++ ys) n ≡ slice_get xs n
-get_left [] ys n lt = absurd (omega (arith, lt))
-get_left (x ∷ xs) ys zero lt = refl
-get_left (x ∷ xs) ys (suc n) lt = get_left xs ys n (omega (arith, lt))
-
 -- a longer front has the same there
 pub entries_longer : (xs ys : List Made) (mine : List ℕ) → IsPrefix xs ys → AllWithin 0 (length xs) mine → entries_at ys mine ≡ entries_at xs mine
 entries_longer xs ys [] p w = refl
 entries_longer xs ys (n ∷ ns) p w =
     ap (and_entry (slice_get ys n)) (entries_longer xs ys ns p w.2)
     ∙ ap (λ (o : Option Made). and_entry o (entries_at xs ns)) (ap (λ (l : List Made). slice_get l n) (sym p.1) ∙ get_left xs p.0 n w.1)
-
-get_seam : (xs : List Made) (x : Made) (ys : List Made) → slice_get (xs ++ x ∷ ys) (length xs) ≡ Some x
-get_seam [] x ys = refl
-get_seam (y ∷ xs) x ys = get_seam xs x ys
 
 -- entries made at the end
 pub entries_made : (number : ℕ) (mid : List Made) (es : List Entry) → entries_at (mid ++ tagged number es) (numbers (length mid) (length es)) ≡ es
@@ -56,15 +50,11 @@ entries_made number mid (e ∷ es) =
     let rest : entries_at (mid ++ m ∷ tagged number es) (numbers (suc (length mid)) (length es)) ≡ es =
     subst (λ (l : List Made). entries_at l (numbers (suc (length mid)) (length es)) ≡ es) same
     (subst (λ (n : ℕ). entries_at (next ++ tagged number es) (numbers n (length es)) ≡ es) len (entries_made number next es)) in
-    ap (and_entry (slice_get (mid ++ m ∷ tagged number es) (length mid))) rest ∙ ap (λ (o : Option Made). and_entry o es) (get_seam mid m (tagged number es))
+    ap (and_entry (slice_get (mid ++ m ∷ tagged number es) (length mid))) rest ∙ ap (λ (o : Option Made). and_entry o es) (get_here mid m (tagged number es))
 
 pub within_longer : (lo hi high : ℕ) (ns : List ℕ) → hi ≤ high → AllWithin lo hi ns → AllWithin lo high ns
 within_longer lo hi high [] le w = tt
 within_longer lo hi high (n ∷ ns) le w = (w.0, omega (arith, w.1, le), within_longer lo hi high ns le w.2)
-
-pub within_both : (lo hi : ℕ) (ms ns : List ℕ) → AllWithin lo hi ms → AllWithin lo hi ns → AllWithin lo hi (ms ++ ns)
-within_both lo hi [] ns v w = w
-within_both lo hi (m ∷ ms) ns v w = (v.0, v.1, within_both lo hi ms ns v.2 w)
 
 pub numbers_within : (hi n k : ℕ) → n + k ≤ hi → AllWithin 0 hi (numbers n k)
 numbers_within hi n zero high = tt

@@ -1,6 +1,6 @@
 -- Each request of a journal that was told whole names the pass that made it, and so one of the document's applications; the passes of workers make none.
 use Rattle.std.proofs.Common.{◌≡◌, ⊎_elim, ℕ, suc, ◌<◌, ◌≤◌, Bool, true, false, List, [], ◌∷◌, ◌++◌, length, refl, ap, sym, subst, ◌∙◌, arith, append_assoc, length-append}
-use Rattle.std.specs.Prelude.{◌==◌, All, Option, Some, None, map, reverse, slice_get, if◌then◌else◌}
+use Rattle.std.specs.Prelude.{◌==◌, All, IfSome, Option, Some, None, map, reverse, slice_get, if◌then◌else◌}
 use Rattle.std.proofs.lemmas.List.{reverse-reverse}
 use Rattle.st_net.proofs.Tests.{equal_numbers, equal_self}
 use Rattle.st_net.specs.Groups.{Group}
@@ -14,6 +14,7 @@ use Rattle.st_service.specs.Passes.{Holder}
 use Rattle.st_run.specs.Running.{IsByOneOf}
 use Rattle.st_run.specs.Workers.{MadeByWorker, is_workers}
 use Rattle.st_run.proofs.DidLaws.{Each, each_all}
+use Rattle.st_run.proofs.Interleaved.{get_here}
 use Rattle.st_run.proofs.WorkerEntries.{IsByOrWorkers, scripts_or_workers}
 
 -- the entry at a place is a request that names an application
@@ -23,10 +24,6 @@ is_of_at a None = false
 
 abbrev IsNamed : ℕ → List Made → ℕ → Type 0
 IsNamed a front k = is_of_at a (slice_get front k) ≡ true
-
-get_here : (xs : List Made) (m : Made) (ys : List Made) → slice_get (xs ++ m ∷ ys) (length xs) ≡ Some m
-get_here [] m ys = refl
-get_here (x ∷ xs) m ys = get_here xs m ys
 
 one_more : (xs : List Made) (m : Made) → length (xs ++ m ∷ []) ≡ suc (length xs)
 one_more xs m = omega (arith, length-append xs (m ∷ []))
@@ -100,17 +97,12 @@ pass_owned g passes n entries front a p whole low =
     owned a [] front (subst (Each (IsNamed a front)) places (named_at a [] front))
 
 -- so it names one of so many applications
+by_asker : (count n : ℕ) (o : Option ℕ) → n < count → is_own n o ≡ true → IfSome o (λ app. app < count)
+by_asker count n (Some app) low own = omega (arith, low, equal_numbers app n own)
+by_asker count n None low own = tt
+
 by_one : (count n : ℕ) (event : Event) → n < count → is_own n (asker event) ≡ true → IsByOneOf count event
-by_one count n (Submit app rows) low own = omega (arith, low, equal_numbers app.0 n own)
-by_one count n Check low own = tt
-by_one count n (Lock app entity prio) low own = omega (arith, low, equal_numbers app.0 n own)
-by_one count n (Unlock app entity prio) low own = omega (arith, low, equal_numbers app.0 n own)
-by_one count n (Send entity) low own = tt
-by_one count n (Deliver m) low own = tt
-by_one count n (Finish entity) low own = tt
-by_one count n (Report entity) low own = tt
-by_one count n (Hear m) low own = tt
-by_one count n (Fail entity vals health) low own = tt
+by_one count n event low own = by_asker count n (asker event) low own
 
 -- an entry that a worker makes is no request
 by_worker : (count : ℕ) (event : Event) → is_workers event ≡ true → IsByOneOf count event

@@ -15,12 +15,13 @@ use Rattle.st_service.specs.Closed.{IsWhole, positions}
 use Rattle.st_service.specs.Made.{Made}
 use Rattle.st_service.specs.Passes.{Holder, mine_at}
 use Rattle.st_service.specs.Tickets.{ticket_in, ticket_of, last_ticket, latest_in}
-use Rattle.st_service.proofs.Counts.{sum_to, sum_by_index, sum_same}
+use Rattle.st_service.proofs.Counts.{sum_add, sum_none, sum_to, sum_by_index, sum_same}
 use Rattle.st_run.specs.Requests.{is_submit}
 use Rattle.st_run.proofs.DidLaws.{Each}
-use Rattle.st_run.proofs.GivenTickets.{counted, last_append, no_ticket}
+use Rattle.st_run.proofs.GivenTickets.{counted, last_append, no_ticket, or_none}
 use Rattle.st_run.proofs.OwnEntries.{and_entry, entries_at}
-use Rattle.st_run.proofs.ScriptEntries.{at_if, get_here}
+use Rattle.st_run.proofs.Interleaved.{get_here}
+use Rattle.st_run.proofs.ScriptEntries.{at_if}
 use Rattle.st_service.proofs.Whole.{one, same, times}
 
 -- the entries that a pass made
@@ -52,24 +53,12 @@ entries_positions p pre (m ∷ ms) =
 latest_one : (o : Option Made) (es : List Entry) → option_or (last_ticket es) (ticket_of o) ≡ last_ticket (and_entry o es)
 latest_one (Some m) es = refl
 latest_one None es = or_none (last_ticket es)
-  where
-    or_none : (x : Option ℕ) → option_or x None ≡ x
-    or_none (Some n) = refl
-    or_none None = refl
 
 pub latest_is : (front : List Made) (mine : List ℕ) → latest_in front mine ≡ last_ticket (entries_at front mine)
 latest_is front [] = refl
 latest_is front (n ∷ ns) = ap (λ (o : Option ℕ). option_or o (ticket_of (slice_get front n))) (latest_is front ns) ∙ latest_one (slice_get front n) (entries_at front ns)
 
 -- each entry was made by one of the passes
-
-sum_add : (f g : ℕ → ℕ) (n : ℕ) → sum_to (λ k. f k + g k) n ≡ sum_to f n + sum_to g n
-sum_add f g zero = refl
-sum_add f g (suc n) = let r = sum_add (λ k. f (suc k)) (λ k. g (suc k)) n in omega (arith, r)
-
-sum_none : (n : ℕ) → sum_to (λ k. 0) n ≡ 0
-sum_none zero = refl
-sum_none (suc n) = let r = sum_none n in omega (arith, r)
 
 ones : (x n : ℕ) → (sum_to (λ p. one (same x p)) n ≡ 0) ⊎ ((x < n) × (sum_to (λ p. one (same x p)) n ≡ 1))
 ones x zero = inl refl

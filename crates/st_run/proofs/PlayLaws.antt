@@ -1,28 +1,24 @@
 -- Passes that have gone through their scripts and the awaits behind them, and what a service has of them once it is closed.
-use Rattle.std.proofs.Common.{◌≡◌, ◌≢◌, ◌⊎◌, ⊎_elim, ℕ, zero, suc, ◌+◌, ◌<◌, ◌≤◌, Bool, true, false, List, [], ◌∷◌, length, get_or, sum_by, refl, ap, sym, subst, ◌∙◌, arith}
-use Rattle.std.specs.Prelude.{All, drop, Option, Some, None, IfSome, Result, Ok, Err, IfOk, slice_get, ◌==◌, if◌then◌else◌}
+use Rattle.std.proofs.Common.{◌≡◌, ◌⊎◌, ⊎_elim, ℕ, zero, suc, ◌+◌, ◌<◌, ◌≤◌, List, [], ◌∷◌, length, get_or, sum_by, refl, ap, sym, subst, ◌∙◌, arith}
+use Rattle.std.specs.Prelude.{All, drop, Option, Some, None, IfSome, Result, Ok, Err, IfOk, slice_get}
 use Rattle.std.proofs.lemmas.List.{length-map, length-drop}
 use Rattle.std.proofs.lemmas.List.Elements.{All-map, All-push}
-use Rattle.std.proofs.lemmas.List.Sums.{sum_by-cons, sum_by_push}
+use Rattle.std.proofs.lemmas.List.Sums.{sum_by-cons}
 use Rattle.std.proofs.lemmas.Option.{slice_get-get_or, slice_get_within, get_or_from_slice_get}
 use Rattle.st_net.specs.Groups.{Group}
-use Rattle.st_net.proofs.Tests.{equal_numbers}
 use Rattle.st_event.specs.declared.act.Act.{Act}
 use Rattle.st_event.specs.declared.act.Act.TheVariants.{Await}
 use Rattle.st_event.specs.declared.act.Log.{Log}
 use Rattle.st_event.specs.declared.journal.Journal.{Journal}
-use Rattle.st_event.specs.declared.journal.TheConstants.{MAX_PENDING}
 use Rattle.st_grammar.specs.declared.doc.Script.{Script}
 use Rattle.st_wire.specs.declared.line.WireLine.{WireLine}
-use Rattle.st_world.specs.Acts.{group_number}
 use Rattle.st_board.proofs.Prefixes.{prefix_length}
 use Rattle.st_service.specs.Acts.{CanDo}
 use Rattle.st_service.specs.Opened.{IsFresh}
 use Rattle.st_service.specs.Passes.{Holder, front_at, mine_at}
-use Rattle.st_service.specs.Shares.{act_share}
 use Rattle.st_run.specs.Jobs.{Did, HasDone, awaits_on}
 use Rattle.st_run.specs.Played.{AllCanBeDone, AreClosed, IsFinished, IsPlayed, WasFull, acts_of, made_on}
-use Rattle.st_run.specs.Went.{CameTo, HasFull, Went, shares_on}
+use Rattle.st_run.specs.Went.{CameTo, HasFull, Went}
 use Rattle.st_run.specs.Workers.{MadeByWorker, worker_shares_on}
 use Rattle.st_run.specs.Ended.{AreDone, AreEnded}
 use Rattle.st_run.specs.Tasks.{task_share_on, tasks_by}
@@ -30,7 +26,8 @@ use Rattle.st_run.specs.declared.workers.Task.{Task}
 use Rattle.st_run.proofs.TaskLaws.{tasks_within}
 use Rattle.st_run.specs.declared.application.Came.{Came}
 use Rattle.st_run.specs.declared.application.Came.TheVariants.{Through, ToFull}
-use Rattle.st_run.proofs.DidLaws.{did_both, same_or_not}
+use Rattle.st_run.proofs.DidLaws.{did_both}
+use Rattle.st_run.proofs.WentLaws.{shares_awaits}
 
 -- the script that stands at a is an application's
 script_at : (apps : List Script) (a : ℕ) (acts : List Act) → slice_get (acts_of apps) a ≡ Some acts → (s : Script) × (a < length apps) × ((get_or apps a s).acts ≡ acts)
@@ -105,42 +102,6 @@ is_played groups lines rooms apps tasks full journals logs passes are can ended 
     less_both : (a b c d : ℕ) → a ≤ b → b ≡ c → c ≤ d → a ≤ d
     less_both a b c d p q r = omega (arith, p, q, r)
 
--- the share of an await on each group
-
-apart_none : (n k most : ℕ) → k ≢ n → (if k == n then most else 0) ≡ 0
-apart_none n k most apart = by (k == n) refl
-  where
-    by : (b : Bool) → (k == n) ≡ b → (if b then most else 0) ≡ 0
-    by true e = absurd (apart (equal_numbers k n e))
-    by false e = refl
-
-at_most : (b : Bool) (most : ℕ) → (if b then most else 0) ≤ most
-at_most true most = omega arith
-at_most false most = omega arith
-
-sum_none : (a b c : ℕ) → a ≡ b + c → b ≡ 0 → c ≡ 0 → a ≡ 0
-sum_none a b c e p q = omega (arith, e, p, q)
-
-sum_first : (a b c m : ℕ) → a ≡ b + c → b ≡ 0 → c ≤ m → a ≤ m
-sum_first a b c m e p q = omega (arith, e, p, q)
-
-sum_last : (a b c m : ℕ) → a ≡ b + c → b ≤ m → c ≡ 0 → a ≤ m
-sum_last a b c m e p q = omega (arith, e, p, q)
-
-share_next : (n k : ℕ) (g : Group) (lines : List WireLine) → shares_on n g lines (awaits_on (suc k)) ≡ shares_on n g lines (awaits_on k) + (if k == n then MAX_PENDING else 0)
-share_next n k g lines = sum_by_push (λ (act : Act). if group_number act == n then act_share act g lines else 0) (awaits_on k) (Await k)
-
-share_none : (n k : ℕ) (g : Group) (lines : List WireLine) → k ≤ n → shares_on n g lines (awaits_on k) ≡ 0
-share_none n zero g lines le = refl
-share_none n (suc k) g lines le = sum_none _ _ _ (share_next n k g lines) (share_none n k g lines (omega (arith, le))) (apart_none n k MAX_PENDING (λ e. absurd (omega (arith, le, e))))
-
-share_most : (n k : ℕ) (g : Group) (lines : List WireLine) → shares_on n g lines (awaits_on k) ≤ MAX_PENDING
-share_most n zero g lines = omega arith
-share_most n (suc k) g lines = ⊎_elim
-    (λ (e : k ≡ n). sum_first _ _ _ _ (share_next n k g lines) (share_none n k g lines (omega (arith, e))) (at_most (k == n) MAX_PENDING))
-    (λ (apart : k ≢ n). sum_last _ _ _ _ (share_next n k g lines) (share_most n k g lines) (apart_none n k MAX_PENDING apart))
-    (same_or_not k n)
-
 -- a fresh pass that went through its script, and then through the awaits
 
 few_both : (a b c x y m : ℕ) → a ≡ 0 → b ≤ a + x → c ≤ b + y → y ≤ m → c ≤ x + m
@@ -151,7 +112,7 @@ is_finished groups lines rooms n acts awaits start mid last are f p w =
     let q : Went groups lines (awaits_on rooms) mid last = subst (λ (xs : List Act). Went groups lines xs mid last) are w in record {
       number_is = q.number ∙ (p.number ∙ f.numbered);
       rooms_are = (q.rooms.0 ∙ (p.rooms.0 ∙ f.rooms_are.0), q.rooms.1 ∙ (p.rooms.1 ∙ f.rooms_are.1));
-      few = λ k lt. few_both _ _ _ _ _ _ (ap length (f.unmade k)) (p.few k) (q.few k) (share_most k rooms (groups k) (lines k));
+      few = λ k lt. few_both _ _ _ _ _ _ (ap length (f.unmade k)) (p.few k) (q.few k) (shares_awaits k (groups k) (lines k) rooms);
     }
 
 -- and that did each command

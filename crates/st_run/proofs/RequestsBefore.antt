@@ -1,18 +1,18 @@
 -- The requests that name an application, in a beginning of a journal, are those at the places that its pass has there.
-use Rattle.std.proofs.Common.{◌≡◌, ℕ, zero, suc, ◌+◌, ◌<◌, ◌≤◌, Bool, true, false, List, [], ◌∷◌, ◌++◌, length, refl, ap, sym, subst, ◌∙◌, arith, append_assoc, length-append}
-use Rattle.std.specs.Prelude.{Option, Some, None, slice_get, if◌then◌else◌}
+use Rattle.std.proofs.Common.{◌≡◌, ℕ, suc, ◌+◌, ◌<◌, ◌≤◌, Bool, true, false, List, [], ◌∷◌, ◌++◌, length, refl, ap, sym, ◌∙◌, arith, length-append}
+use Rattle.std.specs.Prelude.{Option, slice_get, if◌then◌else◌}
 use Rattle.std.specs.List.{filter}
 use mathlib.Core.List.{IsPrefix}
-use Rattle.st_event.specs.declared.event.Event.{Event}
-use Rattle.st_event.specs.declared.event.Event.TheVariants.{Submit, Check, Lock, Unlock, Send, Deliver, Finish, Report, Hear, Fail}
-use Rattle.st_event.specs.declared.journal.Entry.{Entry}
-use Rattle.st_service.specs.Asked.{asker, is_of, is_request, is_request_at, requests_in, requests_of}
+use Rattle.st_service.specs.Asked.{asker, is_of, is_request_at, requests_in, requests_of}
 use Rattle.st_service.specs.Kept.{AllWithin}
 use Rattle.st_service.specs.Made.{Made}
-use Rattle.st_run.specs.Requests.{is_asked_by, is_request_of}
+use Rattle.st_run.specs.Requests.{is_asked_by}
+use Rattle.st_service.proofs.ChainLaws.{within_wider}
+use Rattle.st_service.proofs.TicketLaws.{get_left}
 use Rattle.st_run.proofs.CommandEntries.{is_asking}
 use Rattle.st_run.proofs.LatestTickets.{entries_in}
-use Rattle.st_run.proofs.OwnEntries.{and_entry, entries_at}
+use Rattle.st_run.proofs.OwnEntries.{entries_at}
+use Rattle.st_run.proofs.ScriptEntries.{asking, named}
 
 -- where two lists are split at the same number, their parts are the same
 split_same : (k hi : ℕ) (xs ys us vs : List ℕ) → AllWithin 0 k xs → AllWithin k hi ys → AllWithin 0 k us → AllWithin k hi vs → xs ++ ys ≡ us ++ vs → xs ≡ us
@@ -26,10 +26,6 @@ split_same k hi (x ∷ xs) ys (u ∷ us) vs a b c d e =
     let tail : xs ++ ys ≡ us ++ vs = cc e in
     let rest = split_same k hi xs ys us vs a.2 b c.2 d tail in
     cc (head, rest)
-
-wider : (lo hi low high : ℕ) (ns : List ℕ) → low ≤ lo → hi ≤ high → AllWithin lo hi ns → AllWithin low high ns
-wider lo hi low high [] a b w = tt
-wider lo hi low high (n ∷ ns) a b w = (omega (arith, w.0, a), omega (arith, w.1, b), wider lo hi low high ns a b w.2)
 
 -- the places of requests that name an application
 
@@ -52,7 +48,7 @@ chosen_within false lo hi i ns low high w = w
 named_within : (a i : ℕ) (xs : List Made) → AllWithin i (i + length xs) (requests_of a i xs)
 named_within a i [] = tt
 named_within a i (m ∷ xs) = chosen_within (is_of a (asker m.entry.event)) i (i + suc (length xs)) i (requests_of a (suc i) xs) (omega arith) (omega arith)
-    (wider (suc i) (suc i + length xs) i (i + suc (length xs)) (requests_of a (suc i) xs) (omega arith) (omega arith) (named_within a (suc i) xs))
+    (within_wider (suc i) (suc i + length xs) i (i + suc (length xs)) (requests_of a (suc i) xs) (omega arith) (omega arith) (named_within a (suc i) xs))
 
 -- those of a list of places
 
@@ -65,11 +61,6 @@ places_append front (m ∷ ms) ns =
 places_within : (front : List Made) (lo hi : ℕ) (ns : List ℕ) → AllWithin lo hi ns → AllWithin lo hi (requests_in front ns)
 places_within front lo hi [] w = tt
 places_within front lo hi (n ∷ ns) w = chosen_within (is_request_at (slice_get front n)) lo hi n (requests_in front ns) w.0 w.1 (places_within front lo hi ns w.2)
-
-get_left : (xs ys : List Made) (n : ℕ) → n < length xs → slice_get (xs ++ ys) n ≡ slice_get xs n
-get_left [] ys n lt = absurd (omega (arith, lt))
-get_left (x ∷ xs) ys zero lt = refl
-get_left (x ∷ xs) ys (suc n) lt = get_left xs ys n (omega (arith, lt))
 
 places_longer : (xs ys : List Made) (ns : List ℕ) → IsPrefix xs ys → AllWithin 0 (length xs) ns → requests_in ys ns ≡ requests_in xs ns
 places_longer xs ys [] p w = refl
@@ -89,61 +80,15 @@ named_before a front whole mine more hi p le low high asked =
     ∙ (sym (named_append a 0 front p.0)
     ∙ (ap (requests_of a 0) p.1 ∙ (asked ∙ places_append whole mine more))) in
     split_same (length front) hi (requests_of a 0 front) rest (requests_in whole mine) (requests_in whole more)
-    (wider 0 (0 + length front) 0 (length front) (requests_of a 0 front) (omega arith) (omega arith) (named_within a 0 front))
-    (wider (length front) (length front + length p.0) (length front) hi rest (omega arith) (omega (arith, size, le)) (named_within a (length front) p.0))
+    (within_wider 0 (0 + length front) 0 (length front) (requests_of a 0 front) (omega arith) (omega arith) (named_within a 0 front))
+    (within_wider (length front) (length front + length p.0) (length front) hi rest (omega arith) (omega (arith, size, le)) (named_within a (length front) p.0))
     (places_within whole 0 (length front) mine low)
     (places_within whole (length front) hi more high)
     all
     ∙ places_longer front whole mine p low
 
--- the entries there
-
-names : (a : ℕ) (event : Event) → is_of a (asker event) ≡ is_request_of (record { 0 = a }) event
-names a (Submit app rows) = refl
-names a Check = refl
-names a (Lock app entity prio) = refl
-names a (Unlock app entity prio) = refl
-names a (Send entity) = refl
-names a (Deliver n) = refl
-names a (Finish entity) = refl
-names a (Report entity) = refl
-names a (Hear n) = refl
-names a (Fail entity vals health) = refl
-
-get_here : (xs : List Made) (m : Made) (ys : List Made) → slice_get (xs ++ m ∷ ys) (length xs) ≡ Some m
-get_here [] m ys = refl
-get_here (x ∷ xs) m ys = get_here xs m ys
-
-at_if : (front : List Made) (b : Bool) (i : ℕ) (m : Made) (rest : List ℕ) → slice_get front i ≡ Some m → entries_at front (if b then i ∷ rest else rest) ≡ (if b then m.entry ∷ entries_at front rest else entries_at front rest)
-at_if front true i m rest is = ap (λ (o : Option Made). and_entry o (entries_at front rest)) is
-at_if front false i m rest is = refl
-
-named_entries : (a : ℕ) (pre ms : List Made) → entries_at (pre ++ ms) (requests_of a (length pre) ms) ≡ filter (is_asked_by (record { 0 = a })) (entries_in ms)
-named_entries a pre [] = refl
-named_entries a pre (m ∷ ms) =
-    let next = pre ++ m ∷ [] in
-    let len : length next ≡ suc (length pre) = omega (arith, length-append pre (m ∷ [])) in
-    let all : next ++ ms ≡ pre ++ m ∷ ms = append_assoc pre (m ∷ []) ms in
-    let entries = filter (is_asked_by (record { 0 = a })) (entries_in ms) in
-    let rest : entries_at (pre ++ m ∷ ms) (requests_of a (suc (length pre)) ms) ≡ entries =
-    subst (λ (n : ℕ). entries_at (pre ++ m ∷ ms) (requests_of a n ms) ≡ entries) len (subst (λ (l : List Made). entries_at l (requests_of a (length next) ms) ≡ entries) all (named_entries a next ms)) in
-    at_if (pre ++ m ∷ ms) (is_of a (asker m.entry.event)) (length pre) m (requests_of a (suc (length pre)) ms) (get_here pre m ms)
-    ∙ (ap (λ (l : List Entry). if is_of a (asker m.entry.event) then m.entry ∷ l else l) rest
-    ∙ ap (λ (b : Bool). if b then m.entry ∷ entries else entries) (names a m.entry.event))
-
-asking_one : (front : List Made) (n : ℕ) (ns : List ℕ) (o : Option Made) → slice_get front n ≡ o → entries_at front (requests_in front ns) ≡ filter is_asking (entries_at front ns)
-    → entries_at front (if is_request_at o then n ∷ requests_in front ns else requests_in front ns) ≡ filter is_asking (and_entry o (entries_at front ns))
-asking_one front n ns None is rest = rest
-asking_one front n ns (Some m) is rest =
-    at_if front (is_request (asker m.entry.event)) n m (requests_in front ns) is
-    ∙ ap (λ (l : List Entry). if is_request (asker m.entry.event) then m.entry ∷ l else l) rest
-
-asking_entries : (front : List Made) (mine : List ℕ) → entries_at front (requests_in front mine) ≡ filter is_asking (entries_at front mine)
-asking_entries front [] = refl
-asking_entries front (n ∷ ns) = asking_one front n ns (slice_get front n) refl (asking_entries front ns)
-
 -- so the entries that name an application are the requests among those of its pass
 pub asked_before : (a : ℕ) (front whole : List Made) (mine more : List ℕ) (hi : ℕ) → IsPrefix front whole → length whole ≤ hi → AllWithin 0 (length front) mine → AllWithin (length front) hi more
     → requests_of a 0 whole ≡ requests_in whole (mine ++ more) → filter (is_asked_by (record { 0 = a })) (entries_in front) ≡ filter is_asking (entries_at front mine)
 asked_before a front whole mine more hi p le low high asked =
-    sym (named_entries a [] front) ∙ (ap (entries_at front) (named_before a front whole mine more hi p le low high asked) ∙ asking_entries front mine)
+    sym (named a [] front) ∙ (ap (entries_at front) (named_before a front whole mine more hi p le low high asked) ∙ asking front mine)

@@ -26,6 +26,7 @@ use Rattle.st_service.specs.Passes.{Holder, front_at, mine_at}
 use Rattle.st_run.specs.Requests.{acts_on, answers_in, is_asked_by, is_request_of, is_submit, request_by, requests_by, requests_in}
 use Rattle.st_run.proofs.CommandEntries.{AnswersTo, IsTicketed, as_list, is_asking, answers_append, answers_none, command_adds, legal_prefix}
 use Rattle.st_run.proofs.DidLaws.{Each, each_all, EntersAll, ended, ended_enters, enters_grows, front_entries}
+use Rattle.st_run.proofs.Interleaved.{get_here}
 use Rattle.st_run.proofs.OwnEntries.{Adds, adds_none, adds_then, and_entry, entries_at, entries_longer}
 
 -- what the commands of a script add
@@ -82,15 +83,11 @@ names a (Report entity) = refl
 names a (Hear n) = refl
 names a (Fail entity vals health) = refl
 
-pub get_here : (xs : List Made) (m : Made) (ys : List Made) → slice_get (xs ++ m ∷ ys) (length xs) ≡ Some m
-get_here [] m ys = refl
-get_here (x ∷ xs) m ys = get_here xs m ys
-
 pub at_if : (front : List Made) (b : Bool) (i : ℕ) (m : Made) (rest : List ℕ) → slice_get front i ≡ Some m → entries_at front (if b then i ∷ rest else rest) ≡ (if b then m.entry ∷ entries_at front rest else entries_at front rest)
 at_if front true i m rest is = ap (λ (o : Option Made). and_entry o (entries_at front rest)) is
 at_if front false i m rest is = refl
 
-named : (a : ℕ) (pre ms : List Made) → entries_at (pre ++ ms) (requests_of a (length pre) ms) ≡ filter (is_asked_by (record { 0 = a })) (map (λ (m : Made). m.entry) ms)
+pub named : (a : ℕ) (pre ms : List Made) → entries_at (pre ++ ms) (requests_of a (length pre) ms) ≡ filter (is_asked_by (record { 0 = a })) (map (λ (m : Made). m.entry) ms)
 named a pre [] = refl
 named a pre (m ∷ ms) =
     let next = pre ++ m ∷ [] in
@@ -112,7 +109,7 @@ asking_one front n ns (Some m) is rest = by (is_request (asker m.entry.event)) r
     by true e = ap (λ (o : Option Made). and_entry o (entries_at front (places_in front ns))) is ∙ ap (λ (l : List Entry). m.entry ∷ l) rest
     by false e = rest
 
-asking : (front : List Made) (mine : List ℕ) → entries_at front (places_in front mine) ≡ filter is_asking (entries_at front mine)
+pub asking : (front : List Made) (mine : List ℕ) → entries_at front (places_in front mine) ≡ filter is_asking (entries_at front mine)
 asking front [] = refl
 asking front (n ∷ ns) = asking_one front n ns (slice_get front n) refl (asking front ns)
 

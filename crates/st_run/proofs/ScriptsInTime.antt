@@ -27,7 +27,8 @@ use Rattle.st_run.proofs.DidLaws.{Ended, EntersAll, did_append, did_enters, did_
 use Rattle.st_run.proofs.LatestTickets.{HasAsked, entries_in}
 use Rattle.st_run.proofs.OrderInTime.{AtEach, each_done, in_time, settled_behind}
 use Rattle.st_run.proofs.OwnEntries.{entries_at, within_longer}
-use Rattle.st_run.proofs.AnsweredTickets.{last_proposed, last_reply, latest_entries, own_tickets, proposals_asking, proposes}
+use Rattle.st_run.proofs.AnsweredTickets.{last_proposed, last_reply, own_tickets, proposals_asking, proposes}
+use Rattle.st_run.proofs.OwnTickets.{latest_is}
 use Rattle.st_run.proofs.RequestsBefore.{asked_before}
 use Rattle.st_run.proofs.ScriptEntries.{script_adds}
 
@@ -72,7 +73,7 @@ at_each groups lines rooms passes n entries front a acts p whole e = record { be
         let are = asked_before a f front mine goes.grows.1.0 (length front) begins (omega arith) (s.adds.within tt) high places in
         has_asked app n before f mine are
         (ap (λ (es : List Entry). map (λ (x : Entry). x.event) (filter is_asking es)) own ∙ s.answers.asks)
-        (latest_entries f mine ∙ last_proposed (entries_at f mine) (own_tickets (groups n) f mine legal))
+        (latest_is f mine ∙ last_proposed (entries_at f mine) (own_tickets (groups n) f mine legal))
 
 -- the entries of a front are those of its history
 told_entries : (g : Group) (passes : List Holder) (n : ℕ) (entries : List Entry) (front : List Made) → IsWhole g passes n entries front → entries_in front ≡ entries_of (history_of g entries)

@@ -1,8 +1,8 @@
 -- A line on a group has seen what was accepted up to each ticket that was awaited before.
-use Rattle.std.proofs.Common.{◌≡◌, ℕ, ◌≤◌, Bool, true, false, nat_le, List, ◌∷◌, length, refl, sym, subst, arith}
-use Rattle.std.specs.Prelude.{All, Option, Some, None, reverse, ◌==◌, if◌then◌else◌}
+use Rattle.std.proofs.Common.{◌≡◌, ℕ, ◌≤◌, Bool, true, false, nat_le, List, ◌∷◌, length, sym, subst, arith}
+use Rattle.std.specs.Prelude.{All, Some, reverse, ◌==◌, if◌then◌else◌}
 use Rattle.std.proofs.lemmas.List.{reverse-reverse}
-use Rattle.std.proofs.lemmas.List.Elements.{All-nil, All-cons, All-weaker}
+use Rattle.std.proofs.lemmas.List.Elements.{All-nil, All-weaker}
 use mathlib.Core.List.{IsPrefix}
 use Rattle.st_net.specs.declared.entity.AppId.{AppId}
 use Rattle.st_net.specs.Groups.{Group}
@@ -26,12 +26,13 @@ use Rattle.st_run.specs.Jobs.{Does, Did}
 use Rattle.st_run.specs.Logs.{EachRead, HasSeen, accepted_up_to}
 use Rattle.st_service.specs.Made.{Made, past_in}
 use Rattle.st_service.specs.Passes.{Holder, IsTaught, front_at, mine_at, reader_at}
-use Rattle.st_run.specs.Requests.{awaited_by, is_await, latest_ticket, with_ticket}
+use Rattle.st_run.specs.Requests.{awaited_by, is_await, latest_ticket}
 use Rattle.st_service.specs.Tickets.{latest_in}
 use Rattle.st_service.specs.Works.{IsDecided}
 use Rattle.st_run.proofs.AcceptedLater.{accepted_first, front_version, past_later}
 use Rattle.st_run.proofs.DidLaws.{Ended, GoesOn, did_goes, does_goes, goes_front}
 use Rattle.st_run.proofs.LoggedReads.{IsLineBy, each_read, stays_along}
+use Rattle.st_run.proofs.OrderInTime.{adds_ticket, awaited_decides}
 use Rattle.st_service.proofs.RoomLaws.{legal_before}
 
 -- the latest ticket by these entries is that of the pass, where it has done these commands. They stand newest first
@@ -51,10 +52,6 @@ knows_of_later n old new count g k =
 
 -- an await decides the ticket of its pass, and teaches its reader
 
-decides_latest : (g : Group) (number : ℕ) (latest : Option ℕ) (t : ℕ) (before : List Made) (was : List ℕ) (after : List Made) (now : List ℕ) → latest ≡ Some t → Awaits latest g number before was after now → IsDecided t (past_in after)
-decides_latest g number None t before was after now is a = absurd cc
-decides_latest g number (Some u) t before was after now is a = let same : u ≡ t = cc is in subst (λ (n : ℕ). IsDecided n (past_in after)) same a.3
-
 legal_within : (g : Group) (xs ys : List Made) → IsPrefix xs ys → IsLegal g (past_in ys) → IsLegal g (past_in xs)
 legal_within g xs ys p legal = legal_before g (past_in p.0) (past_in xs) (subst (IsLegal g) (past_later xs ys p) legal)
 
@@ -70,7 +67,7 @@ knows_awaited groups lines n (Await m) old new front t legal p is here d latest 
     let entered : Awaits (latest_in (front_at old.fronts n) (mine_at old.mines n)) (groups n) old.number (front_at old.fronts n) (mine_at old.mines n) (front_at new.fronts n) (mine_at new.mines n) =
     subst (λ (k : ℕ). Awaits (latest_in (front_at old.fronts k) (mine_at old.mines k)) (groups k) old.number (front_at old.fronts k) (mine_at old.mines k) (front_at new.fronts k) (mine_at new.mines k)) here d.done.entered in
     knows_decided (groups n) n new front t legal p (subst (IsTaught new) here d.done.taught)
-    (decides_latest (groups n) old.number (latest_in (front_at old.fronts n) (mine_at old.mines n)) t (front_at old.fronts n) (mine_at old.mines n) (front_at new.fronts n) (mine_at new.mines n) latest entered)
+    (awaited_decides (groups n) old.number (latest_in (front_at old.fronts n) (mine_at old.mines n)) t (front_at old.fronts n) (mine_at old.mines n) (front_at new.fronts n) (mine_at new.mines n) latest entered)
 knows_awaited groups lines n (Propose m rows) old new front t legal p is here d latest = absurd cc
 knows_awaited groups lines n (Settle m rounds) old new front t legal p is here d latest = absurd cc
 knows_awaited groups lines n (Lock m entity prio) old new front t legal p is here d latest = absurd cc
@@ -80,14 +77,6 @@ knows_awaited groups lines n (ReadAt m asked entity var) old new front t legal p
 knows_awaited groups lines n (Fail m entity health rows) old new front t legal p is here d latest = absurd cc
 knows_awaited groups lines n (Poll m entity) old new front t legal p is here d latest = absurd cc
 
--- what holds of the tickets awaited before, and of the one that is awaited now, if there is one
-one_more : (P : ℕ → Type 0) (waits here : Bool) (latest : Option ℕ) (tickets : List ℕ) → All P tickets → (waits ≡ true → here ≡ true → (t : ℕ) → latest ≡ Some t → P t)
-    → All P (if waits then (if here then with_ticket latest tickets else tickets) else tickets)
-one_more P false here latest tickets all one = all
-one_more P true false latest tickets all one = all
-one_more P true true None tickets all one = all
-one_more P true true (Some t) tickets all one = All-cons P t tickets (one refl refl t refl) all
-
 -- at each moment of a chain a pass knows of what was accepted up to the tickets that it awaited
 knows_all : (groups : ℕ → Group) (lines : ℕ → List WireLine) (app : AppId) (n : ℕ) (entries : List Entry) (front : List Made) (start last : Holder)
     → IsLegal (groups n) (past_in front) → IsPrefix (front_at last.fronts n) front → TellsLatest groups lines app n entries start last
@@ -96,7 +85,7 @@ knows_all groups lines app n entries front start last legal p tells =
     stays_along groups lines (λ before h. All (λ t. KnowsOf n h (accepted_up_to t (past_in front))) (awaited_by app n entries before)) start last
     (λ before act behind old new d does e all.
     let begins = prefix_trans (front_at new.fronts n) (front_at last.fronts n) front (goes_front n new last (did_goes groups lines n behind new last e)) p in
-    one_more (λ t. KnowsOf n new (accepted_up_to t (past_in front))) (is_await act) (group_number act == n) (latest_ticket app n entries before) (awaited_by app n entries before)
+    adds_ticket (λ t. KnowsOf n new (accepted_up_to t (past_in front))) (is_await act) (group_number act == n) (latest_ticket app n entries before) (awaited_by app n entries before)
     (All-weaker (λ t. KnowsOf n old (accepted_up_to t (past_in front))) (λ t. KnowsOf n new (accepted_up_to t (past_in front)))
     (λ t k. knows_of_later n old new (accepted_up_to t (past_in front)) (does_goes groups lines n act old new does) k) (awaited_by app n entries before) all)
     (λ waits here t told. knows_awaited groups lines n act old new front t legal begins waits (equal_numbers (group_number act) n here) does (tells before (act ∷ behind) old t d (new, does, e) told)))

@@ -98,7 +98,7 @@ went_first groups lines acts k a b w = record {
 
 -- a command
 
-grows_few : (most : ℕ) (before : List Made) (was : List ℕ) (after : List Made) (now : List ℕ) → Grows most before was after now → length now ≤ length was + most
+pub grows_few : (most : ℕ) (before : List Made) (was : List ℕ) (after : List Made) (now : List ℕ) → Grows most before was after now → length now ≤ length was + most
 grows_few most before was after now g = omega (arith, ap length g.1.1 ∙ length-append was g.1.0, g.1.2)
 
 few_one : (groups : ℕ → Group) (lines : ℕ → List WireLine) (act : Act) (old new : Holder) → Kept old new (group_number act) (act_share act (groups (group_number act)) (lines (group_number act)))

@@ -29,11 +29,11 @@ use Rattle.st_service.specs.Puts.{Puts, Enters}
 use Rattle.st_service.specs.Turns.{Turns, ToFull, RoundOf, RoundsMade}
 use Rattle.st_service.specs.Works.{part_of}
 
-within_wider : (lo hi low high : ℕ) (ns : List ℕ) → low ≤ lo → hi ≤ high → AllWithin lo hi ns → AllWithin low high ns
+pub within_wider : (lo hi low high : ℕ) (ns : List ℕ) → low ≤ lo → hi ≤ high → AllWithin lo hi ns → AllWithin low high ns
 within_wider lo hi low high [] a b w = tt
 within_wider lo hi low high (n ∷ ns) a b w = (omega (arith, w.0, a), omega (arith, w.1, b), within_wider lo hi low high ns a b w.2)
 
-within_both : (lo hi : ℕ) (ms ns : List ℕ) → AllWithin lo hi ms → AllWithin lo hi ns → AllWithin lo hi (ms ++ ns)
+pub within_both : (lo hi : ℕ) (ms ns : List ℕ) → AllWithin lo hi ms → AllWithin lo hi ns → AllWithin lo hi (ms ++ ns)
 within_both lo hi [] ns v w = w
 within_both lo hi (m ∷ ms) ns v w = (v.0, v.1, within_both lo hi ms ns v.2 w)
 

@@ -25,11 +25,11 @@ each_equal f g (suc n) le e (suc k) lt =
     let r = sum_le (λ k. f (suc k)) (λ k. g (suc k)) n (λ k lt. le (suc k) (omega (arith, lt))) in
     each_equal (λ k. f (suc k)) (λ k. g (suc k)) n (λ k lt. le (suc k) (omega (arith, lt))) (omega (arith, a, r, e)) k (omega (arith, lt))
 
-sum_add : (f g : ℕ → ℕ) (n : ℕ) → sum_to (λ k. f k + g k) n ≡ sum_to f n + sum_to g n
+pub sum_add : (f g : ℕ → ℕ) (n : ℕ) → sum_to (λ k. f k + g k) n ≡ sum_to f n + sum_to g n
 sum_add f g zero = refl
 sum_add f g (suc n) = let r = sum_add (λ k. f (suc k)) (λ k. g (suc k)) n in omega (arith, r)
 
-sum_none : (n : ℕ) → sum_to (λ k. 0) n ≡ 0
+pub sum_none : (n : ℕ) → sum_to (λ k. 0) n ≡ 0
 sum_none zero = refl
 sum_none (suc n) = let r = sum_none n in omega (arith, r)
 

@@ -32,15 +32,15 @@ use Rattle.st_service.specs.Works.{IsGiven}
 
 -- a reply that gives no ticket
 
-if_none : (b : Bool) (r s : Reply) → ticket_in r ≡ None → ticket_in s ≡ None → ticket_in (if b then r else s) ≡ None
+pub if_none : (b : Bool) (r s : Reply) → ticket_in r ≡ None → ticket_in s ≡ None → ticket_in (if b then r else s) ≡ None
 if_none true r s p q = p
 if_none false r s p q = q
 
-check_none : (g : Group) (past : List Entry) (queue : List Proposal) → ticket_in (check_reply g past queue) ≡ None
+pub check_none : (g : Group) (past : List Entry) (queue : List Proposal) → ticket_in (check_reply g past queue) ≡ None
 check_none g past [] = refl
 check_none g past (p ∷ ps) = refl
 
-lock_none : (app : AppId) (o : Option AppId) → ticket_in (lock_reply app o) ≡ None
+pub lock_none : (app : AppId) (o : Option AppId) → ticket_in (lock_reply app o) ≡ None
 lock_none app None = refl
 lock_none app (Some a) = if_none (is_free_for app (Some a)) Granted (Held a) refl refl
 
@@ -48,15 +48,15 @@ blocked_none : (lack : Option Lack) (row : Row) (sent : ℕ) → ticket_in (bloc
 blocked_none (Some lack) row sent = refl
 blocked_none None row sent = refl
 
-deliver_none : (fence : Entity → ℕ) (sent : ℕ) (o : Option Command) → ticket_in (deliver_reply fence sent o) ≡ None
+pub deliver_none : (fence : Entity → ℕ) (sent : ℕ) (o : Option Command) → ticket_in (deliver_reply fence sent o) ≡ None
 deliver_none fence sent None = refl
 deliver_none fence sent (Some c) = if_none (nat_lt (fence c.entity) c.stamp) Begun (Stale (fence c.entity)) refl refl
 
-hear_none : (observed : Entity → Report) (made : ℕ) (o : Option Report) → ticket_in (hear_reply observed made o) ≡ None
+pub hear_none : (observed : Entity → Report) (made : ℕ) (o : Option Report) → ticket_in (hear_reply observed made o) ≡ None
 hear_none observed made None = refl
 hear_none observed made (Some r) = if_none (nat_lt (observed r.entity).number r.number) Taken (Old (observed r.entity).number) refl refl
 
-send_none : (g : Group) (past : List Entry) (e : Entity) → ticket_in (reply g past (Send e)) ≡ None
+pub send_none : (g : Group) (past : List Entry) (e : Entity) → ticket_in (reply g past (Send e)) ≡ None
 send_none g past e =
     let v = governing e (observed g past e).vals (target g past e) in
     let row = row_to e v (target g past e) in

@@ -16,11 +16,11 @@ or_none : (o : Option ℕ) → option_or o None ≡ o
 or_none (Some n) = refl
 or_none None = refl
 
-or_assoc : (a b c : Option ℕ) → option_or (option_or a b) c ≡ option_or a (option_or b c)
+pub or_assoc : (a b c : Option ℕ) → option_or (option_or a b) c ≡ option_or a (option_or b c)
 or_assoc (Some n) b c = refl
 or_assoc None b c = refl
 
-get_left : (xs ys : List Made) (n : ℕ) → n < length xs → slice_get (xs ++ ys) n ≡ slice_get xs n
+pub get_left : (xs ys : List Made) (n : ℕ) → n < length xs → slice_get (xs ++ ys) n ≡ slice_get xs n
 get_left [] ys n lt = absurd (omega (arith, lt))
 get_left (x ∷ xs) ys zero lt = refl
 get_left (x ∷ xs) ys (suc n) lt = get_left xs ys n (omega (arith, lt))
