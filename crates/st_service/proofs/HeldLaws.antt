@@ -1,6 +1,6 @@
 -- What a pass can rely on after a hold of a room's lock: a legal journal, a reader that has all that it accepts, and units for what it made.
 use Rattle.std.proofs.Common.{◌≡◌, ℕ, ◌+◌, ◌<◌, inl, inr, List, length, ap, sym, subst, arith, length-append}
-use Rattle.std.specs.Prelude.{Bool, Result, Ok, Err, OnOk, OnErr}
+use Rattle.std.specs.Prelude.{Bool, Result, Ok, Err, IfOk, OnOk, OnErr}
 use mathlib.Core.List.{IsPrefix}
 use Rattle.st_net.specs.declared.entity.Row.{Row}
 use Rattle.st_net.specs.Groups.{Group}
@@ -18,9 +18,10 @@ use Rattle.st_service.proofs.Lines.{length_numbers}
 pub legal_taught : (g h : Group) (front : List Made) (past : List Entry) → past_in front ≡ past → h ≡ g → IsLegal h past → IsLegal g (past_in front)
 legal_taught g h front past is same legal = subst (λ (xs : List Entry). IsLegal g xs) (sym is) (subst (λ (k : Group). IsLegal k past) same legal)
 
--- a reader that has what is published has all that the front accepts
-pub reads_taught : (front : List Made) (past : List Entry) (note reader : List (List Row)) → past_in front ≡ past → note ≡ accepted past → IsPrefix note reader → IsPrefix (accepted (past_in front)) reader
-reads_taught front past note reader is whole begins = subst (λ (xs : List Entry). IsPrefix (accepted xs) reader) (sym is) (subst (λ (ps : List (List Row)). IsPrefix ps reader) whole begins)
+-- a reader that has what a journal accepts has all that its front accepts
+pub reads_taught : {T E : Type 0} (r : Result T E) (front : List Made) (past : List Entry) (reader : List (List Row)) → past_in front ≡ past → OnOk r (IsPrefix (accepted past) reader) → IfOk r (λ _. IsPrefix (accepted (past_in front)) reader)
+reads_taught (Ok x) front past reader is begins = subst (λ (xs : List Entry). IsPrefix (accepted xs) reader) (sym is) begins
+reads_taught (Err error) front past reader is begins = tt
 
 -- the units that were handed over are those of the places that were added
 pub puts_share : (number : ℕ) (es : List Entry) (mid before : List Made) (was : List ℕ) (after : List Made) (now : List ℕ) (old new : ℕ) → Puts number es mid before was after now → new ≡ old + length es → new + length was ≡ old + length now
@@ -32,15 +33,14 @@ pub on_err : {T E P : Type 0} (r : Result T E) → P → OnErr r P
 on_err (Ok x) h = tt
 on_err (Err e) h = h
 
--- and of one that is no such answer
-pub ok_open : {T E P : Type 0} (r : Result T E) (x : T) → r ≡ Ok x → OnOk r P → P
-ok_open (Ok y) x is h = h
-ok_open (Err e) x is h = absurd cc
-
 -- where it is known anyway, whatever the answer
 pub on_any : {T E P : Type 0} (r : Result T E) → P → OnOk r P
 on_any (Ok x) h = h
 on_any (Err e) h = tt
+
+pub if_any : {T E P : Type 0} (r : Result T E) → P → IfOk r (λ _. P)
+if_any (Ok x) h = h
+if_any (Err e) h = tt
 
 -- a room that is open is not shut
 pub open_not_shut : (lost : Bool) (room : RoomView) → IsOpen lost room → IsShut lost room → ⊥

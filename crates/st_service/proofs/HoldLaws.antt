@@ -1,6 +1,6 @@
 -- What one hold of a room's lock leaves.
 use Rattle.std.proofs.Common.{◌≡◌, ℕ, zero, suc, ◌+◌, ◌≤◌, true, List, [], ◌∷◌, ◌++◌, length, map, refl, ap, sym, subst, ◌∙◌, arith, length-append}
-use Rattle.std.specs.Prelude.{reverse, Result, Ok, IfOk}
+use Rattle.std.specs.Prelude.{reverse, Result, Ok, Err, IfOk}
 use Rattle.std.proofs.lemmas.List.{append-nil, map-append, reverse-append, reverse-reverse, length-reverse, length-map}
 use mathlib.Core.List.{IsPrefix}
 use Rattle.st_net.proofs.Tests.{both}
@@ -100,14 +100,13 @@ held number most from old new es mid before was got after now kept a at since sa
       line = line_goes number most old new es mid after t kept p.1;
     }
 
--- a hold whose course was entered, or met a full journal
-pub enters_all : {E : Type 0} (r : Result Going E) (going : Going) (course : List Entry → Run) (number most : ℕ) (old new es : List Entry) (mid before : List Made) (was : List ℕ) (after : List Made) (now : List ℕ) → r ≡ Ok going
+-- a hold whose course was entered, or met a full journal, by its answer
+pub enters_all : {E : Type 0} (r : Result Going E) (course : List Entry → Run) (number most : ℕ) (old new es : List Entry) (mid before : List Made) (was : List ℕ) (after : List Made) (now : List ℕ)
     → IfOk r (λ s. course old ≡ record { past = new; stopped = is_full s }) → IfOk r (λ s. is_full s ≡ true → length new ≡ MAX_ENTRIES)
-    → Taken number most old new es → past_in mid ≡ old → Puts number es mid before was after now → Enters course going number mid before was after now
-enters_all r going course number most old new es mid before was after now is ok full t kept p =
+    → Taken number most old new es → past_in mid ≡ old → Puts number es mid before was after now → IfOk r (λ s. Enters course s number mid before was after now)
+enters_all (Err error) course number most old new es mid before was after now run limit t kept p = tt
+enters_all (Ok going) course number most old new es mid before was after now run limit t kept p =
     let past : past_in after ≡ new = line_goes number most old new es mid after t kept p.1 in
-    let run : course old ≡ record { past = new; stopped = is_full going } = subst (λ (q : Result Going _). IfOk q (λ s. course old ≡ record { past = new; stopped = is_full s })) is ok in
-    let limit : is_full going ≡ true → length new ≡ MAX_ENTRIES = subst (λ (q : Result Going _). IfOk q (λ s. is_full s ≡ true → length new ≡ MAX_ENTRIES)) is full in
     record {
       entries = es;
       puts = p;

@@ -40,3 +40,7 @@ pub kept_place : {X : Type 0} (log : X → List Made) (mine : X → List ℕ) (r
 kept_place log mine reader number lines more ps i most x y h view lt at grows reads =
     let there : i < length ps = omega (arith, lt, ap (λ (p : Holder). length p.fronts) view, length-map ps log) in
     subst (λ (p : Holder). Kept p (holder log mine reader number (set ps i y) more) i most) view (kept_set log mine reader number lines more ps i most x y there at grows reads)
+
+-- and of which the log alone is another
+pub kept_logged : (a b : Holder) (g most : ℕ) (lines : List LogEntry) → Kept a b g most → Kept a (record b { log = lines }) g most
+kept_logged a b g most lines k = record { number = k.number; rooms = k.rooms; others = k.others; grows = k.grows; readers = k.readers }

@@ -110,9 +110,7 @@ impl<J: Naming, L: Ledger, H: Wait + Drop> Locked<J, L, H> {
             self.lost = true;
             return Err(AllocError);
         }
-        let going = going?;
-        place.reader.learn(&self.room.note(), self.room.target());
-        Ok(going)
+        self.room.tell(&mut place.reader, going)
     }
 
     /// Teaches a pass the journal and what is published.

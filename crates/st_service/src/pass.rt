@@ -169,6 +169,24 @@ impl<J: Naming, L: Ledger> Pass<J, L> {
         room.unsettled(&mut self.places[room.group])
     }
 
+    /// What is seen of a variable at a version of the target, by a room that is lent to it.
+    fn seen_in<H: Wait + Drop>(
+        &mut self,
+        room: &Locked<J, L, H>,
+        version: u32,
+        entity: Entity,
+        var: Var,
+    ) -> Result<LogSaw, AllocError>
+        requires room { room.now.group < length self.old.fronts }
+        requires fits { IsEntityOf (J.group room.now.group) entity }
+        ensures kept { Kept self.old self.new room.now.group 0 }
+        ensures log { self.new.log ≡ self.old.log }
+        ensures saw { IfOk result (λ saw. saw ≡ seen_at_lem (record { group = J.group room.now.group; past = past_in (front_at self.new.fronts room.now.group) }) version entity var) }
+        ensures reads { IfOk result (λ _. IsTaught self.new room.now.group) }
+    {
+        room.seen_at(&mut self.places[room.group], version, entity, var)
+    }
+
     /// Logs a variable's value at a version, or that there is none, by a room that is lent to it.
     pub(crate) fn read_at_in<H: Wait + Drop>(
         &mut self,
@@ -184,7 +202,7 @@ impl<J: Naming, L: Ledger> Pass<J, L> {
         ensures reads { OnOk result (IsTaught self.new room.now.group) }
         ensures err { OnErr result (self.new.log ≡ self.old.log) }
     {
-        let saw = room.seen_at(&mut self.places[room.group], version, entity, var)?;
+        let saw = self.seen_in(room, version, entity, var)?;
         self.log.add(LogEntry {
             group: room.group as u32,
             entity,

@@ -2,6 +2,7 @@
 //! entered here.
 
 ghost use Rattle.std.specs.Prelude.{ℕ, ◌≡◌, ◌<◌, ◌≤◌, ◌++◌, List, [], true, false, IfOk, IsErr, OnOk, OnErr, is_some, length, reverse};
+ghost use mathlib.Core.List.{IsPrefix};
 ghost use Rattle.st_event.specs.declared.journal.Entry.{Entry as entry};
 ghost use Rattle.st_net.specs.Groups.{IsEntityOf};
 ghost use Rattle.st_net.specs.Numbered.{nth};
@@ -18,7 +19,7 @@ ghost use Rattle.st_service.specs.Shares.{work_share};
 ghost use Rattle.st_service.specs.Works.{MayDo, WorkFits, check_course, course_at, decides, is_decided as is_decided_lem};
 
 use crate::work::{Part, Work};
-use st_board::{Board, Held, Note};
+use st_board::{Board, Held, Note, TargetReader};
 use st_control::{Begin, Judged};
 use st_event::{Act, Entry, LogSaw, MAX_ENTRIES, Rows};
 use st_net::{AppId, Entity, Var};
@@ -229,6 +230,25 @@ impl<H: Wait + Drop> Room<H> {
         ensures { IsMergeOf self.now.published.group self.now.published.proposals result.now }
     {
         self.world.control().store().target()
+    }
+
+    /// Teaches a reader what is published, unless memory was refused, and hands the answer on.
+    pub fn tell(
+        &self,
+        reader: &mut TargetReader,
+        going: Result<Going, AllocError>,
+    ) -> Result<Going, AllocError>
+        requires book { reader.old.book ≡ self.now.published.book }
+        requires open { OnOk going (self.now.spent ≡ false) }
+        ensures same { result ≡ going }
+        ensures board { (reader.new.book ≡ reader.old.book) × (reader.new.group ≡ reader.old.group) }
+        ensures later { IsPrefix reader.old.proposals reader.new.proposals }
+        ensures reads { OnOk result (IsPrefix (accepted self.now.history.past) reader.new.proposals) }
+    {
+        if going.is_ok() {
+            reader.learn(&self.note(), self.target());
+        }
+        going
     }
 
     /// Whether a publication was refused.

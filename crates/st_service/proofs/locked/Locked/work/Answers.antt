@@ -1,20 +1,23 @@
-use Rattle.std.proofs.Common.{◌≡◌, ◌+◌, ℕ, List, false, inl, inr, length, refl, ap, sym, subst, ◌∙◌, arith, length-append}
+use Rattle.std.proofs.Common.{◌≡◌, ◌+◌, ℕ, List, inl, inr, length, refl, ap, sym, subst, ◌∙◌, arith, length-append}
+use Rattle.std.specs.Prelude.{IfOk, IsErr, Result}
 use Rattle.std.proofs.lemmas.Result.{IfOk-from_err}
 use mathlib.Core.List.{IsPrefix}
 use Rattle.st_net.specs.Groups.{Group}
 use Rattle.st_event.specs.declared.journal.Entry.{Entry}
 use Rattle.st_event.specs.Legal.{IsLegal}
 use Rattle.st_event.proofs.Accepting.{legal_within}
-use Rattle.st_board.specs.Published.{Published, IsMergeOf}
+use Rattle.st_board.specs.Published.{Published}
+use Rattle.st_world.specs.declared.world.rounds.Going.{Going}
 use Rattle.st_board.proofs.Prefixes.{prefix_self}
 use Rattle.st_service.specs.declared.place.Place.{Place}
 use Rattle.st_service.specs.Lines.{flat}
 use Rattle.st_service.specs.Made.{IsMine, past_in}
+use Rattle.st_service.specs.Puts.{Enters}
 use Rattle.st_service.specs.Shares.{work_share}
 use Rattle.st_service.specs.Tickets.{latest_in}
 use Rattle.st_service.specs.Works.{MayDo, WorkFits, course_at}
 use Rattle.st_service.proofs.HoldLaws.{taken, held, enters_all, enters_part, puts_grows, look_grows, length_past}
-use Rattle.st_service.proofs.HeldLaws.{legal_taught, reads_taught, puts_share, on_err, ok_open, open_not_shut, lacks}
+use Rattle.st_service.proofs.HeldLaws.{if_any, legal_taught, reads_taught, puts_share, on_any, on_err, open_not_shut, lacks}
 use Rattle.st_service.proofs.OffLockLaws.{may_later}
 use Rattle.st_service.proofs.locked.Locked.work.Goals as goal
 
@@ -303,157 +306,6 @@ invariant_of-self-else-not-take_in g c =
       left = λ ok. left;
     }
 
-pub returns-in_err-going-clause-group : goal.returns-in_err-going-clause-group
-returns-in_err-going-clause-group g c = refl
-
-pub returns-in_err-going-clause-place : goal.returns-in_err-going-clause-place
-returns-in_err-going-clause-place g c = (c.take_in.ensures.place.0, c.take_in.ensures.place.1)
-
-pub returns-in_err-going-clause-share : goal.returns-in_err-going-clause-share
-returns-in_err-going-clause-share g c =
-    let room = c.args.self.now in
-    let place = c.args.place.now in
-    let old = room.room.history in
-    let new = c.work-going.new.self.history in
-    let es = c.since-entries.result.now in
-    let most = work_share c.args.work old.group room.room.lines in
-    let q = c.take_in.new.place in
-    let h = held place.number most c.count-from.result old.past new.past es (flat room.makers.seen.log) (flat place.seen.log) place.mine.items c.reserve.new.self.items (flat q.seen.log) q.mine.items
-    (room.kept c.if-is_shut_to.ensures.0) c.work-going.ensures.adds c.count-from.ensures.count c.since-entries.ensures c.reserve.ensures.items c.if-not-take_in.ensures.puts in
-    (c.take_in.ensures.parts, puts_share place.number es (flat room.makers.seen.log) (flat place.seen.log) place.mine.items (flat q.seen.log) q.mine.items c.args.share.now.amount c.take_in.new.share.amount h.puts c.if-not-take_in.ensures.units.1)
-
-pub returns-in_err-going-clause-journal : goal.returns-in_err-going-clause-journal
-returns-in_err-going-clause-journal g c = IfOk-from_err c.from_residual-in_err-going.result _ c.from_residual-in_err-going.ensures.0
-
-pub returns-in_err-going-clause-open : goal.returns-in_err-going-clause-open
-returns-in_err-going-clause-open g c = IfOk-from_err c.from_residual-in_err-going.result _ c.from_residual-in_err-going.ensures.0
-
-pub returns-in_err-going-clause-shut : goal.returns-in_err-going-clause-shut
-returns-in_err-going-clause-shut g c = λ shut. absurd (open_not_shut c.args.self.now.lost c.args.self.now.room (c.if-is_shut_to.ensures.0, c.if-is_shut_to.ensures.1) shut)
-
-pub returns-in_err-going-clause-spent : goal.returns-in_err-going-clause-spent
-returns-in_err-going-clause-spent g c = λ was is. ((c.work-going.ensures.spent is).0, c.from_residual-in_err-going.ensures.0)
-
-pub returns-in_err-going-clause-lost : goal.returns-in_err-going-clause-lost
-returns-in_err-going-clause-lost g c = λ was is. absurd (cc (was, is))
-
-pub returns-in_err-going-clause-grows : goal.returns-in_err-going-clause-grows
-returns-in_err-going-clause-grows g c =
-    let room = c.args.self.now in
-    let place = c.args.place.now in
-    let old = room.room.history in
-    let new = c.work-going.new.self.history in
-    let es = c.since-entries.result.now in
-    let most = work_share c.args.work old.group room.room.lines in
-    let q = c.take_in.new.place in
-    let h = held place.number most c.count-from.result old.past new.past es (flat room.makers.seen.log) (flat place.seen.log) place.mine.items c.reserve.new.self.items (flat q.seen.log) q.mine.items
-    (room.kept c.if-is_shut_to.ensures.0) c.work-going.ensures.adds c.count-from.ensures.count c.since-entries.ensures c.reserve.ensures.items c.if-not-take_in.ensures.puts in
-    rw (← room.group_is, ← room.lines_are) (puts_grows place.number most es (flat room.makers.seen.log) (flat place.seen.log) place.mine.items (flat q.seen.log) q.mine.items h.taken.few h.puts)
-
-pub returns-in_err-going-clause-legal : goal.returns-in_err-going-clause-legal
-returns-in_err-going-clause-legal g c =
-    let room = c.args.self.now in
-    let place = c.args.place.now in
-    let old = room.room.history in
-    let new = c.work-going.new.self.history in
-    let es = c.since-entries.result.now in
-    let most = work_share c.args.work old.group room.room.lines in
-    let q = c.take_in.new.place in
-    let h = held place.number most c.count-from.result old.past new.past es (flat room.makers.seen.log) (flat place.seen.log) place.mine.items c.reserve.new.self.items (flat q.seen.log) q.mine.items
-    (room.kept c.if-is_shut_to.ensures.0) c.work-going.ensures.adds c.count-from.ensures.count c.since-entries.ensures c.reserve.ensures.items c.if-not-take_in.ensures.puts in
-    λ _. legal_taught (g.J.Naming.group room.group) new.group (flat q.seen.log) new.past h.line (c.work-going.ensures.room.group ∙ room.group_is) c.is_legal.ensures
-
-pub returns-in_err-going-clause-entered : goal.returns-in_err-going-clause-entered
-returns-in_err-going-clause-entered g c = IfOk-from_err c.from_residual-in_err-going.result _ c.from_residual-in_err-going.ensures.0
-
-pub returns-in_err-going-clause-refused : goal.returns-in_err-going-clause-refused
-returns-in_err-going-clause-refused g c =
-    let room = c.args.self.now in
-    let place = c.args.place.now in
-    let old = room.room.history in
-    let new = c.work-going.new.self.history in
-    let es = c.since-entries.result.now in
-    let most = work_share c.args.work old.group room.room.lines in
-    let q = c.take_in.new.place in
-    let h = held place.number most c.count-from.result old.past new.past es (flat room.makers.seen.log) (flat place.seen.log) place.mine.items c.reserve.new.self.items (flat q.seen.log) q.mine.items
-    (room.kept c.if-is_shut_to.ensures.0) c.work-going.ensures.adds c.count-from.ensures.count c.since-entries.ensures c.reserve.ensures.items c.if-not-take_in.ensures.puts in
-    let course : List Entry → _ = course_at place.number c.args.work old.group room.room.lines in
-    on_err c.from_residual-in_err-going.result (inr (rw (← room.group_is, ← room.lines_are) (enters_part course place.number most old.past new.past es (flat room.makers.seen.log) (flat place.seen.log) place.mine.items (flat q.seen.log) q.mine.items c.work-going.ensures.part h.taken (room.kept c.if-is_shut_to.ensures.0) h.puts)))
-
-pub returns-in_err-going-clause-reader : goal.returns-in_err-going-clause-reader
-returns-in_err-going-clause-reader g c = subst (λ (r : Published). IsPrefix c.args.place.now.reader.proposals r.proposals) (sym c.take_in.ensures.place.2) (prefix_self c.args.place.now.reader.proposals)
-
-pub returns-in_err-going-clause-reads : goal.returns-in_err-going-clause-reads
-returns-in_err-going-clause-reads g c = IfOk-from_err c.from_residual-in_err-going.result _ c.from_residual-in_err-going.ensures.0
-
-pub invariant_of-self-2 : goal.invariant_of-self-2
-invariant_of-self-2 g c =
-    let room = c.args.self.now in
-    let place = c.args.place.now in
-    let old = room.room.history in
-    let new = c.work-going.new.self.history in
-    let es = c.since-entries.result.now in
-    let most = work_share c.args.work old.group room.room.lines in
-    let q = c.take_in.new.place in
-    let h = held place.number most c.count-from.result old.past new.past es (flat room.makers.seen.log) (flat place.seen.log) place.mine.items c.reserve.new.self.items (flat q.seen.log) q.mine.items
-    (room.kept c.if-is_shut_to.ensures.0) c.work-going.ensures.adds c.count-from.ensures.count c.since-entries.ensures c.reserve.ensures.items c.if-not-take_in.ensures.puts in
-    let left : c.take_in.new.self.units.amount + length new.past ≡ 200000 = omega (arith, c.if-not-take_in.ensures.units.0, room.left c.if-is_shut_to.ensures.0, h.taken.count) in
-    record {
-      of_group = c.take_in.ensures.group ∙ room.of_group;
-      group_is = c.work-going.ensures.room.group ∙ room.group_is;
-      lines_are = c.work-going.ensures.room.lines ∙ room.lines_are;
-      board_is = c.work-going.ensures.room.board ∙ room.board_is;
-      kept = λ ok. ap (λ l. past_in (flat l)) (sym c.if-not-take_in.ensures.journal) ∙ h.line;
-      left = λ ok. left;
-    }
-
-pub target-requires : goal.target-requires
-target-requires g c =
-    let still_open : c.work-going.new.self.spent ≡ false = ok_open c.work-going.result c.in_ok-going.going c.in_ok-going.was c.work-going.ensures.open in
-    still_open
-
-pub learn-requires-clause-book : goal.learn-requires-clause-book
-learn-requires-clause-book g c =
-    let room = c.args.self.now in
-    let place = c.args.place.now in
-    ap (λ (p : Published). p.book) c.note.ensures.published ∙ (c.work-going.ensures.room.board ∙ (room.board_is ∙ (ap g.J.Naming.board (sym c.requires.group) ∙ (sym place.reads ∙ ap (λ (p : Published). p.book) (sym c.take_in.ensures.place.2)))))
-
-pub learn-requires-clause-target : goal.learn-requires-clause-target
-learn-requires-clause-target g c = subst (λ (p : Published). IsMergeOf p.group p.proposals c.target.result.now) (sym c.note.ensures.published) c.target.ensures
-
-pub invariant_of-place-2 : goal.invariant_of-place-2
-invariant_of-place-2 g c =
-    let q = c.take_in.new.place in
-    record {
-      named = q.named;
-      counted = q.counted;
-      made = q.made;
-      asked = q.asked;
-      reads = c.learn-2.ensures.book ∙ q.reads;
-      reads_group = c.learn-2.ensures.group ∙ q.reads_group;
-    }
-
-pub invariant_of-self-3 : goal.invariant_of-self-3
-invariant_of-self-3 g c =
-    let room = c.args.self.now in
-    let place = c.args.place.now in
-    let old = room.room.history in
-    let new = c.work-going.new.self.history in
-    let es = c.since-entries.result.now in
-    let most = work_share c.args.work old.group room.room.lines in
-    let q = c.take_in.new.place in
-    let h = held place.number most c.count-from.result old.past new.past es (flat room.makers.seen.log) (flat place.seen.log) place.mine.items c.reserve.new.self.items (flat q.seen.log) q.mine.items
-    (room.kept c.if-is_shut_to.ensures.0) c.work-going.ensures.adds c.count-from.ensures.count c.since-entries.ensures c.reserve.ensures.items c.if-not-take_in.ensures.puts in
-    let left : c.take_in.new.self.units.amount + length new.past ≡ 200000 = omega (arith, c.if-not-take_in.ensures.units.0, room.left c.if-is_shut_to.ensures.0, h.taken.count) in
-    record {
-      of_group = c.take_in.ensures.group ∙ room.of_group;
-      group_is = c.work-going.ensures.room.group ∙ room.group_is;
-      lines_are = c.work-going.ensures.room.lines ∙ room.lines_are;
-      board_is = c.work-going.ensures.room.board ∙ room.board_is;
-      kept = λ ok. ap (λ l. past_in (flat l)) (sym c.if-not-take_in.ensures.journal) ∙ h.line;
-      left = λ ok. left;
-    }
-
 pub returns-clause-group : goal.returns-clause-group
 returns-clause-group g c = refl
 
@@ -473,29 +325,8 @@ returns-clause-share g c =
     (room.kept c.if-is_shut_to.ensures.0) c.work-going.ensures.adds c.count-from.ensures.count c.since-entries.ensures c.reserve.ensures.items c.if-not-take_in.ensures.puts in
     (c.take_in.ensures.parts, puts_share place.number es (flat room.makers.seen.log) (flat place.seen.log) place.mine.items (flat q.seen.log) q.mine.items c.args.share.now.amount c.take_in.new.share.amount h.puts c.if-not-take_in.ensures.units.1)
 
-pub returns-clause-journal : goal.returns-clause-journal
-returns-clause-journal g c =
-    let room = c.args.self.now in
-    let place = c.args.place.now in
-    let old = room.room.history in
-    let new = c.work-going.new.self.history in
-    let es = c.since-entries.result.now in
-    let most = work_share c.args.work old.group room.room.lines in
-    let q = c.take_in.new.place in
-    let h = held place.number most c.count-from.result old.past new.past es (flat room.makers.seen.log) (flat place.seen.log) place.mine.items c.reserve.new.self.items (flat q.seen.log) q.mine.items
-    (room.kept c.if-is_shut_to.ensures.0) c.work-going.ensures.adds c.count-from.ensures.count c.since-entries.ensures c.reserve.ensures.items c.if-not-take_in.ensures.puts in
-    h.line
-
-pub returns-clause-open : goal.returns-clause-open
-returns-clause-open g c = (c.if-is_shut_to.ensures.0, c.if-is_shut_to.ensures.1)
-
 pub returns-clause-shut : goal.returns-clause-shut
 returns-clause-shut g c = λ shut. absurd (open_not_shut c.args.self.now.lost c.args.self.now.room (c.if-is_shut_to.ensures.0, c.if-is_shut_to.ensures.1) shut)
-
-pub returns-clause-spent : goal.returns-clause-spent
-returns-clause-spent g c =
-    let still_open : c.work-going.new.self.spent ≡ false = ok_open c.work-going.result c.in_ok-going.going c.in_ok-going.was c.work-going.ensures.open in
-    λ was is. absurd (cc (still_open, is))
 
 pub returns-clause-lost : goal.returns-clause-lost
 returns-clause-lost g c = λ was is. absurd (cc (was, is))
@@ -526,6 +357,72 @@ returns-clause-legal g c =
     (room.kept c.if-is_shut_to.ensures.0) c.work-going.ensures.adds c.count-from.ensures.count c.since-entries.ensures c.reserve.ensures.items c.if-not-take_in.ensures.puts in
     λ _. legal_taught (g.J.Naming.group room.group) new.group (flat q.seen.log) new.past h.line (c.work-going.ensures.room.group ∙ room.group_is) c.is_legal.ensures
 
+pub tell-requires-clause-book : goal.tell-requires-clause-book
+tell-requires-clause-book g c =
+    let room = c.args.self.now in
+    let place = c.args.place.now in
+    ap (λ (p : Published). p.book) c.take_in.ensures.place.2 ∙ (place.reads ∙ (ap g.J.Naming.board c.requires.group ∙ (sym room.board_is ∙ sym c.work-going.ensures.room.board)))
+
+pub tell-requires-clause-open : goal.tell-requires-clause-open
+tell-requires-clause-open g c =
+    c.work-going.ensures.open
+
+pub invariant_of-self-2 : goal.invariant_of-self-2
+invariant_of-self-2 g c =
+    let room = c.args.self.now in
+    let place = c.args.place.now in
+    let old = room.room.history in
+    let new = c.work-going.new.self.history in
+    let es = c.since-entries.result.now in
+    let most = work_share c.args.work old.group room.room.lines in
+    let q = c.take_in.new.place in
+    let h = held place.number most c.count-from.result old.past new.past es (flat room.makers.seen.log) (flat place.seen.log) place.mine.items c.reserve.new.self.items (flat q.seen.log) q.mine.items
+    (room.kept c.if-is_shut_to.ensures.0) c.work-going.ensures.adds c.count-from.ensures.count c.since-entries.ensures c.reserve.ensures.items c.if-not-take_in.ensures.puts in
+    let left : c.take_in.new.self.units.amount + length new.past ≡ 200000 = omega (arith, c.if-not-take_in.ensures.units.0, room.left c.if-is_shut_to.ensures.0, h.taken.count) in
+    record {
+      of_group = c.take_in.ensures.group ∙ room.of_group;
+      group_is = c.work-going.ensures.room.group ∙ room.group_is;
+      lines_are = c.work-going.ensures.room.lines ∙ room.lines_are;
+      board_is = c.work-going.ensures.room.board ∙ room.board_is;
+      kept = λ ok. ap (λ l. past_in (flat l)) (sym c.if-not-take_in.ensures.journal) ∙ h.line;
+      left = λ ok. left;
+    }
+
+pub invariant_of-place-2 : goal.invariant_of-place-2
+invariant_of-place-2 g c =
+    let q = c.take_in.new.place in
+    record {
+      named = q.named;
+      counted = q.counted;
+      made = q.made;
+      asked = q.asked;
+      reads = c.tell.ensures.board.0 ∙ q.reads;
+      reads_group = c.tell.ensures.board.1 ∙ q.reads_group;
+    }
+
+pub returns-clause-journal : goal.returns-clause-journal
+returns-clause-journal g c =
+    let room = c.args.self.now in
+    let place = c.args.place.now in
+    let old = room.room.history in
+    let new = c.work-going.new.self.history in
+    let es = c.since-entries.result.now in
+    let most = work_share c.args.work old.group room.room.lines in
+    let q = c.take_in.new.place in
+    let h = held place.number most c.count-from.result old.past new.past es (flat room.makers.seen.log) (flat place.seen.log) place.mine.items c.reserve.new.self.items (flat q.seen.log) q.mine.items
+    (room.kept c.if-is_shut_to.ensures.0) c.work-going.ensures.adds c.count-from.ensures.count c.since-entries.ensures c.reserve.ensures.items c.if-not-take_in.ensures.puts in
+    if_any c.tell.result h.line
+
+pub returns-clause-open : goal.returns-clause-open
+returns-clause-open g c =
+    on_any c.tell.result (c.if-is_shut_to.ensures.0, c.if-is_shut_to.ensures.1)
+
+pub returns-clause-spent : goal.returns-clause-spent
+returns-clause-spent g c =
+    λ was is.
+    let refused = c.work-going.ensures.spent is in
+    (refused.0, subst (λ (r : Result Going _). IsErr r) (sym c.tell.ensures.same) refused.1)
+
 pub returns-clause-entered : goal.returns-clause-entered
 returns-clause-entered g c =
     let room = c.args.self.now in
@@ -538,13 +435,26 @@ returns-clause-entered g c =
     let h = held place.number most c.count-from.result old.past new.past es (flat room.makers.seen.log) (flat place.seen.log) place.mine.items c.reserve.new.self.items (flat q.seen.log) q.mine.items
     (room.kept c.if-is_shut_to.ensures.0) c.work-going.ensures.adds c.count-from.ensures.count c.since-entries.ensures c.reserve.ensures.items c.if-not-take_in.ensures.puts in
     let course : List Entry → _ = course_at place.number c.args.work old.group room.room.lines in
-    rw (← room.group_is, ← room.lines_are) (enters_all c.work-going.result c.in_ok-going.going course place.number most old.past new.past es (flat room.makers.seen.log) (flat place.seen.log) place.mine.items (flat q.seen.log) q.mine.items c.in_ok-going.was c.work-going.ensures.ok c.work-going.ensures.full h.taken (room.kept c.if-is_shut_to.ensures.0) h.puts)
+    subst (λ (r : Result Going _). IfOk r (λ going. Enters (course_at place.number c.args.work (g.J.Naming.group room.group) (g.J.Naming.lines room.group)) going place.number (flat room.makers.seen.log) (flat place.seen.log) place.mine.items (flat q.seen.log) q.mine.items)) (sym c.tell.ensures.same)
+    (rw (← room.group_is, ← room.lines_are) (enters_all c.work-going.result course place.number most old.past new.past es (flat room.makers.seen.log) (flat place.seen.log) place.mine.items (flat q.seen.log) q.mine.items c.work-going.ensures.ok c.work-going.ensures.full h.taken (room.kept c.if-is_shut_to.ensures.0) h.puts))
 
 pub returns-clause-refused : goal.returns-clause-refused
-returns-clause-refused g c = tt
+returns-clause-refused g c =
+    let room = c.args.self.now in
+    let place = c.args.place.now in
+    let old = room.room.history in
+    let new = c.work-going.new.self.history in
+    let es = c.since-entries.result.now in
+    let most = work_share c.args.work old.group room.room.lines in
+    let q = c.take_in.new.place in
+    let h = held place.number most c.count-from.result old.past new.past es (flat room.makers.seen.log) (flat place.seen.log) place.mine.items c.reserve.new.self.items (flat q.seen.log) q.mine.items
+    (room.kept c.if-is_shut_to.ensures.0) c.work-going.ensures.adds c.count-from.ensures.count c.since-entries.ensures c.reserve.ensures.items c.if-not-take_in.ensures.puts in
+    let course : List Entry → _ = course_at place.number c.args.work old.group room.room.lines in
+    on_err c.tell.result (inr (rw (← room.group_is, ← room.lines_are) (enters_part course place.number most old.past new.past es (flat room.makers.seen.log) (flat place.seen.log) place.mine.items (flat q.seen.log) q.mine.items c.work-going.ensures.part h.taken (room.kept c.if-is_shut_to.ensures.0) h.puts)))
 
 pub returns-clause-reader : goal.returns-clause-reader
-returns-clause-reader g c = subst (λ (r : Published). IsPrefix r.proposals c.learn-2.new.self.proposals) c.take_in.ensures.place.2 c.learn-2.ensures.mine
+returns-clause-reader g c =
+    subst (λ (r : Published). IsPrefix r.proposals c.tell.new.reader.proposals) c.take_in.ensures.place.2 c.tell.ensures.later
 
 pub returns-clause-reads : goal.returns-clause-reads
 returns-clause-reads g c =
@@ -557,5 +467,4 @@ returns-clause-reads g c =
     let q = c.take_in.new.place in
     let h = held place.number most c.count-from.result old.past new.past es (flat room.makers.seen.log) (flat place.seen.log) place.mine.items c.reserve.new.self.items (flat q.seen.log) q.mine.items
     (room.kept c.if-is_shut_to.ensures.0) c.work-going.ensures.adds c.count-from.ensures.count c.since-entries.ensures c.reserve.ensures.items c.if-not-take_in.ensures.puts in
-    let still_open : c.work-going.new.self.spent ≡ false = ok_open c.work-going.result c.in_ok-going.going c.in_ok-going.was c.work-going.ensures.open in
-    reads_taught (flat q.seen.log) new.past c.note.result.proposals c.learn-2.new.self.proposals h.line (c.note.ensures.whole still_open) c.learn-2.ensures.note
+    reads_taught c.tell.result (flat q.seen.log) new.past c.tell.new.reader.proposals h.line c.tell.ensures.reads
