@@ -1,5 +1,5 @@
 -- A worked service of one room, on which an application locked the switch, beside a worker: what it hands out once it is closed, and what it does not.
-use Rattle.std.proofs.Common.{◌≡◌, ◌≢◌, ℕ, zero, suc, ◌+◌, ◌<◌, ◌≤◌, List, [], ◌∷◌, length, sum_by, refl, ap, subst, ◌∙◌, arith, length-append}
+use Rattle.std.proofs.Common.{◌≡◌, ◌≢◌, ℕ, zero, suc, ◌+◌, ◌<◌, ◌≤◌, List, [], ◌∷◌, ◌++◌, length, sum_by, refl, ap, subst, ◌∙◌, arith, length-append}
 use Rattle.std.specs.Prelude.{false, All, Some, None, slice_get, slice_index_or}
 use Rattle.st_net.specs.declared.entity.Prio.TheVariants.{Low}
 use Rattle.st_net.specs.Groups.{Group}
@@ -26,7 +26,7 @@ use Rattle.st_service.proofs.WorkedLines.{no_places, one_place}
 use Rattle.st_service.proofs.WorkedRooms.{sound}
 use Rattle.st_run.specs.Jobs.{Does, HasDone, HaveRun}
 use Rattle.st_run.specs.Played.{AreClosed, IsFinished, IsPlayed, WasFull, made_on}
-use Rattle.st_run.specs.Went.{shares_on}
+use Rattle.st_run.specs.Went.{MeetsFull, StopsAt, shares_on}
 use Rattle.st_run.specs.Workers.{IsOfWorker, MadeByWorker, worker_shares_on}
 use Rattle.st_run.proofs.DidLaws.{did_goes, goes_front}
 use Rattle.st_run.proofs.SmallCases.{a1, all_none, all_one, app, small}
@@ -100,6 +100,21 @@ does_await = record {
 
 done : HasDone groups lines 1 0 locks first
 done = record { start = pass 0 [] []; fresh = fresh; did = (first, does_lock, (first, does_await, refl)) }
+
+-- the lock was done, and one more met a full journal: the await behind them is not begun
+stopped : (full : Holder) → MeetsFull groups lines (Lock 0 a1 Low) first full → StopsAt groups lines 0 (Lock 0 a1 Low ∷ Lock 0 a1 Low ∷ Await 0 ∷ []) (pass 0 [] []) full
+stopped full met = record { done = locks; last = Lock 0 a1 Low; begins = (Await 0 ∷ [], refl); group = refl; mid = first; did = (first, does_lock, refl); met = met }
+
+-- not where the journal has room, and not without commands
+not_stopped : (acts : List Act) → StopsAt groups lines 0 acts (pass 0 [] []) first → ⊥
+not_stopped acts s =
+    let full : length (front_at (front ∷ []) 0) ≡ MAX_ENTRIES = subst (λ (n : ℕ). length (front_at (front ∷ []) n) ≡ MAX_ENTRIES) s.group s.met.full.full in
+    absurd (omega (arith, full))
+
+not_stopped_by_none : (full : Holder) → StopsAt groups lines 0 [] (pass 0 [] []) full → ⊥
+not_stopped_by_none full s =
+    let ends = length-append (s.done ++ s.last ∷ []) s.begins.0 in
+    absurd (omega (arith, ends, ap length s.begins.1, length-append s.done (s.last ∷ [])))
 
 -- what stands in a list of one, and of two
 item : {X : Type 0} (P : ℕ → X → Type 0) (x y : X) (n : ℕ) → P 0 x → slice_get (x ∷ []) n ≡ Some y → P n y
