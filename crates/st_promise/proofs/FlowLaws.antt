@@ -1,14 +1,13 @@
 -- What flows and least cuts of the network of what is up tell of promises.
-use Rattle.std.proofs.Common.{◌≡◌, ◌≢◌, ℕ, zero, suc, ◌+◌, ◌*◌, ◌/◌, ◌<◌, ◌≤◌, List, [], ◌∷◌, length, refl, ap, ◌∙◌, sym, subst, arith}
+use Rattle.std.proofs.Common.{◌≡◌, ◌≢◌, ℕ, ◌+◌, ◌*◌, ◌/◌, ◌<◌, ◌≤◌, List, [], ◌∷◌, length, refl, ap, ◌∙◌, sym, subst, arith}
 use Rattle.std.proofs.Math.Nat.{mul-le-mul}
-use Rattle.std.specs.Prelude.{Bool, true, false, ◌==◌, ◌||◌, max, All, slice_index_or}
+use Rattle.std.specs.Prelude.{Bool, true, false, ◌==◌, ◌||◌, max, All}
 use Rattle.std.proofs.lemmas.List.Elements.{All-head, All-tail}
 use Rattle.std.proofs.lemmas.Bool.Decides.{nat_tests}
 use Rattle.std.specs.Int.{div_ceil}
 use Rattle.st_net.specs.declared.entity.Entity.{Entity}
-use Rattle.st_net.specs.declared.topo.DeviceOpening.{DeviceOpening}
 use Rattle.st_net.specs.declared.promise.Promise.{Promise}
-use Rattle.st_net.specs.Groups.{Group, no_promise, IsPromiseAmong, ArePromises, IsSound}
+use Rattle.st_net.specs.Groups.{Group, IsPromiseAmong, IsSound}
 use Rattle.st_net.specs.Cuts.{least_cut, is_in_least_side, numbers_in}
 use Rattle.st_net.specs.Promises.{is_kept, need_of}
 use Rattle.st_net.proofs.WalkLaws.{least_cut-below, least_cut-attained}

@@ -14,4 +14,6 @@ pub mod CutLaws
 pub mod WithinLaws
 pub mod FailingLaws
 pub mod WideLaws
+pub mod SameLaws
+pub mod ToFirstLaws
 pub mod IndexLaws

@@ -1,5 +1,5 @@
 -- One set of entities within another, found entity by entity.
-use Rattle.std.proofs.Common.{◌≡◌, ℕ, ◌<◌, ◌≤◌, List, [], ◌∷◌, ◌++◌, ◌+◌, length, arith, subst, inl, inr, ◌∙◌, sym}
+use Rattle.std.proofs.Common.{◌≡◌, ℕ, ◌<◌, ◌≤◌, List, [], ◌∷◌, ◌++◌, ◌+◌, length, arith, ap, refl, subst, inl, inr, ◌∙◌, sym}
 use Rattle.std.proofs.lemmas.Bool.{cases_lt}
 use Rattle.std.proofs.lemmas.List.{get_or_past, get_or_push, get_or_append_left}
 use Rattle.std.specs.Prelude.{Bool, true, false, slice_index_or, IsTrue}
@@ -32,3 +32,15 @@ marked_more P marks i b count before here k low marked = elim (cases_lt k i) [
   | inl less ↦ before k less (sym (get_or_append_left marks (b ∷ []) false k (omega (arith, less, count))) ∙ marked)
   | inr more ↦ (let at : i ≡ k = omega arith in subst P at (here (sym (get_or_push marks b false k (count ∙ at)) ∙ marked)))
 ]
+
+-- two sets of which each is within the other are the same
+same_mark : (a b : Bool) → (a ≡ true → b ≡ true) → (b ≡ true → a ≡ true) → a ≡ b
+same_mark true b there back = sym (there refl)
+same_mark false true there back = back refl
+same_mark false false there back = refl
+
+pub same_sets : (set other : Entity → Bool) → IsWithin set other → IsWithin other set → set ≡ other
+same_sets set other there back = λ i. λ e. same_mark (set e) (other e) (there e) (back e) i
+
+pub within_itself : (set other : Entity → Bool) → set ≡ other → IsWithin set other × IsWithin other set
+within_itself set other same = (λ e inside. sym (ap (λ (s : Entity → Bool). s e) same) ∙ inside, λ e inside. ap (λ (s : Entity → Bool). s e) same ∙ inside)

@@ -6,10 +6,10 @@ use Rattle.st_net.specs.Promises.{is_kept, is_broken, broken_at}
 use Rattle.st_promise.specs.declared.change.Change.{Change}
 use Rattle.st_promise.specs.declared.change.Change.TheVariants.{Holds, Failed, Breaks}
 
--- promise number i holds after, failed before, or is broken so
+-- promise number i holds after; fails before and after; or is broken so
 abbrev pub IsChange : Group → (Entity → Bool) → (Entity → Bool) → ℕ → Change → Type 0
 IsChange g before after i Holds = is_kept g after (promise_of g i) ≡ true
-IsChange g before after i Failed = is_kept g before (promise_of g i) ≡ false
+IsChange g before after i Failed = (is_kept g before (promise_of g i) ≡ false) × (is_kept g after (promise_of g i) ≡ false)
 IsChange g before after i (Breaks broken) = (is_broken g before after (promise_of g i) ≡ true) × (broken ≡ broken_at g after i (promise_of g i))
 
 -- a fact, if the promise is broken

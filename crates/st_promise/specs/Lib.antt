@@ -9,4 +9,6 @@ pub mod Finding
 pub mod Book
 pub mod Change
 pub mod Wide
+pub mod Same
+pub mod ToFirst
 pub mod BookInside

@@ -1,4 +1,4 @@
-//! What a change of what is up does to a promise. A book finds it, promise after promise.
+//! What a change of what is up does to a promise, found by a book or by the networks of what is up.
 
 use st_net::Broken;
 
@@ -7,7 +7,7 @@ use st_net::Broken;
 pub(crate) enum Change {
     /// The promise holds after it.
     Holds,
-    /// The promise failed before it.
+    /// The promise failed before it, and fails after it.
     Failed,
     /// The promise held before it, and is broken so after it.
     Breaks(Broken),

@@ -13,9 +13,11 @@ mod incidence;
 mod judge;
 mod kept_flow;
 mod reaching;
+mod same;
 mod search;
 #[cfg(test)]
 mod tests;
+mod to_first;
 mod up;
 mod up_network;
 mod walk;
@@ -24,6 +26,8 @@ mod within;
 
 pub use book::Book;
 pub use reaching::{Reached, reach};
+pub use same::has_same_network;
+pub use to_first::{ToFirst, judge_to_first};
 pub use walk::Walk;
-pub use wide::{Wide, judge_wide, judge_wide_rest};
-pub use within::is_within;
+pub use wide::{Wide, judge_wide};
+pub use within::{is_same_set, is_within};

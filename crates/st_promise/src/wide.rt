@@ -1,16 +1,15 @@
 //! All promises of a group judged at once, in two sets, by as many threads as there are processors. It needs no book: whoever judges
 //! away from a checker brings a copy of the needs.
 
-ghost use Rattle.std.specs.Prelude.{◌≡◌, ℕ, ◌<◌, ◌≤◌, ◌+◌, Bool, true, List, All, length, map, Some, None, IfOk, if◌then◌else◌};
-ghost use Rattle.std.specs.List.{range_with_len};
+ghost use Rattle.std.specs.Prelude.{◌≡◌, ◌<◌, ◌+◌, Bool, true, length, map, Some, None, IfOk, if◌then◌else◌};
 ghost use Rattle.st_net.specs.Groups.{promise_of};
 ghost use Rattle.st_net.specs.Sets.{is_in, MarksOf};
 ghost use Rattle.st_net.specs.Promises.{need_of, is_kept, is_broken, broken_at, first_broken as first_broken_lem};
 ghost use Rattle.st_promise.specs.UpNetwork.{up_network};
-ghost use Rattle.st_promise.specs.Book.{AreNeedsOf, AreKept};
-ghost use Rattle.st_promise.specs.Wide.{open_among, held_at, held_in_both, told_or};
+ghost use Rattle.st_promise.specs.Book.{AreNeedsOf};
+ghost use Rattle.st_promise.specs.Wide.{held_at, held_in_both};
 
-use crate::judge::{broken_by, is_marked};
+use crate::judge::broken_by;
 use crate::up_network::UpNetwork;
 use rayon::prelude::*;
 use st_net::{Broken, Entity, EntitySet, GroupTopo};
@@ -26,96 +25,58 @@ pub struct Wide {
     pub holds: Vec<bool>,
 }
 
-/// The numbers of the promises that are not known to hold, ascending.
-fn open_ones(alloc: Global, topo: &GroupTopo, known: &[bool]) -> Result<Vec<u32>, AllocError>
-    ensures { IfOk result (λ open_ones. open_ones.items ≡ open_among known.now (length topo.now.promises)) }
-{
-    (0..topo.promise_count())
-        .filter(|i| !is_marked(known, *i))
-        .collect(alloc)
-}
-
-/// Whether a promise holds: each of these after, in order, and then each before.
+/// Whether a promise holds: each after, in order, and then each before.
 fn is_held(
     alloc: Global,
     topo: &GroupTopo,
     needs: &[u64],
-    open_ones: &[u32],
     before: &UpNetwork,
     after: &UpNetwork,
     item: u32,
 ) -> Result<bool, AllocError>
     requires needs { AreNeedsOf topo.now needs.now }
-    requires open_ones { All (λ i. i < length topo.now.promises) open_ones.now }
     requires before { before.now.nodes ≡ length topo.now.devices }
     requires after { after.now.nodes ≡ length topo.now.devices }
-    requires item { item < length open_ones.now + length open_ones.now }
-    ensures { (up down : Entity → Bool) → before.now ≡ up_network topo.now up → after.now ≡ up_network topo.now down → IfOk result (λ held. held ≡ held_at topo.now up down open_ones.now item) }
+    requires item { item < length topo.now.promises + length topo.now.promises }
+    ensures { (up down : Entity → Bool) → before.now ≡ up_network topo.now up → after.now ≡ up_network topo.now down → IfOk result (λ held. held ≡ held_at topo.now up down item) }
 {
-    let item = item as usize;
-    if item < open_ones.len() {
-        let i = open_ones[item];
-        let cut = after.failing_cut(alloc, topo, i, needs[i as usize])?;
+    let count = topo.promise_count();
+    if item < count {
+        let cut = after.failing_cut(alloc, topo, item, needs[item as usize])?;
         return Ok(cut.is_none());
     }
-    let i = open_ones[item - open_ones.len()];
+    let i = item - count;
     let cut = before.failing_cut(alloc, topo, i, needs[i as usize])?;
     Ok(cut.is_none())
 }
 
-/// Whether each of these promises holds after, and then whether each holds before.
+/// Whether each promise holds after, and then whether each holds before.
 fn all_held(
     rt: &(impl Threads + Sync),
     alloc: Global,
     topo: &GroupTopo,
     needs: &[u64],
-    open_ones: &[u32],
     before: &UpNetwork,
     after: &UpNetwork,
 ) -> Result<Vec<bool>, AllocError>
     requires needs { AreNeedsOf topo.now needs.now }
-    requires open_ones { All (λ i. i < length topo.now.promises) open_ones.now }
-    requires few { length open_ones.now ≤ length topo.now.promises }
     requires before { before.now.nodes ≡ length topo.now.devices }
     requires after { after.now.nodes ≡ length topo.now.devices }
-    ensures { (up down : Entity → Bool) → before.now ≡ up_network topo.now up → after.now ≡ up_network topo.now down → IfOk result (λ held. held.items ≡ held_in_both topo.now up down open_ones.now) }
+    ensures { (up down : Entity → Bool) → before.now ≡ up_network topo.now up → after.now ≡ up_network topo.now down → IfOk result (λ held. held.items ≡ held_in_both topo.now up down) }
 {
     topo.is_sound();
-    let count = open_ones.len() as u32;
+    let count = topo.promise_count();
     // A flow is worth a thread, however few there are.
     (0..count + count)
         .into_par_iter()
         .map(
             |item: u32| -> Result<bool, AllocError>
-                requires { AreNeedsOf topo.now needs.now × All (λ i. i < length topo.now.promises) open_ones.now × (before.now.nodes ≡ length topo.now.devices) × (after.now.nodes ≡ length topo.now.devices) × (item < length open_ones.now + length open_ones.now) }
-                ensures { (up down : Entity → Bool) → before.entry.now ≡ up_network topo.entry.now up → after.entry.now ≡ up_network topo.entry.now down → IfOk result (λ held. held ≡ held_at topo.entry.now up down open_ones.entry.now item) }
-            { is_held(alloc, topo, needs, open_ones, before, after, item) },
+                requires { AreNeedsOf topo.now needs.now × (before.now.nodes ≡ length topo.now.devices) × (after.now.nodes ≡ length topo.now.devices) × (item < length topo.now.promises + length topo.now.promises) }
+                ensures { (up down : Entity → Bool) → before.entry.now ≡ up_network topo.entry.now up → after.entry.now ≡ up_network topo.entry.now down → IfOk result (λ held. held ≡ held_at topo.entry.now up down item) }
+            { is_held(alloc, topo, needs, before, after, item) },
         )
         .with_min_len(1)
         .collect::<Result<Vec<bool>, AllocError>>(rt, alloc)?
-}
-
-/// The answer for each promise, in order: true where it is known to hold, and else what was told of it.
-fn with_known(
-    alloc: Global,
-    topo: &GroupTopo,
-    known: &[bool],
-    told: &[bool],
-) -> Result<Vec<bool>, AllocError>
-    ensures count { IfOk result (λ all. length all.items ≡ length topo.now.promises) }
-    ensures all { (f : ℕ → Bool) → told.now ≡ map f (open_among known.now (length topo.now.promises)) → IfOk result (λ all. all.items ≡ map (told_or known.now f) (range_with_len 0 (length topo.now.promises))) }
-{
-    let mut all = Vec::with_capacity(alloc, topo.promise_count() as usize)?;
-    let mut place = 0;
-    for i in 0..topo.promise_count() {
-        if is_marked(known, i) {
-            all.push(true)?;
-        } else {
-            all.push(is_marked(told, place))?;
-            place += 1;
-        }
-    }
-    Ok(all)
 }
 
 /// How promise number `i`, which needs so much and holds before, is broken after, if it fails there.
@@ -143,17 +104,16 @@ fn first_lost(
     topo: &GroupTopo,
     needs: &[u64],
     after: &UpNetwork,
-    was: &[bool],
-    holds: &[bool],
+    held: &[bool],
 ) -> Result<Option<Broken>, AllocError>
     requires needs { AreNeedsOf topo.now needs.now }
     requires after { after.now.nodes ≡ length topo.now.devices }
-    requires was { length was.now ≡ length topo.now.promises }
-    requires holds { length holds.now ≡ length topo.now.promises }
-    ensures { (up down : Entity → Bool) (known : List Bool) → after.now ≡ up_network topo.now down → AreKept topo.now down known → was.now ≡ map (told_or known (λ i. is_kept topo.now up (promise_of topo.now i))) (range_with_len 0 (length topo.now.promises)) → holds.now ≡ map (is_kept topo.now down) topo.now.promises → IfOk result (λ broken. broken ≡ first_broken_lem topo.now up down 0 topo.now.promises) }
+    requires held { length held.now ≡ length topo.now.promises + length topo.now.promises }
+    ensures { (up down : Entity → Bool) → after.now ≡ up_network topo.now down → held.now ≡ held_in_both topo.now up down → IfOk result (λ broken. broken ≡ first_broken_lem topo.now up down 0 topo.now.promises) }
 {
+    let (holds, held_before) = held.split_at(topo.promise_count() as usize);
     for i in 0..topo.promise_count() {
-        if was[i as usize] && !holds[i as usize] {
+        if held_before[i as usize] && !holds[i as usize] {
             return lost_in(alloc, topo, after, i, needs[i as usize]);
         }
     }
@@ -176,49 +136,10 @@ pub fn judge_wide(
     ensures first { IfOk result (λ wide. wide.first ≡ first_broken_lem topo.now (is_in before.now) (is_in after.now) 0 topo.now.promises) }
     ensures holds { IfOk result (λ wide. wide.holds.items ≡ map (is_kept topo.now (is_in after.now)) topo.now.promises) }
 {
-    judge_wide_rest(rt, alloc, topo, needs, &[], before, after)
-}
-
-/// The same, where some promises are known to hold after: number `i` where `known` is true there. There is no item for these.
-pub fn judge_wide_rest(
-    rt: &(impl Threads + Sync),
-    alloc: Global,
-    topo: &GroupTopo,
-    needs: &[u64],
-    known: &[bool],
-    before: &EntitySet,
-    after: &EntitySet,
-) -> Result<Wide, AllocError>
-    requires needs { AreNeedsOf topo.now needs.now }
-    requires known { AreKept topo.now (is_in after.now) known.now }
-    requires before { MarksOf topo.now before.now }
-    requires after { MarksOf topo.now after.now }
-    ensures first { IfOk result (λ wide. wide.first ≡ first_broken_lem topo.now (is_in before.now) (is_in after.now) 0 topo.now.promises) }
-    ensures holds { IfOk result (λ wide. wide.holds.items ≡ map (is_kept topo.now (is_in after.now)) topo.now.promises) }
-{
-    let open_ones = open_ones(alloc, topo, known)?;
-    let open_ones = open_ones.as_slice();
-    let before_network = UpNetwork::of(alloc, topo, before)?;
-    let after_network = UpNetwork::of(alloc, topo, after)?;
-    let held = all_held(
-        rt,
-        alloc,
-        topo,
-        needs,
-        open_ones,
-        &before_network,
-        &after_network,
-    )?;
-    let (told_after, told_before) = held.as_slice().split_at(open_ones.len());
-    let holds = with_known(alloc, topo, known, told_after)?;
-    let was = with_known(alloc, topo, known, told_before)?;
-    let first = first_lost(
-        alloc,
-        topo,
-        needs,
-        &after_network,
-        was.as_slice(),
-        holds.as_slice(),
-    )?;
-    Ok(Wide { first, holds })
+    let before = UpNetwork::of(alloc, topo, before)?;
+    let after = UpNetwork::of(alloc, topo, after)?;
+    let mut held = all_held(rt, alloc, topo, needs, &before, &after)?;
+    let first = first_lost(alloc, topo, needs, &after, held.as_slice())?;
+    held.truncate(topo.promise_count() as usize);
+    Ok(Wide { first, holds: held })
 }

@@ -1,6 +1,6 @@
 //! Whether one set of entities is within another. More entities keep a promise, and fewer a failure.
 
-ghost use Rattle.std.specs.Prelude.{◌↔◌, IsTrue};
+ghost use Rattle.std.specs.Prelude.{◌≡◌, ◌↔◌, IsTrue};
 ghost use Rattle.st_net.specs.Sets.{is_in, MarksOf, IsWithin};
 
 use st_net::{Entity, EntitySet, GroupTopo};
@@ -24,4 +24,13 @@ pub fn is_within(topo: &GroupTopo, set: &EntitySet, other: &EntitySet) -> bool
         }
     }
     true
+}
+
+/// Whether two sets have the same entities.
+pub fn is_same_set(topo: &GroupTopo, set: &EntitySet, other: &EntitySet) -> bool
+    requires set { MarksOf topo.now set.now }
+    requires other { MarksOf topo.now other.now }
+    ensures { IsTrue result ↔ is_in set.now ≡ is_in other.now }
+{
+    is_within(topo, set, other) && is_within(topo, other, set)
 }

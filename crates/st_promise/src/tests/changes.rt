@@ -1,5 +1,5 @@
 //! Random changes of small groups. One book lives through all changes of a group, and is compared with least cuts of graphs that
-//! are made anew for each promise and set, and with `judge_wide`.
+//! are made anew for each promise and set, with `judge_wide` and with `judge_to_first`.
 ghost use Rattle.std.specs.Prelude.{◌<◌, length, IfOk};
 ghost use Rattle.st_net.specs.Sets.{MarksOf};
 ghost use Rattle.st_promise.specs.Book.{IsBookOf};
@@ -199,7 +199,7 @@ fn plain_judge(alloc: Global, topo: &GroupTopo, sets: &Sets) -> Result<Option<Br
     Ok(None)
 }
 
-fn break_of(broken: Option<Broken>) -> Option<Break> {
+fn break_of(broken: &Option<Broken>) -> Option<Break> {
     match broken {
         Some(broken) => Some(Break {
             promise: broken.promise,
@@ -208,6 +208,17 @@ fn break_of(broken: Option<Broken>) -> Option<Break> {
         }),
         None => None,
     }
+}
+
+/// Whether the first broken promise was found, and each up to it told as it is, or each where none is.
+fn are_told(told: &ToFirst, plain: Option<Break>, holds: &[bool]) -> bool {
+    let count = match plain {
+        Some(broken) => broken.promise as usize + 1,
+        None => holds.len(),
+    };
+    break_of(&told.first) == plain
+        && told.holds.len() == count
+        && holds.starts_with(told.holds.as_slice())
 }
 
 /// What was counted of changes: how many were judged, how many break a promise, and how many are judged in two ways.
@@ -234,15 +245,41 @@ fn judge(
     ensures book { IsBookOf topo.now book.new.of }
 {
     let plain = plain_judge(alloc, topo, sets)?;
-    let judged = break_of(book.judge_pairs(topo, &sets.before, &sets.after)?);
+    let judged = break_of(&book.judge_pairs(topo, &sets.before, &sets.after)?);
     let wide = judge_wide(rt, alloc, topo, book.needs(), &sets.before, &sets.after)?;
     let held = book.held_in(topo, &sets.after)?;
     let Wide { first, holds } = wide;
+    let shown = book.shown_in(topo, &sets.after)?;
+    let known = shown.as_slice();
+    let told = judge_to_first(
+        rt,
+        alloc,
+        topo,
+        book.needs(),
+        &[],
+        &sets.before,
+        &sets.after,
+    )?;
+    let rest = judge_to_first(
+        rt,
+        alloc,
+        topo,
+        book.needs(),
+        known,
+        &sets.before,
+        &sets.after,
+    )?;
     tally.judged = tally.judged.saturating_add(1);
     if plain.is_some() {
         tally.broken = tally.broken.saturating_add(1);
     }
-    if judged != plain || break_of(first) != plain || held.as_slice() != holds.as_slice() {
+    let are_told = are_told(&told, plain, holds.as_slice())
+        && are_told(&rest, plain, holds.as_slice());
+    if judged != plain
+        || break_of(&first) != plain
+        || held.as_slice() != holds.as_slice()
+        || !are_told
+    {
         tally.wrong = tally.wrong.saturating_add(1);
     }
     Ok(())

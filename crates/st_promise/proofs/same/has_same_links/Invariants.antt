@@ -1,0 +1,7 @@
+use Rattle.std.proofs.Common.{◌≡◌, ℕ, ◌<◌}
+use Rattle.std.specs.Prelude.{slice_index_or}
+use Rattle.st_net.specs.Groups.{no_link}
+use Rattle.st_promise.proofs.same.has_same_links.Given as goal
+
+abbrev pub invariant-loop-i : goal.invariant-loop-i
+invariant-loop-i l = (k : ℕ) → k < l.i → slice_index_or l.topo.links k no_link ≡ slice_index_or l.other.links k no_link
