@@ -1,5 +1,5 @@
 -- What was judged away from the checker, and what it still tells of how the checker stands.
-use Rattle.std.proofs.Common.{◌≡◌, List, [], map, ap, subst, sym, ◌∙◌}
+use Rattle.std.proofs.Common.{◌≡◌, ℕ, zero, suc, ◌<◌, List, [], ◌∷◌, length, map, take, ap, sym, ◌∙◌}
 use Rattle.std.specs.Prelude.{Bool, true, false, slice_index_or}
 use Rattle.std.proofs.lemmas.List.{get_or-map}
 use Rattle.st_net.specs.declared.entity.Entity.{Entity}
@@ -7,24 +7,41 @@ use Rattle.st_net.specs.declared.entity.Row.{Row}
 use Rattle.st_net.specs.Groups.{Group, no_promise, promise_of}
 use Rattle.st_net.specs.Laws.{KeepsWithMore, TellsKept}
 use Rattle.st_net.specs.Merge.{alters, without_altered}
-use Rattle.st_net.specs.Promises.{is_kept}
+use Rattle.st_net.specs.Promises.{is_kept, first_broken}
 use Rattle.st_net.specs.Sets.{Marks, IsWithin, is_in}
 use Rattle.st_event.specs.Proposals.{first_rows}
 use Rattle.st_event.specs.Standing.{sure_in}
 use Rattle.st_overlay.specs.Values.{value_in}
 use Rattle.st_promise.specs.Book.{AreKept}
+use Rattle.st_promise.specs.Same.{HasSameNetwork}
+use Rattle.st_promise.specs.ToFirst.{told_to}
+use Rattle.st_promise.proofs.SameLaws.{same_kept, same_first}
+use Rattle.st_net.specs.declared.promise.Promise.{Promise}
 use Rattle.st_control.specs.Checker.{Checker, standing_in}
 use Rattle.st_control.specs.Verdict.{sure_without}
 use Rattle.st_control.specs.Basis.{JudgedView, IsJudged}
 use Rattle.st_control.proofs.CheckLemmas.{same_without}
 
--- what was judged to hold holds in each set of the same group that has all that was up then
-pub known_still : (g : Group) (j : JudgedView) (up : Entity → Bool) → KeepsWithMore g → TellsKept g → IsJudged j → j.group ≡ g → IsWithin (is_in j.after) up → AreKept g up j.holds
+read_in_front : (xs : List Bool) (n i : ℕ) → slice_index_or (take n xs) i false ≡ true → slice_index_or xs i false ≡ true
+read_in_front [] zero i is = cc
+read_in_front [] (suc n) i is = cc
+read_in_front (x ∷ xs) zero i is = cc
+read_in_front (x ∷ xs) (suc n) zero is = is
+read_in_front (x ∷ xs) (suc n) (suc i) is = read_in_front xs n i is
+
+-- what was judged to hold holds in each set of a group with that network that has all that was up then
+pub known_still : (g : Group) (j : JudgedView) (up : Entity → Bool) → KeepsWithMore g → TellsKept g → IsJudged j → HasSameNetwork j.group g → IsWithin (is_in j.after) up → AreKept g up j.holds
 known_still g j up more tells judged same within i low marked =
-    let holds : j.holds ≡ map (is_kept g (is_in j.after)) g.promises = subst (λ (h : Group). j.holds ≡ map (is_kept h (is_in j.after)) h.promises) same judged.holds in
-    let was : is_kept g (is_in j.after) (promise_of g i) ≡ true =
-    sym (get_or-map (is_kept g (is_in j.after)) g.promises i no_promise false low) ∙ sym (ap (λ (l : List Bool). slice_index_or l i false) holds) ∙ marked in
-    (tells up i low).1 (more (is_in j.after) up (promise_of g i) within ((tells (is_in j.after) i low).0 was))
+    let left = is_in j.after in
+    let here : i < length j.group.promises = rw (ap length same.promises) low in
+    let reads = sym (ap (λ (l : List Bool). slice_index_or l i false) judged.holds) ∙ marked in
+    let there = sym (get_or-map (is_kept j.group left) j.group.promises i no_promise false here) ∙ read_in_front (map (is_kept j.group left) j.group.promises) (told_to j.group j.first) i reads in
+    let was : is_kept g left (promise_of g i) ≡ true = sym (same_kept j.group g left (promise_of j.group i) same ∙ ap (λ (ps : List Promise). is_kept g left (slice_index_or ps i no_promise)) same.promises) ∙ there in
+    (tells up i low).1 (more left up (promise_of g i) within ((tells left i low).0 was))
+
+-- what was found of the judged sets is so of these
+pub found_still : (g : Group) (j : JudgedView) (before after : Entity → Bool) → IsJudged j → HasSameNetwork j.group g → is_in j.sure ≡ before → is_in j.after ≡ after → j.first ≡ first_broken g before after 0 g.promises
+found_still g j before after judged same sure left = judged.first ∙ same_first j.group g (is_in j.sure) (is_in j.after) same ∙ (λ i. first_broken g (sure i) (left i) 0 g.promises)
 
 -- where nothing is known, nothing is claimed
 pub known_none : (g : Group) (up : Entity → Bool) → AreKept g up []

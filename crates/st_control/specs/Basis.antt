@@ -1,13 +1,15 @@
 -- A check away from its checker: what it is judged on, and what was found.
-use Rattle.std.specs.Prelude.{◌≡◌, ℕ, ◌+◌, ◌<◌, ◌≤◌, Bool, List, map, length}
+use Rattle.std.specs.Prelude.{◌≡◌, ℕ, ◌+◌, ◌<◌, ◌≤◌, Bool, List, map, take, length, Option}
+use Rattle.st_net.specs.declared.promise.Broken.{Broken}
 use Rattle.st_net.specs.Groups.{Group}
 use Rattle.st_net.specs.Merge.{without_altered}
-use Rattle.st_net.specs.Promises.{is_kept}
+use Rattle.st_net.specs.Promises.{is_kept, first_broken}
 use Rattle.st_net.specs.Sets.{Marks, MarksOf, is_in}
 use Rattle.st_event.specs.Proposals.{first_rows}
 use Rattle.st_event.specs.Standing.{sure_in}
 use Rattle.st_overlay.specs.Values.{value_in}
 use Rattle.st_promise.specs.Book.{AreNeedsOf, AreKept}
+use Rattle.st_promise.specs.ToFirst.{told_to}
 use Rattle.st_control.specs.Checker.{Checker, standing_in}
 
 -- a group and what its promises need; a ticket; the sure entities, and those that the proposal leaves as they are; and which promises
@@ -28,22 +30,28 @@ pub record IsBasis (b : BasisView) : Type 0 where
   pub after : MarksOf b.group b.after
   pub known : AreKept b.group (is_in b.after) b.known
 
--- the group, the ticket and the smaller set of a basis, and for each promise whether it holds in that set
+-- the group, the ticket and the sets of a basis; the first promise that holds in the one set and not in the other; and of each promise
+-- up to that one whether it holds in the other
 pub record JudgedView : Type 0 where
   pub group : Group
   pub ticket : ℕ
+  pub sure : Marks
   pub after : Marks
+  pub first : Option Broken
   pub holds : List Bool
 
 pub record IsJudged (j : JudgedView) : Type 0 where
   pub ticket : 0 < j.ticket
+  pub sure : MarksOf j.group j.sure
   pub after : MarksOf j.group j.after
-  pub holds : j.holds ≡ map (is_kept j.group (is_in j.after)) j.group.promises
+  pub first : j.first ≡ first_broken j.group (is_in j.sure) (is_in j.after) 0 j.group.promises
+  pub holds : j.holds ≡ take (told_to j.group j.first) (map (is_kept j.group (is_in j.after)) j.group.promises)
 
 -- this was judged on that
 pub record IsJudgedOf (b : BasisView) (j : JudgedView) : Type 0 where
   pub group : j.group ≡ b.group
   pub ticket : j.ticket ≡ b.ticket
+  pub sure : j.sure ≡ b.sure
   pub after : j.after ≡ b.after
 
 -- what the oldest proposal is judged on, where the checker stands so

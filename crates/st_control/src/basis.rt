@@ -1,14 +1,15 @@
 //! A check away from its checker. A basis is what the oldest proposal is judged on, in copies; threads judge it with no checker at hand,
 //! and the checker decides by what was found, as far as that still tells of how it stands.
 
-ghost use Rattle.std.specs.Prelude.{◌≡◌, ◌<◌, IfOk};
+ghost use Rattle.std.specs.Prelude.{◌≡◌, ◌<◌, IfOk, IfSome};
+ghost use Rattle.st_net.specs.Promises.{first_broken};
 ghost use Rattle.st_net.specs.Sets.{is_in, MarksOf};
 ghost use Rattle.std.specs.Arc.{arc_value};
 ghost use Rattle.st_promise.specs.Book.{AreNeedsOf, AreKept};
 ghost use Rattle.st_control.specs.Basis.{IsJudgedOf};
 
-use st_net::{EntitySet, GroupTopo};
-use st_promise::{Wide, is_within, judge_wide_rest};
+use st_net::{Broken, EntitySet, GroupTopo};
+use st_promise::{ToFirst, has_same_network, is_same_set, is_within, judge_to_first};
 use std::alloc::{AllocError, Global};
 use std::marker::Model;
 use std::sync::Arc;
@@ -38,12 +39,15 @@ impl Model for Basis {
     ghost invariant = { λ b. IsBasis (record { group = arc_value b.topo; needs = b.needs.items; ticket = b.ticket; sure = b.sure; after = b.after; known = b.known.items }) };
 }
 
-/// What was found of a basis: which promises of its group hold while only those entities are up that it leaves as they are.
+/// What was found of a basis: the first promise of its group that holds while the sure entities are up, and not while only those of them
+/// are that it leaves as they are; and of each promise up to that one whether it holds then.
 #[derive(Drop)]
 pub struct Judged {
     topo: Arc<GroupTopo, Global>,
     ticket: u32,
+    sure: EntitySet,
     after: EntitySet,
+    first: Option<Broken>,
     holds: Vec<bool>,
 }
 
@@ -53,9 +57,9 @@ impl Model for Judged {
 
     ghost Value = { JudgedView };
 
-    ghost view = { λ j. record { group = arc_value j.topo; ticket = j.ticket; after = j.after; holds = j.holds.items } };
+    ghost view = { λ j. record { group = arc_value j.topo; ticket = j.ticket; sure = j.sure; after = j.after; first = j.first; holds = j.holds.items } };
 
-    ghost invariant = { λ j. IsJudged (record { group = arc_value j.topo; ticket = j.ticket; after = j.after; holds = j.holds.items }) };
+    ghost invariant = { λ j. IsJudged (record { group = arc_value j.topo; ticket = j.ticket; sure = j.sure; after = j.after; first = j.first; holds = j.holds.items }) };
 }
 
 impl Basis {
@@ -102,15 +106,37 @@ impl Judged {
         self.ticket
     }
 
-    /// The promises that are known to hold in a set: those that were found to hold, where the group is the judged one and the set has
-    /// all that the judged set has. More entities keep a promise. Elsewhere none is known.
+    /// The first promise that holds in one set and not in another, where the group has the network and the promises of
+    /// the judged one, and these are the judged sets. Elsewhere that is not known.
+    pub(crate) fn found_in(
+        &self,
+        topo: &GroupTopo,
+        before: &EntitySet,
+        after: &EntitySet,
+    ) -> Option<&Option<Broken>>
+        requires before { MarksOf topo.now before.now }
+        requires after { MarksOf topo.now after.now }
+        ensures { IfSome result (λ first. first.now ≡ first_broken topo.now (is_in before.now) (is_in after.now) 0 topo.now.promises) }
+    {
+        if has_same_network(&self.topo, topo)
+            && is_same_set(topo, &self.sure, before)
+            && is_same_set(topo, &self.after, after)
+        {
+            Some(&self.first)
+        } else {
+            None
+        }
+    }
+
+    /// The promises that are known to hold in a set: those that were found to hold, where the group has the network and the promises of
+    /// the judged one, and the set has all that the judged set has. More entities keep a promise. Elsewhere none is known.
     pub(crate) fn known_in(&self, topo: &GroupTopo, up: &EntitySet) -> &[bool]
         requires { MarksOf topo.now up.now }
         ensures { AreKept topo.now (is_in up.now) result.now }
     {
         topo.keeps_with_more();
         topo.held_means_kept();
-        if self.topo.same(topo) && is_within(topo, &self.after, up) {
+        if has_same_network(&self.topo, topo) && is_within(topo, &self.after, up) {
             self.holds.as_slice()
         } else {
             &[]
@@ -118,7 +144,7 @@ impl Judged {
     }
 }
 
-/// Judges a basis in as many threads as there are processors: the promises of which it is not known that they hold, each in both sets.
+/// Judges a basis: the promises of which it is not known that they hold, up to the first that breaks, in as many threads as they are worth.
 /// No checker is asked, so it needs no lock.
 pub fn judge_basis(
     rt: &(impl Threads + Sync),
@@ -135,7 +161,7 @@ pub fn judge_basis(
         after,
         known,
     } = basis;
-    let Wide { first: _, holds } = judge_wide_rest(
+    let ToFirst { first, holds } = judge_to_first(
         rt,
         alloc,
         &topo,
@@ -147,7 +173,9 @@ pub fn judge_basis(
     Ok(Judged {
         topo,
         ticket,
+        sure,
         after,
+        first,
         holds,
     })
 }

@@ -1,10 +1,10 @@
 //! The checker of one group. What it keeps is enough to answer an event as the group's whole journal calls for.
 
-ghost use Rattle.std.specs.Prelude.{◌≡◌, ◌↔◌, option_map, ℕ, ◌<◌, ◌≤◌, ◌^◌, ◌+◌, length, map, IfOk, IsTrue, OnErr};
+ghost use Rattle.std.specs.Prelude.{◌≡◌, ◌↔◌, option_map, ℕ, ◌<◌, ◌≤◌, ◌^◌, ◌+◌, length, map, IfOk, IfSome, IsTrue, OnErr};
 ghost use Rattle.std.specs.Arc.{arc_value};
 ghost use Rattle.st_net.specs.declared.entity.Entity.{Entity};
 ghost use Rattle.st_net.specs.Groups.{IsEntityOf, promise_of};
-ghost use Rattle.st_net.specs.Promises.{is_kept};
+ghost use Rattle.st_net.specs.Promises.{is_kept, first_broken};
 ghost use Rattle.st_net.specs.Ranges.{RowsFit};
 ghost use Rattle.st_net.specs.Sets.{is_in, MarksOf};
 ghost use Rattle.st_event.specs.declared.event.Event.TheVariants.{Submit, Check as check_event, Lock, Unlock};
@@ -28,7 +28,7 @@ use crate::stamps::{opening_stamps, stamp_all};
 use crate::sure::{shown_set, take_out};
 use st_event::{Cause, Receipt, Rows, Verdict};
 use st_locks::{Grant, LockTable, Release};
-use st_net::{AppId, Command, Entity, EntitySet, GroupTopo, Prio, Report};
+use st_net::{AppId, Broken, Command, Entity, EntitySet, GroupTopo, Prio, Report};
 use st_overlay::changed;
 use st_plan::settled;
 use st_promise::Book;
@@ -108,6 +108,30 @@ fn known_in<'a>(judged: Option<&'a Judged>, topo: &GroupTopo, up: &EntitySet) ->
     match judged {
         Some(judged) => judged.known_in(topo, up),
         None => &[],
+    }
+}
+
+/// The first promise that would break, as what was judged away from the checker tells of just these sets; None where it does not.
+fn found_in<'a>(
+    judged: Option<&'a Judged>,
+    topo: &GroupTopo,
+    before: &EntitySet,
+    after: &EntitySet,
+) -> Option<&'a Option<Broken>>
+    requires before { MarksOf topo.now before.now }
+    requires after { MarksOf topo.now after.now }
+    ensures { IfSome result (λ first. first.now ≡ first_broken topo.now (is_in before.now) (is_in after.now) 0 topo.now.promises) }
+{
+    judged?.found_in(topo, before, after)
+}
+
+/// A broken promise as a cause.
+fn cause_of(alloc: Global, first: &Option<Broken>) -> Result<Option<Cause>, AllocError>
+    ensures { IfOk result (λ cause. cause ≡ option_map broken_cause first.now) }
+{
+    match first {
+        Some(broken) => Ok(Some(Cause::Broken(broken.copy(alloc)?))),
+        None => Ok(None),
     }
 }
 
@@ -303,8 +327,8 @@ impl Control {
         Ok(SureSets { sure, after })
     }
 
-    /// The first promise that would break while these entities change, as a cause. A promise of which `judged` still tells that it holds
-    /// is not judged again.
+    /// The first promise that would break while these entities change, as a cause. Where just these sets were judged away from the checker,
+    /// none is judged again; else none of which that still tells that it holds.
     fn broken(
         &mut self,
         changed: &EntitySet,
@@ -316,6 +340,9 @@ impl Control {
         ensures runs { self.old.flows_run ≤ self.new.flows_run }
     {
         let SureSets { sure, after } = self.sure_sets(changed)?;
+        if let Some(first) = found_in(judged, &self.topo, &sure, &after) {
+            return cause_of(self.alloc, first);
+        }
         let known = known_in(judged, &self.topo, &after);
         let broken = self.book.judge_rest(&self.topo, known, &sure, &after)?;
         Ok(broken.map(Cause::Broken))
