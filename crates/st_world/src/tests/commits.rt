@@ -211,3 +211,30 @@ fn a_commit_runs_no_flow_for_what_was_judged_away(rt: HostRuntime) -> Result<(),
     assert!(&rt; first > 0 || second > 0);
     Ok(())
 }
+
+/// How many runs of a flow a world counts once an upgrade that breaks its promise was judged away from it, committed and refused.
+fn runs_refused(rt: &(impl Threads + Sync), alloc: Global, world: &mut World) -> Result<u64, Fail> {
+    told(alloc, world, firmware(alloc, detour::HUB, 2)?, "queued 1")?;
+    match committed_once(world, judged(rt, alloc, world)?)? {
+        Committed::Did(receipt) => expect(broken_of(&receipt.verdict).is_some())?,
+        _ => return Err(Fail::new("no receipt")),
+    }
+    Ok(world.control().flows_run())
+}
+
+/// The same of a world that is not needed any more.
+fn runs_refused_once(
+    rt: &(impl Threads + Sync),
+    alloc: Global,
+    mut world: World,
+) -> Result<u64, Fail> {
+    runs_refused(rt, alloc, &mut world)
+}
+
+// A check that refuses by a broken promise runs a flow, as a clause says.
+#[test]
+fn a_commit_runs_no_flow_for_what_was_found_to_break(rt: HostRuntime) -> Result<(), Fail> {
+    let alloc = rt.alloc();
+    assert_eq!(&rt; runs_refused_once(&rt, alloc, detour::world(alloc)?)?, 0);
+    Ok(())
+}

@@ -13,6 +13,9 @@ use std::test::Fail;
 /// The two switches.
 pub const WAYS: [Entity; 2] = [Entity::Device(3), Entity::Device(4)];
 
+/// The switch that both go through.
+pub const HUB: Entity = Entity::Device(2);
+
 fn parts(alloc: Global) -> Result<Parts, Fail>
     ensures { IfOk result (λ parts. length parts.devices + length parts.links + length parts.promises ≡ 11) }
 {
