@@ -10,7 +10,7 @@ pub enum Point {
     BeforeJudge { group: u32, ticket: u32 },
     /// An application has read a published target.
     AfterRead { app: u32 },
-    /// The update half of an entity's turn is about to be made, or the monitor half.
+    /// The update half of a round of a group is about to be made, or the monitor half.
     BeforeHalf { group: u32, monitor: bool },
 }
 
