@@ -1,0 +1,20 @@
+pub mod CutLemmas
+pub mod PartLemmas
+pub mod PassLemmas
+pub mod PictureLemmas
+pub mod PlainLemmas
+pub mod PlayLemmas
+pub mod PlaybackLemmas
+pub mod PlayedBack
+pub mod PlayedCounts
+pub mod ReplayLemmas
+pub mod SafeLemmas
+pub mod SnapshotLemmas
+pub mod StateLemmas
+pub mod StateParts
+pub mod Ups
+pub mod WeighLemmas
+mod WorkedCuts
+mod WorkedEntries
+mod WorkedStates
+mod WorkedPlayedBack

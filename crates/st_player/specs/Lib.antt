@@ -1,0 +1,17 @@
+pub mod Answers
+pub mod Calls
+pub mod Cuts
+pub mod Entries
+pub mod Fields
+pub mod Inside
+pub mod Json
+pub mod Laws
+pub mod Pictures
+pub mod Plain
+pub mod PlayedBack
+pub mod Playing
+pub mod Refusals
+pub mod Safe
+pub mod Snapshots
+pub mod States
+pub mod Steps

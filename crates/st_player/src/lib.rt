@@ -1,0 +1,27 @@
+//! The journal player: a document with its journals in, a page that shows the run out. What is sure, busy, lost or cut is asked of the
+//! groups' worlds, entry by entry, and stands in the page's data; the page's script only shows it.
+#![tactic(auto)]
+
+mod answer;
+mod calling;
+mod cuts;
+mod entries;
+mod fields;
+mod head;
+pub mod laws;
+mod pictures;
+mod playback;
+mod playing;
+mod refusals;
+mod safe_json;
+mod snapshot;
+mod state;
+mod tail;
+mod weighing;
+
+pub use answer::{Status, fault_line};
+pub use calling::{player, run_player};
+pub use playing::{Played, play};
+
+#[cfg(test)]
+mod tests;
