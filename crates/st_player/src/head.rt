@@ -10,27 +10,29 @@ pub(crate) const HEAD: &str = r###"<!doctype html>
 <style>
 :root { color-scheme: light; --ground: #eef1f4; --card: #fff; --ink: #16202b; --soft: #55626f; --rule: #d3dae1; --accent: #2457c5;
   --up: #d9efe5; --up-ink: #14543d; --busy: #bcd9fb; --busy-ink: #0c3f80; --failed: #f6b8b0; --failed-ink: #7d1409; --idle: #dfe3e8; --idle-ink: #3c4650;
-  --sure: #2b7a5c; --waiting: #a85b00; --wire: #7a8894; --wire-shut: #d0d7de; --cut: #a3128f; --side: #e9c9f2; --pod: #e4e9ee; --lost: #cf3a2c; --known: #7d57c1; }
+  --sure: #2b7a5c; --waiting: #a85b00; --wire: #7a8894; --wire-shut: #93a0ac; --cut: #a3128f; --side: #e9c9f2; --pod: #e4e9ee; --lost: #cf3a2c; --known: #7d57c1; }
 :root[data-theme=dark] { color-scheme: dark; --ground: #11171d; --card: #1a222b; --ink: #e8edf2; --soft: #a3b0bc; --rule: #33404c; --accent: #8ab4ff;
   --up: #1d4a3a; --up-ink: #d3f3e6; --busy: #1d4f8c; --busy-ink: #e3f0ff; --failed: #8c2a20; --failed-ink: #ffe4e0; --idle: #3a444e; --idle-ink: #dde4ea;
-  --sure: #4fae8b; --waiting: #ffb03a; --wire: #65747f; --wire-shut: #36424d; --cut: #ff7be9; --side: #4b2a57; --pod: #18212a; --lost: #ff7365; --known: #b79aef; }
+  --sure: #4fae8b; --waiting: #ffb03a; --wire: #65747f; --wire-shut: #505d69; --cut: #ff7be9; --side: #4b2a57; --pod: #18212a; --lost: #ff7365; --known: #b79aef; }
 * { box-sizing: border-box; }
 html, body { height: 100%; }
 body { margin: 0; display: grid; grid-template: auto minmax(0, 1fr) auto / minmax(0, 1fr) 348px; background: var(--ground); color: var(--ink);
   font: 14px/1.4 system-ui, "Segoe UI", "Liberation Sans", sans-serif; }
 header, footer { grid-column: 1 / -1; background: var(--card); padding: 6px 14px; display: flex; gap: 10px; align-items: center; flex-wrap: wrap; }
-header { border-bottom: 1px solid var(--rule); flex-wrap: nowrap; }
+header { border-bottom: 1px solid var(--rule); } header .space { display: none; }
+#groups { flex-wrap: wrap; max-width: calc(100% - 8em); } #groups button { white-space: nowrap; }
 header > button { flex: none; }
 footer { border-top: 1px solid var(--rule); display: block; padding: 4px 14px 8px; }
 h1 { font-size: 15px; margin: 0 6px 0 0; }
 button, select, input { font: inherit; color: inherit; background: var(--card); border: 1px solid var(--rule); border-radius: 5px; padding: 3px 9px; }
 button { cursor: pointer; }
 button:hover { border-color: var(--accent); }
+button:disabled { color: var(--soft); border-style: dashed; border-color: var(--rule); cursor: default; }
 :focus-visible { outline: 2px solid var(--accent); outline-offset: 1px; }
 [aria-selected=true] { background: var(--accent); color: var(--card); border-color: var(--accent); }
 .space { flex: 1; }
 .notice { white-space: nowrap; flex: none; background: #ffe9b8; color: #4a3300; border-radius: 5px; padding: 2px 9px; }
-.numbers { min-width: 0; overflow: hidden; white-space: nowrap; text-overflow: ellipsis; color: var(--soft); font-variant-numeric: tabular-nums; }
+.numbers { flex: 1 1 16em; min-width: 0; overflow: hidden; white-space: nowrap; text-overflow: ellipsis; color: var(--soft); font-variant-numeric: tabular-nums; }
 #picture { position: relative; display: flex; flex-direction: column; min-width: 0; min-height: 0; }
 #room { flex: 1; min-height: 0; overflow: auto; }
 #net { height: 100%; width: 100%; display: block; }
@@ -57,13 +59,14 @@ ul { list-style: none; margin: 0; padding: 0; }
 li button, td button { border: 0; background: none; padding: 1px 3px; text-align: left; width: 100%; border-radius: 3px; }
 li button:hover, td button:hover { background: var(--ground); }
 li button.here { box-shadow: inset 3px 0 0 var(--accent); background: var(--ground); }
-li button.later { opacity: .5; }
+li button.later { color: var(--soft); font-style: italic; } li button.later b { font-weight: 400; }
 li b { font-weight: 600; } li small { color: var(--soft); font-size: 12px; }
 .hint { color: var(--soft); font-size: 13px; margin: 0 0 6px; }
 .yes { color: var(--sure); } .no { color: var(--lost); font-weight: 600; }
 table { border-collapse: collapse; width: 100%; font-size: 13px; font-variant-numeric: tabular-nums; }
 th { text-align: left; font-weight: 600; color: var(--soft); font-size: 12px; border-bottom: 1px solid var(--rule); padding: 2px 4px; position: sticky; top: -8px; background: var(--card); }
 td { padding: 1px 4px; white-space: nowrap; border-bottom: 1px solid var(--ground); }
+#panel-promises td:first-child { white-space: normal; overflow-wrap: anywhere; }
 td.differs { color: var(--waiting); font-weight: 700; }
 #lanes { width: 100%; height: 72px; display: block; cursor: pointer; }
 #slide { width: 100%; margin: 0; display: block; padding: 0; height: 16px; appearance: none; background: none; border: 0; }
@@ -74,7 +77,7 @@ td.differs { color: var(--waiting); font-weight: 700; }
 .controls { display: flex; gap: 6px; align-items: center; flex-wrap: wrap; padding-top: 4px; }
 .controls #at { min-width: 11em; text-align: center; font-variant-numeric: tabular-nums; }
 dialog { border: 1px solid var(--rule); border-radius: 8px; background: var(--card); color: var(--ink); max-width: 30em; }
-dialog td { padding: 3px 10px 3px 0; } kbd { border: 1px solid var(--rule); border-radius: 4px; padding: 0 5px; font: 12px ui-monospace, monospace; }
+dialog td { padding: 3px 10px 3px 0; } dialog td + td { white-space: normal; } kbd { border: 1px solid var(--rule); border-radius: 4px; padding: 0 5px; font: 12px ui-monospace, monospace; }
 /* the picture */
 .pod { fill: var(--pod); }
 .tier { fill: var(--soft); font-size: 11px; }
@@ -112,17 +115,19 @@ dialog td { padding: 3px 10px 3px 0; } kbd { border: 1px solid var(--rule); bord
 .badge.untold circle { fill: var(--lost); stroke: var(--lost); } .device .badge.untold text { fill: var(--card); }
 .lane-name { font-size: 11px; fill: var(--soft); paint-order: stroke; stroke: var(--card); stroke-width: 3px; } .lane-line { stroke: var(--rule); }
 .lost-network { fill: var(--lost); } .lost-sure { fill: var(--known); }
-.mark { font-size: 11px; text-anchor: middle; } .mark.accepted { fill: var(--sure); } .mark.refused { fill: var(--cut); font-weight: 700; } .mark.fail { fill: var(--lost); font-weight: 700; }
+.mark { font-size: 11px; text-anchor: middle; paint-order: stroke; stroke: var(--card); stroke-width: 3px; } .mark.accepted { fill: var(--sure); } .mark.refused { fill: var(--cut); font-weight: 700; } .mark.fail { fill: var(--lost); font-weight: 700; }
 .cursor { stroke: var(--accent); stroke-width: 2; }
 @media (max-height: 700px) { #legend { font-size: 11px; padding-bottom: 2px; } #said { min-height: 120px; padding: 6px 14px; } }
-@media (max-width: 900px) { html, body { height: auto; } body { grid-template-columns: 1fr; } #picture { height: 60vh; } aside { border-left: 0; } }
+@media (max-width: 900px) { html, body { height: auto; } body { grid-template-columns: minmax(0, 1fr); } #picture { height: 60vh; } aside { border-left: 0; }
+  h1, .controls .hint { display: none; } #said { max-height: none; } footer { position: sticky; bottom: 0; }
+  .controls { gap: 4px; } .controls :is(button, select) { padding: 3px 5px; } .controls #at { min-width: 8em; } }
 @media print {
   #line { max-height: none; }
   @page { size: landscape; margin: 10mm; }
   html, body { height: auto; } body { display: block; background: none; font-size: 11px; }
   header > button, header nav button:not([aria-selected=true]), .controls, #slide, aside nav, #panel-entity, #panel-promises .kept { display: none !important; }
   aside { display: block; }
-  #picture { height: 92mm; } li button.later { opacity: 1; } footer { break-inside: avoid; }
+  #picture { height: 92mm; } footer { break-inside: avoid; }
   #panel-promises:not(:has(tr:not(.kept) td)) { display: none !important; } aside { border: 0; } #said, #lists { max-height: none; overflow: visible; min-height: 0; }
   #lists > div, #lists > div[hidden] { display: block; } #lists { columns: 3; } #panel-entity { display: none !important; }
   * { print-color-adjust: exact; -webkit-print-color-adjust: exact; }
@@ -168,5 +173,5 @@ dialog td { padding: 3px 10px 3px 0; } kbd { border: 1px solid var(--rule); bord
   <tr><td><kbd>r</kbd> <kbd>f</kbd> <kbd>l</kbd></td><td>next receipt, refusal, loss or return of a promise; with Shift the one before</td></tr>
   <tr><td><kbd>e</kbd></td><td>next entry of the chosen device or link; with Shift the one before</td></tr>
   <tr><td><kbd>1</kbd> to <kbd>9</kbd></td><td>group</td></tr><tr><td><kbd>/</kbd></td><td>find a device or link</td></tr><tr><td><kbd>d</kbd></td><td>dark, light</td></tr>
-  <tr><td><kbd>Esc</kbd></td><td>choose nothing</td></tr></table><form method="dialog"><button>Close</button></form></dialog>
+  <tr><td><kbd>Esc</kbd></td><td>choose nothing; leave a field</td></tr></table><form method="dialog"><button>Close</button></form></dialog>
 <script type="application/json" id="run">"###;

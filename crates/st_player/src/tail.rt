@@ -11,7 +11,7 @@ if (!run.groups.length) run.groups.push({ name: "no group", devices: [], links: 
 const $ = id => document.getElementById(id);
 const WORDS = { device: ["power", "firmware", "config", "routing"], link: ["power", "iface"] };
 const IS = { up: "up", busy: "busy: a change is under way", failed: "failed", off: "power is off", drained: "drained" };
-const KNOWN = { sure: "sure", settled: "settled, not carrying", waiting: "target not reached yet", blocked: "blocked" };
+const KNOWN = { sure: "sure", settled: "settled, not carrying", waiting: "target not known to be reached", blocked: "blocked" };
 const SIGN = { busy: "\u2026", failed: "\u00d7", off: "\u25cb", drained: "\u2013" };
 
 // ---- the data, made easy to look up
@@ -152,6 +152,11 @@ function html(parent, tag, attributes = {}, text) {
   return node;
 }
 const shorten = (name, most) => name.length <= most ? name : name.slice(0, most - 1) + "\u2026";
+const shortenWithin = (name, most) => name.length <= most ? name : name.slice(0, most >> 1) + "\u2026" + name.slice((most >> 1) + 1 - most);
+function shorterOf(names, most) {                        // the way that leaves more of a row's names apart
+  const apart = way => new Set(names.map(name => way(name, most))).size;
+  return apart(shortenWithin) > apart(shorten) ? shortenWithin : shorten;
+}
 
 let at = 0, group = run.groups[0], chosen = null, playing = null, tab = "now", shapes = [];
 const seen = new Map();                                  // group -> where its slider stood
@@ -184,15 +189,16 @@ function drawNetwork() {
     reach.onclick = () => choose(group.devices.length + i);
     shapes[group.devices.length + i] = { node, reach };
   });
+  const shorter = new Map(lines.map(({ k }) => [k, shorterOf(group.names.filter((_, i) => place[i] && place[i].layer === k), place.find(p => p.layer === k).letters)]));
   group.devices.forEach(({ name, tor }, i) => {
-    const { x, y, w, h, flat, letters, pitch } = place[i];
+    const { x, y, w, h, flat, letters, pitch, layer } = place[i];
     const shade = make(shades, "rect", { x: x - Math.min(pitch, w + 56) / 2, y: y - h / 2 - 16, width: Math.min(pitch, w + 56), height: h + 32, rx: pitch > w + 56 ? 8 : 0 });
     const node = make(boxes, "g", { transform: `translate(${x} ${y})` });
     make(node, "rect", { class: "halo", x: -w / 2 - 3.5, y: -h / 2 - 3.5, width: w + 7, height: h + 7, rx: 6 });
     make(node, "rect", { class: "box", x: -w / 2, y: -h / 2, width: w, height: h, rx: tor ? 2 : 7 });
     const size = flat ? Math.min(14, (w - 6) / Math.min(name.length, letters) * 1.9) : Math.min(13, w - 2);
     const label = make(node, "text", flat ? { class: "name", "text-anchor": "middle", y: 4.5, "font-size": size }
-      : { class: "name", transform: "rotate(-90)", x: -h / 2 + 6, y: size * .36, "font-size": size }, shorten(name, letters));
+      : { class: "name", transform: "rotate(-90)", x: -h / 2 + 6, y: size * .36, "font-size": size }, shorter.get(layer)(name, letters));
     const narrow = flat && w < name.length * 8 + 32;     // then the sign stands above the name
     const sign = make(node, "text", { class: "sign", x: flat && !narrow ? w / 2 - 9 : 0, y: narrow ? -4 : flat ? 5 : -h / 2 + 12, "font-size": 13 });
     const lock = badge(node, "lock", flat ? -w / 2 + 1 : 0, h / 2, ""), untold = badge(node, "untold", flat ? w / 2 - 1 : w / 2 - 2, -h / 2, "?"), stuck = badge(node, "stuck", flat ? w / 2 - 1 : 0, h / 2, "!");
@@ -273,10 +279,10 @@ const SAY = {
     return r[2] === "accepted" ? `${what} is accepted. It is version ${r[3]} of the target.` : `${what} is refused: ${causeWords(r.slice(3))}`;
   },
   lock: (w, r) => r[0] === "granted" ? `${w[1]} takes the ${w[3]} lock of ${w[2]}.` : `${w[1]} asks for the ${w[3]} lock of ${w[2]}, which ${r[1]} holds.`,
-  unlock: (w, r) => r[0] === "released" ? `${w[1]} gives back the ${w[3]} lock of ${w[2]}.` : `${w[1]} gives back the ${w[3]} lock of ${w[2]}, which ${r[1] === "-" ? "nobody" : r[1]} holds.`,
-  send: (w, r) => r[0] === "sent" ? `The updater sends command ${r[1]} to ${w[1]}.` : r[0] === "settled" ? `${w[1]} is settled, so nothing is sent to it.` : `Nothing is sent to ${w[1]}: ${r[1].replace("=", " = ")} can't be set as long as it is out of reach.`,
-  deliver: (w, r, name) => r[0] === "begun" ? `Command ${w[1]} arrives, and ${name} begins its change.` : r[0] === "stale" ? `Command ${w[1]} arrives at ${name} again or late, and is passed over: ${name} began the command of entry ${r[1]}.` : `Command ${w[1]} doesn't exist: ${many(+r[1], "command")} were sent.`,
-  finish: (w, r) => r[0] === "done" ? `${w[1]} finishes its change.` : `${w[1]} has no change to finish: no command came.`,
+  unlock: (w, r) => r[0] === "released" ? `${w[1]} gives back the ${w[3]} lock of ${w[2]}.` : `${w[1]} would give back the ${w[3]} lock of ${w[2]}, which ${r[1] === "-" ? "nobody" : r[1]} holds: nothing is given back.`,
+  send: (w, r) => r[0] === "sent" ? `The updater sends command ${r[1]} to ${w[1]}.` : r[0] === "settled" ? `${w[1]} is settled, so nothing is sent to it.` : `Nothing is sent to ${w[1]}: by what is known, ${r[1].replace("=", " = ")} can't be set now.`,
+  deliver: (w, r, name) => r[0] === "begun" ? `Command ${w[1]} arrives, and ${name} begins its change.` : r[0] === "stale" ? `Command ${w[1]} arrives at ${name} and is passed over: ${name} has begun already what entry ${r[1]} calls for.` : `Command ${w[1]} doesn't exist: ${many(+r[1], "command")} were sent.`,
+  finish: (w, r) => r[0] === "done" ? `${w[1]} finishes its change.` : `${w[1]} has no change to finish: none is under way.`,
   report: (w, r) => `${w[1]} sends report ${r[1]} of what it is.`,
   hear: (w, r, name) => r[0] === "taken" ? `Report ${w[1]} is heard: it is now what is known of ${name}.` : r[0] === "old" ? `Report ${w[1]} of ${name} is heard again or late, and is passed over.` : `Report ${w[1]} doesn't exist.`,
   fail: w => `${w[1]} changes of itself: health ${w[2]}, ${w.slice(3).map(x => x.replace("=", " ")).join(", ")}. No report has told it yet.`,
@@ -316,7 +322,7 @@ function showSaid(entry) {
     const gone = refused.gone.map(e => group.names[e]);
     const part = partOf(refused), few = list => list.length > 6 ? list.slice(0, 6).join(", ") + " and " + (list.length - 6) + " more" : list.join(", ");
     html(more, "p", { className: "hint" }, `Shaded: ${few(part.map(e => group.names[e]))}${refused.part === "far" ? ` (the least side is the other part, ${many(refused.side.length, "device")})` : ", the least side"}. `
-      + `Of the ${many(refused.left.length + refused.out.length, "link")} that leave it ${refused.left.length || "none"} would count.`
+      + `Of the ${many(refused.left.length + refused.out.length, "link")} that leave it ${refused.left.length || "none"} would count${refused.out.length ? "; in dashes: those that would not" : ""}.`
       + (refused.gone.length ? ` Not counted on before: ${few(refused.gone.map(e => group.names[e]))}.` : ""));
   }
   for (const [set, where] of [["network", "in the network"], ["sure", "in what the checker counts on"]]) {
@@ -340,21 +346,31 @@ function showNow() {
   if (list.length > 60) html(panel, "p", { className: "hint" }, `and ${list.length - 60} more`);
 }
 const wordsOf = e => e < group.devices.length ? WORDS.device : WORDS.link;
-function showReceipts() {
-  const panel = $("panel-receipts");
+function listReceipts(panel) {                           // once for a group, and not at each step
   panel.replaceChildren();
   if (!group.receipts.length) html(panel, "p", { className: "hint" }, "No proposal was decided.");
   const ul = html(panel, "ul");
-  let here = null;
-  for (const n of group.receipts.slice(0, 3000)) {
+  return group.receipts.map(n => {
     const entry = group.entries[n - group.first - 1], [, ticket, verdict, ...rest] = entry.words.slice(2), ok = verdict === "accepted", ask = askedBy(entry);
-    const item = button(html(ul, "li"), "", () => go(n), n === at ? "here" : n > at ? "later" : "");
-    if (n === at) here = item;
+    const item = button(html(ul, "li"), "", () => go(n));
     html(item, "span", { className: ok ? "yes" : "no" }, ok ? "\u2713 " : "\u2717 ");
     html(item, "b", {}, `${ticket} ${ask ? ask[1] : ""} `);
     html(item, "small", {}, `${ask ? rowsText(ask.slice(2)) : ""}: ${ok ? "version " + rest[0] : causeWords(rest)} [${n}]`);
+    return { n, item };
+  });
+}
+let listed = { group: null, items: [] };
+function showReceipts() {
+  if (listed.group !== group) listed = { group, items: listReceipts($("panel-receipts")) };
+  let near = null;                                       // the last one not after this entry
+  for (const { n, item } of listed.items) {
+    const name = n === at ? "here" : n > at ? "later" : "";
+    if (item.className !== name) item.className = name;
+    if (n <= at) near = item;
   }
-  if (here && tab === "receipts") here.scrollIntoView({ block: "nearest" });
+  if (tab !== "receipts" || !listed.items.length) return;
+  const lists = $("lists"), room = lists.getBoundingClientRect(), box = (near || listed.items[0].item).getBoundingClientRect();
+  lists.scrollTop += Math.min(0, box.top - room.top) + Math.max(0, box.bottom - room.bottom);   // the list alone, not the window
 }
 function showPromises() {
   const panel = $("panel-promises"), yes = v => v ? "yes" : "no";
@@ -369,7 +385,7 @@ function showPromises() {
     html(tr, "td", {}, pairText(r.i)); html(tr, "td", {}, `${r.p.need} (${r.p.percent}%)`);
     for (const v of [r.opened, r.network, r.sure]) html(tr, "td", { className: v ? "yes" : "no" }, yes(v));
   }
-  if (rows.length > 300) html(panel, "p", { className: "hint" }, `${rows.length - 300} more that hold are not listed.`);
+  if (rows.length > 300) html(panel, "p", { className: "hint" }, `${rows.length - 300} more${bad.length > 300 ? "" : " that hold"} are not listed.`);
 }
 function showEntity() {
   const panel = $("panel-entity");
@@ -377,8 +393,10 @@ function showEntity() {
   const find = html(panel, "input", { type: "search", placeholder: "find a device or link", value: chosen === null ? "" : group.names[chosen] });
   find.setAttribute("list", "names");
   find.setAttribute("aria-label", "Find a device or link");
-  find.onchange = () => { const e = group.names.indexOf(find.value.trim()); if (e >= 0) choose(e); };
-  if (chosen === null) { html(panel, "p", { className: "hint" }, "Click a device or a link, or type its name."); return; }
+  find.onfocus = pause;                                  // each step makes a new field
+  const told = html(panel, "p", { className: "hint" }, chosen === null ? "Click a device or a link, or type its name." : "");
+  find.onchange = () => { const e = group.names.indexOf(find.value.trim()); if (e >= 0) choose(e); else if (find.value) told.textContent = `No device or link is named ${find.value}.`; };
+  if (chosen === null) return;
   const s = valueAt(group.entities[chosen], at), link = group.links[chosen - group.devices.length];
   html(panel, "p", { style: "margin:6px 0" }, (link ? `Link ${link.ends.map(d => group.names[d]).join(" \u2013 ")}, capacity ${link.capacity}. ` : group.devices[chosen].tor ? "ToR. " : "Switch. ") + stateWords(s).join("; ") + ".");
   const table = html(panel, "table"), head = html(table, "tr");
@@ -411,11 +429,12 @@ function drawLanes() {
   const svg = $("lanes"), { width } = svg.getBoundingClientRect(), most = Math.max(1, ...group.lostCount.network, ...group.lostCount.sure);
   svg.replaceChildren();
   svg.setAttribute("viewBox", `0 0 ${width} 72`);
+  make(svg, "line", { class: "cursor", id: "cursor", y1: 0, y2: 72 });   // below the marks
   const lane = (set, y, label) => {
     const counts = group.lostCount[set], turns = counts.map((c, i) => i).filter(i => i === 0 || counts[i] !== counts[i - 1]);
     make(svg, "line", { class: "lane-line", x1: EDGE, x2: width - EDGE, y1: y, y2: y });
     turns.forEach((i, k) => { if (!counts[i]) return; const x1 = xOf(group.first + i, width), x2 = xOf(k + 1 < turns.length ? group.first + turns[k + 1] : group.last, width), h = 3 + 10 * counts[i] / most;
-      make(svg, "rect", { class: "lost-" + set, x: x1, width: Math.max(1.5, x2 - x1), y: y - h, height: h }); if (x2 - x1 > 18 && x1 > 230) make(svg, "text", { x: x1 + 3, y: y - h - 1.5, class: "lane-name" }, counts[i]); });
+      make(svg, "rect", { class: "lost-" + set, x: x1, width: Math.max(4, x2 - x1), y: y - h, height: h }); if (x2 - x1 > 18 && x1 > 230) make(svg, "text", { x: x1 + 3, y: y - h - 1.5, class: "lane-name" }, counts[i]); });
     make(svg, "text", { class: "lane-name", x: EDGE, y: y - 15 }, label);
   };
   lane("network", 28, "promises lost in the network");
@@ -428,7 +447,6 @@ function drawLanes() {
     if (!there || weight.indexOf(kind) < weight.indexOf(there.kind)) slots.set(slot, { kind, x });
   });
   for (const { kind, x } of slots.values()) make(svg, "text", { class: "mark " + kind, x, y: 68 }, SIGNS[kind]);
-  make(svg, "line", { class: "cursor", id: "cursor", y1: 0, y2: 72 });
 }
 $("lanes").onclick = event => { const { left, width } = $("lanes").getBoundingClientRect(); go(group.first + Math.round((event.clientX - left - EDGE) / (width - 2 * EDGE) * (group.last - group.first))); };
 
@@ -438,6 +456,7 @@ function show() {
   const entry = group.entries[at - group.first - 1], { version, pending } = valueAt(group.numbers, at), { width } = $("lanes").getBoundingClientRect();
   const down = set => group.lostCount[set][at - group.first];
   $("numbers").textContent = `version ${version} \u00b7 ${pending} waiting \u00b7 promises: ${group.promises.length - down("network")} of ${group.promises.length} hold, the checker counts on ${group.promises.length - down("sure")}`;
+  for (const node of document.querySelectorAll("[data-leap]")) node.disabled = at >= group.furthest[node.dataset.leap];
   $("slide").value = at;
   $("slide").setAttribute("aria-valuetext", sentenceOf(at));
   $("at").textContent = `entry ${at} of ${group.last}`;
@@ -454,6 +473,8 @@ function setGroup(next, n) {
   chosen = null;
   if (tab === "entity") tab = "now";
   run.groups.forEach((g, i) => $("groups").children[i].setAttribute("aria-selected", g === group));
+  group.furthest = {};                                   // the last entry of each kind that is gone to
+  for (const kind of ["receipt", "refusal", "loss"]) group.furthest[kind] = group.first + 1 + group.entries.findLastIndex(entry => LEAP[kind](entry));
   $("slide").min = group.first;
   $("slide").max = group.last;
   const hidden = group.total - group.entries.length;
@@ -501,6 +522,7 @@ const KEYS = {
 };
 document.addEventListener("keydown", event => {
   const field = event.target.closest("input[type=search], select, dialog"), press = event.target.closest("button") && (event.key === " " || event.key === "Enter");
+  if (event.key === "Escape" && event.target.matches("input[type=search], select")) event.target.blur();   // the keys move again
   if (field || press || event.ctrlKey || event.metaKey || event.altKey) return;
   const number = +event.key;
   if (number >= 1 && number <= run.groups.length) { pause(); setGroup(run.groups[number - 1]); event.preventDefault(); }
@@ -519,7 +541,10 @@ $("back").onclick = () => { pause(); go(at - 1); };
 $("next").onclick = () => { pause(); go(at + 1); };
 $("last").onclick = () => { pause(); go(group.last); };
 $("play").onclick = play;
-$("speed").onchange = () => { if (playing) { pause(); play(); } };
+let isPointed = false;                                   // a speed that was clicked leaves the keys to the page
+$("speed").onpointerdown = () => { isPointed = true; };
+$("speed").onkeydown = () => { isPointed = false; };
+$("speed").onchange = () => { if (playing) { pause(); play(); } if (isPointed) $("speed").blur(); };
 $("theme").onclick = otherTheme;
 $("print").onclick = () => window.print();
 $("help").onclick = () => $("keys").showModal();

@@ -238,3 +238,90 @@ fn a_commit_runs_no_flow_for_what_was_found_to_break(rt: HostRuntime) -> Result<
     assert_eq!(&rt; runs_refused_once(&rt, alloc, detour::world(alloc)?)?, 0);
     Ok(())
 }
+
+/// A link fails, or works again, and is heard of by its report of this number.
+fn link_is_heard(
+    alloc: Global,
+    world: &mut World,
+    link: Entity,
+    health: u32,
+    report: u32,
+    words: &str,
+) -> Result<(), Fail> {
+    let vals = Vals {
+        v0: 1,
+        v1: 1,
+        v2: 0,
+        v3: 0,
+    };
+    let event = Event::Fail {
+        entity: link,
+        vals,
+        health,
+    };
+    told(alloc, world, event, "changed")?;
+    told(alloc, world, Event::Report { entity: link }, words)?;
+    told(alloc, world, Event::Hear { report }, "taken")
+}
+
+/// The link of the way works again, and then what was judged is committed and accepted.
+fn accepts_with_more(
+    alloc: Global,
+    world: &mut World,
+    link: Entity,
+    judged: Judged,
+) -> Result<(), Fail> {
+    link_is_heard(alloc, world, link, 1, 2, "reported 2")?;
+    match committed_once(world, judged)? {
+        Committed::Did(receipt) => expect(is_accepted(&receipt.verdict)),
+        _ => Err(Fail::new("no receipt")),
+    }
+}
+
+/// How many runs of a flow a world counts once an upgrade of a switch was judged while the switch's link was down, and committed when that
+/// worked again.
+fn runs_with_more(
+    rt: &(impl Threads + Sync),
+    alloc: Global,
+    world: &mut World,
+    entity: Entity,
+    link: Entity,
+) -> Result<u64, Fail> {
+    link_is_heard(alloc, world, link, 0, 1, "reported 1")?;
+    told(alloc, world, firmware(alloc, entity, 2)?, "queued 1")?;
+    accepts_with_more(alloc, world, link, judged(rt, alloc, world)?)?;
+    Ok(world.control().flows_run())
+}
+
+/// The same of a world that is not needed any more.
+fn runs_with_more_once(
+    rt: &(impl Threads + Sync),
+    alloc: Global,
+    mut world: World,
+    entity: Entity,
+    link: Entity,
+) -> Result<u64, Fail> {
+    runs_with_more(rt, alloc, &mut world, entity, link)
+}
+
+fn runs_of_more(
+    rt: &(impl Threads + Sync),
+    alloc: Global,
+    entity: Entity,
+    link: Entity,
+) -> Result<u64, Fail> {
+    runs_with_more_once(rt, alloc, detour::world(alloc)?, entity, link)
+}
+
+// One of the two ways carries the kept flow, so that for one of them the promise would be asked for a flow.
+#[test]
+fn a_commit_with_more_that_is_sure_runs_no_flow_for_what_holds(
+    rt: HostRuntime,
+) -> Result<(), Fail> {
+    let alloc = rt.alloc();
+    let [first, second] = detour::WAYS;
+    let [one, two] = detour::LINKS;
+    assert_eq!(&rt; runs_of_more(&rt, alloc, first, one)?, 0);
+    assert_eq!(&rt; runs_of_more(&rt, alloc, second, two)?, 0);
+    Ok(())
+}

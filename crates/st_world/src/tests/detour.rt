@@ -13,6 +13,9 @@ use std::test::Fail;
 /// The two switches.
 pub const WAYS: [Entity; 2] = [Entity::Device(3), Entity::Device(4)];
 
+/// The link by which each of them is reached.
+pub const LINKS: [Entity; 2] = [Entity::Link(1), Entity::Link(2)];
+
 /// The switch that both go through.
 pub const HUB: Entity = Entity::Device(2);
 
