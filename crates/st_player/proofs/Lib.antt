@@ -1,4 +1,5 @@
 pub mod CutLemmas
+pub mod GroupParts
 pub mod PartLemmas
 pub mod PassLemmas
 pub mod PictureLemmas

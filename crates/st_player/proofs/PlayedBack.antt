@@ -1,10 +1,11 @@
 -- The data of a page, read back: entry by entry what is told of an entity is its state.
-use Rattle.std.proofs.Common.{append_assoc, ◌≡◌, ◌∙◌, ◌+◌, ◌-◌, ◌<◌, ◌≤◌, ℕ, zero, suc, List, [], ◌∷◌, ◌++◌, true, false, Bool, true≢false, refl, sym, ap, ap₂, codes, length, map, get_or, take, drop, arith}
+use Rattle.std.proofs.Common.{append_assoc, ◌≡◌, ◌∙◌, ◌+◌, ◌-◌, ◌<◌, ◌≤◌, ℕ, zero, suc, List, [], ◌∷◌, ◌++◌, true, false, Bool, true≢false, refl, sym, ap, ap₂, subst, codes, length, map, get_or, take, drop, arith}
 use Rattle.std.specs.Prelude.{Option, Some, None, bytes_eq, is_some, nat_le, not, option_and_then, option_map, ◌||◌, ◌==◌, reverse, if◌then◌else◌}
 use Rattle.std.specs.List.{list_any, position_or_len}
 use Rattle.std.specs.Option.{option_or}
 use Rattle.std.proofs.lemmas.Bool.Decides.{nat_tests}
 use Rattle.std.proofs.lemmas.List.{get_or-map, length-append, length-drop, length-map, reverse-append, take-append-le, take_min, drop_min}
+use Rattle.std.proofs.lemmas.List.Sums.{sum_by-cons}
 use Rattle.std.proofs.Math.Seq.{take-add}
 use Rattle.serde_json.specs.Data.{Data, Members, no_members, put, string}
 use Rattle.serde_json.specs.Find.{at, get, get_item, get_member}
@@ -20,12 +21,13 @@ use Rattle.st_player.specs.declared.state.State.{State}
 use Rattle.st_player.specs.Entries.{about, asked_of, entry_data, entry_words, line_of, told_data, turned_of}
 use Rattle.st_player.specs.Fields.{change_data, changes_from, fields_between, has_field, state_data}
 use Rattle.st_player.specs.Json.{list_data, number_data, numbers_data, put_list, put_some, put_where}
-use Rattle.st_player.specs.Laws.{NoEntryIsLost, StatesPlayBack}
-use Rattle.st_player.specs.Pictures.{after, entries_data, first_of, fitting, is_known, is_same_state, kind_in, kinds_of, kinds_on, kinds_with, lost_data, opening_data, shown_entries, size_of}
-use Rattle.st_player.specs.PlayedBack.{at_place, in_changes, in_set, is_number, last_told, told_by_entry, told_by_opening}
+use Rattle.st_player.specs.Laws.{LongestFits, NoEntryIsLost, StatesPlayBack}
+use Rattle.st_player.specs.Pictures.{after, bytes_of, entries_data, first_of, fitting, group_data, is_known, is_same_state, kind_in, kinds_of, kinds_on, kinds_with, lost_data, opening_data, shown_entries, size_of}
+use Rattle.st_player.specs.PlayedBack.{at_place, entries_in, first_in, in_changes, in_set, is_number, last_told, told_by_entry, told_by_opening}
 use Rattle.st_player.specs.Refusals.{refused_of}
 use Rattle.st_player.specs.Snapshots.{Shown, shown_of, states_of}
 use Rattle.st_player.specs.States.{state_of}
+use Rattle.st_player.proofs.GroupParts.{after_first, behind_first, entries_told, first_told, opening_told, total_told}
 use Rattle.st_player.proofs.PartLemmas.{not_same, not_so, other_key}
 use Rattle.st_player.proofs.StateParts.{change_of, change_over, same_as_itself, same_state}
 
@@ -98,13 +100,13 @@ pub not_in_words : (k : List ℕ) (g : Group) (apps : List (List ℕ)) (past : L
     → get_member k (entry_words g apps past entry) ≡ None
 unfolding entry_words
 not_in_words k g apps past entry no_line no_on no_asked no_refused =
-    let line = put (codes "line") (string (line_of g apps entry)) no_members in
+    let line = put (codes "line") (string (line_of g apps (length past + 1) entry)) no_members in
     let on = put_list (codes "on") (map number_data (about g past entry)) line in
     let asked = put_some (codes "asked") (option_map number_data (asked_of past entry.event entry.reply)) on in
     apart_some k (codes "refused") (refused_of g past entry.event entry.reply) asked no_refused
     ∙ (apart_some k (codes "asked") (option_map number_data (asked_of past entry.event entry.reply)) on no_asked
     ∙ (apart_list k (codes "on") (map number_data (about g past entry)) line no_on
-    ∙ get_member-put_other k (codes "line") (string (line_of g apps entry)) no_members (not_same k (codes "line") no_line)))
+    ∙ get_member-put_other k (codes "line") (string (line_of g apps (length past + 1) entry)) no_members (not_same k (codes "line") no_line)))
 
 set_of : (old new : Shown) (ms : Members) → get (codes "set") (told_data old new ms) ≡ get_member (codes "set") (put_list (codes "set") (changes_from 0 old.states new.states) ms)
 unfolding told_data
@@ -262,13 +264,77 @@ data_front g apps past [] (suc m) = refl
 data_front g apps past (entry ∷ entries) zero = refl
 data_front g apps past (entry ∷ entries) (suc m) = ap (λ (ds : List Data). entry_data g apps past entry ∷ ds) (data_front g apps (entry ∷ past) entries m)
 
+bytes_more : (d : Data) (ds : List Data) → bytes_of (d ∷ ds) ≡ size_of d + bytes_of ds
+bytes_more d ds = sum_by-cons size_of d ds
+
+-- what fits takes no more than the room, and the next is larger than what is left of it
+pub fits_within : (room : ℕ) (ds : List Data) → bytes_of (fitting room ds) ≤ room
+fits_within room [] = omega arith
+fits_within room (d ∷ ds) = by_room (nat_le (size_of d) room) refl (fits_within (room - size_of d) ds)
+  where
+    by_room : (fits : Bool) → nat_le (size_of d) room ≡ fits → bytes_of (fitting (room - size_of d) ds) ≤ room - size_of d → bytes_of (if fits then d ∷ fitting (room - size_of d) ds else []) ≤ room
+    by_room true is rest =
+        let low : size_of d ≤ room = grind (arith, nat_tests) in
+        subst (λ (n : ℕ). n ≤ room) (sym (bytes_more d (fitting (room - size_of d) ds))) (omega (arith, low, rest))
+    by_room false is rest = omega arith
+
+pub fits_longest : (room : ℕ) (ds : List Data) (next : Data) (later : List Data) → ds ≡ fitting room ds ++ next ∷ later → room < bytes_of (fitting room ds ++ next ∷ [])
+fits_longest room [] next later is = absurd (nil_not_cons is)
+  where
+    nil_not_cons : {X : Type 0} {x : X} {xs : List X} → [] ≡ x ∷ xs → ⊥
+    nil_not_cons is = cc
+fits_longest room (d ∷ ds) next later is = by_room (nat_le (size_of d) room) refl (fits_longest (room - size_of d) ds next later) is
+  where
+    same_tail : {xs ys : List Data} → d ∷ xs ≡ d ∷ ys → xs ≡ ys
+    same_tail is = cc
+
+    same_head : {e : Data} {xs ys : List Data} → d ∷ xs ≡ e ∷ ys → d ≡ e
+    same_head is = cc
+
+    by_room : (fits : Bool) → nat_le (size_of d) room ≡ fits
+        → (ds ≡ fitting (room - size_of d) ds ++ next ∷ later → room - size_of d < bytes_of (fitting (room - size_of d) ds ++ next ∷ []))
+        → d ∷ ds ≡ (if fits then d ∷ fitting (room - size_of d) ds else []) ++ next ∷ later
+        → room < bytes_of ((if fits then d ∷ fitting (room - size_of d) ds else []) ++ next ∷ [])
+    by_room true is rest whole =
+        let high = rest (same_tail whole) in
+        subst (λ (n : ℕ). room < n) (sym (bytes_more d (fitting (room - size_of d) ds ++ next ∷ []))) (omega (arith, high))
+    by_room false is rest whole =
+        let high : room < size_of d = grind (arith, nat_tests) in
+        let same = ap size_of (same_head whole) in
+        subst (λ (n : ℕ). room < n) (sym (bytes_more next [])) (omega (arith, high, same))
+
+behind_told : (apps : List (List ℕ)) (from room : ℕ) (g : Group) (entries : List Entry)
+    → entries_data g apps (after (first_in (group_data apps from room g entries)) entries) (drop (first_in (group_data apps from room g entries)) entries) ≡ entries_data g apps (after from entries) (drop from entries)
+behind_told apps from room g entries =
+    ap (λ (first : ℕ). entries_data g apps (after first entries) (drop first entries)) (first_told apps from room g entries)
+    ∙ ap₂ (entries_data g apps) (after_first from entries) (behind_first from entries)
+
 pub no_entry_lost : NoEntryIsLost
 unfolding shown_entries
-no_entry_lost g apps from room entries =
+no_entry_lost apps from room g entries =
     let ds = entries_data g apps (after from entries) (drop from entries) in
     let rest = what_is_left room ds in
+    let shown = entries_told apps from room g entries in
+    let first = first_told apps from room g entries in
     let whole : length ds ≡ length (fitting room ds) + length rest.0 = ap length rest.1 ∙ length-append (fitting room ds) rest.0 in
-    (rest.0, rest.1, omega (arith, whole, data_count g apps (after from entries) (drop from entries), length-drop from entries))
+    record {
+      left = rest.0;
+      behind = behind_told apps from room g entries ∙ (rest.1 ∙ ap (λ (xs : List Data). xs ++ rest.0) (sym shown));
+      count = omega (arith, first, ap length shown, whole, data_count g apps (after from entries) (drop from entries), length-drop from entries);
+      total = total_told apps from room g entries;
+    }
+
+pub longest_fits : LongestFits
+unfolding shown_entries
+longest_fits apps from room g entries =
+    let ds = entries_data g apps (after from entries) (drop from entries) in
+    let shown : entries_in (group_data apps from room g entries) ≡ fitting room ds = entries_told apps from room g entries in
+    record {
+      within = subst (λ (xs : List Data). bytes_of xs ≤ room) (sym shown) (fits_within room ds);
+      longest = λ next later is.
+          subst (λ (xs : List Data). room < bytes_of (xs ++ next ∷ [])) (sym shown)
+          (fits_longest room ds next later (sym (behind_told apps from room g entries) ∙ (is ∙ ap (λ (xs : List Data). xs ++ next ∷ later) shown)));
+    }
 
 -- an item of a list of data
 item_at : (ds : List Data) (i : ℕ) (d : Data) → i < length ds → get_item i (items_of ds) ≡ Some (get_or ds i d)
@@ -320,9 +386,10 @@ kind_is states i s low at =
     (first.0, same_state (get_or (kinds_of states) (kind_in (kinds_of states) s) s) s (not_so first.1))
 
 -- what an opening tells of an entity is its state
-opening_told : (k : List ℕ) (g : Group) (past : List Entry) (e : Entity) → IsEntityOf g e → told_by_opening k (place_in g e) (opening_data (shown_of g past)) ≡ get k (state_data (state_of g past e))
+state_opens : (k : List ℕ) (g : Group) (past : List Entry) (e : Entity) → IsEntityOf g e
+    → at_place k (get (codes "states") (opening_data (shown_of g past))) (option_and_then (at (place_in g e)) (get (codes "of") (opening_data (shown_of g past)))) ≡ get k (state_data (state_of g past e))
 unfolding shown_of
-opening_told k g past e here =
+state_opens k g past e here =
     let n = place_in g e in
     let s = state_of g past e in
     let states = states_of g past in
@@ -355,8 +422,23 @@ shown_past from m entries =
     take-add (first_of from entries) m entries ∙ ap₂ (λ (xs ys : List Entry). xs ++ take m ys) (take_min from entries) (drop_min from entries) in
     sym (ap reverse first ∙ reverse-append (take from entries) (take m (drop from entries)))
 
+-- of a group's data
+pub shown_within : (apps : List (List ℕ)) (from room m : ℕ) (g : Group) (entries : List Entry) → m ≤ length (entries_in (group_data apps from room g entries)) → m ≤ length (shown_entries g apps from room entries)
+shown_within apps from room m g entries within = subst (λ (ds : List Data). m ≤ length ds) (entries_told apps from room g entries) within
+
+pub told_front : (apps : List (List ℕ)) (from room m : ℕ) (g : Group) (entries : List Entry) → m ≤ length (entries_in (group_data apps from room g entries))
+    → take m (entries_in (group_data apps from room g entries)) ≡ entries_data g apps (after from entries) (take m (drop from entries))
+told_front apps from room m g entries within = ap (take m) (entries_told apps from room g entries) ∙ shown_front g apps from room m entries (shown_within apps from room m g entries within)
+
+pub told_past : (apps : List (List ℕ)) (from room m : ℕ) (g : Group) (entries : List Entry) → reverse (take m (drop from entries)) ++ after from entries ≡ after (first_in (group_data apps from room g entries) + m) entries
+told_past apps from room m g entries = shown_past from m entries ∙ ap (λ (first : ℕ). after (first + m) entries) (sym (first_told apps from room g entries))
+
 pub states_back : StatesPlayBack
-states_back g apps from room m entries k e other here within =
-    ap₂ (last_told k (place_in g e)) (shown_front g apps from room m entries within) (opening_told k g (after from entries) e here)
+states_back apps from room g entries k e m other here within =
+    let told = group_data apps from room g entries in
+    let opens : told_by_opening k (place_in g e) told ≡ get k (state_data (state_of g (after from entries) e)) =
+    ap₂ (λ (a b : Option Data). at_place k a (option_and_then (at (place_in g e)) b)) (opening_told (codes "states") apps from room g entries) (opening_told (codes "of") apps from room g entries)
+    ∙ state_opens k g (after from entries) e here in
+    ap₂ (last_told k (place_in g e)) (told_front apps from room m g entries within) opens
     ∙ (all_told k g apps (after from entries) (take m (drop from entries)) e (other_key k (codes "entity") other) here
-    ∙ ap (λ (es : List Entry). get k (state_data (state_of g es e))) (shown_past from m entries))
+    ∙ ap (λ (es : List Entry). get k (state_data (state_of g es e))) (told_past apps from room m g entries))

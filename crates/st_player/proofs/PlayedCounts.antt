@@ -18,11 +18,12 @@ use Rattle.st_player.specs.Entries.{entry_data, entry_words, lost_from, told_dat
 use Rattle.st_player.specs.Fields.{changes_from}
 use Rattle.st_player.specs.Json.{list_data, number_data, numbers_data, put_list, put_some, put_where}
 use Rattle.st_player.specs.Laws.{CountsPlayBack, PromisesPlayBack}
-use Rattle.st_player.specs.Pictures.{after, entries_data, lost_data, opening_data, unkept, with_states}
+use Rattle.st_player.specs.Pictures.{after, entries_data, group_data, lost_data, opening_data, unkept, with_states}
 use Rattle.st_player.specs.PlayedBack.{holds_after, holds_at_opening, is_among, is_back, is_listed, is_lost, is_number, last_at}
 use Rattle.st_player.specs.Snapshots.{Shown, held_of, shown_of}
+use Rattle.st_player.proofs.GroupParts.{opening_told}
 use Rattle.st_player.proofs.PartLemmas.{not_same}
-use Rattle.st_player.proofs.PlayedBack.{apart_list, apart_some, apart_where, back_more, equal_number, not_in_words, other_number, shown_front, shown_past}
+use Rattle.st_player.proofs.PlayedBack.{apart_list, apart_some, apart_where, back_more, equal_number, not_in_words, other_number, told_front, told_past}
 
 -- what an entry puts, from the words on
 abbrev with_set : Shown → Shown → Members → Members
@@ -110,15 +111,15 @@ opening_pending g past =
     get_member-put (codes "pending") (number_data shown.pending) (put (codes "version") (number_data shown.version) (to_sure shown))
 
 pub counts_back : CountsPlayBack
-counts_back g apps from room m entries within =
-    let front = shown_front g apps from room m entries within in
-    let whole = shown_past from m entries in (
-      ap₂ (last_at (codes "version")) front (opening_version g (after from entries))
-          ∙ (counts_told (codes "version") version g apps (after from entries) (take m (drop from entries)) (version_step g apps)
-          ∙ ap (λ (es : List Entry). Some (number_data (version es))) whole),
-      ap₂ (last_at (codes "pending")) front (opening_pending g (after from entries))
-          ∙ (counts_told (codes "pending") (λ (es : List Entry). length (pending es)) g apps (after from entries) (take m (drop from entries)) (pending_step g apps)
-          ∙ ap (λ (es : List Entry). Some (number_data (length (pending es)))) whole),
+counts_back apps from room g entries m within =
+    let front = told_front apps from room m g entries within in
+    let whole = told_past apps from room m g entries in
+    let past = after from entries in
+    let more = take m (drop from entries) in (
+      ap₂ (last_at (codes "version")) front (opening_told (codes "version") apps from room g entries ∙ opening_version g past)
+          ∙ (counts_told (codes "version") version g apps past more (version_step g apps) ∙ ap (λ (es : List Entry). Some (number_data (version es))) whole),
+      ap₂ (last_at (codes "pending")) front (opening_told (codes "pending") apps from room g entries ∙ opening_pending g past)
+          ∙ (counts_told (codes "pending") (λ (es : List Entry). length (pending es)) g apps past more (pending_step g apps) ∙ ap (λ (es : List Entry). Some (number_data (length (pending es)))) whole),
     )
 
 -- promises behind are not listed
@@ -291,26 +292,28 @@ opening_sure shown =
     ∙ (get_member-put_other key (codes "version") (number_data shown.version) (to_sure shown) (not_same key (codes "version") refl)
     ∙ get_member-put key (lost_data shown.sure) network)
 
-network_opens : (g : Group) (past : List Entry) (i : ℕ) → i < length g.promises → holds_at_opening (codes "network") i (opening_data (shown_of g past)) ≡ is_kept g (actual g past) (promise_of g i)
+network_opens : (g : Group) (past : List Entry) (i : ℕ) → i < length g.promises → not (is_lost i (get (codes "network") (opening_data (shown_of g past)))) ≡ is_kept g (actual g past) (promise_of g i)
 unfolding shown_of
 network_opens g past i low =
     ap (λ (o : Option Data). not (is_lost i o)) (opening_network (shown_of g past))
     ∙ (unkept_at i (held_of g past actual) (omega (arith, low, held_long g past actual)) ∙ held_at g past actual i low)
 
-sure_opens : (g : Group) (past : List Entry) (i : ℕ) → i < length g.promises → holds_at_opening (codes "sure") i (opening_data (shown_of g past)) ≡ is_kept g (sure g past) (promise_of g i)
+sure_opens : (g : Group) (past : List Entry) (i : ℕ) → i < length g.promises → not (is_lost i (get (codes "sure") (opening_data (shown_of g past)))) ≡ is_kept g (sure g past) (promise_of g i)
 unfolding shown_of
 sure_opens g past i low =
     ap (λ (o : Option Data). not (is_lost i o)) (opening_sure (shown_of g past))
     ∙ (unkept_at i (held_of g past sure) (omega (arith, low, held_long g past sure)) ∙ held_at g past sure i low)
 
 pub promises_back : PromisesPlayBack
-promises_back g apps from room m i entries low within =
+promises_back apps from room g entries i m low within =
     let past = after from entries in
     let more = take m (drop from entries) in
-    let front = shown_front g apps from room m entries within in
-    let whole = shown_past from m entries in (
-      ap₂ (holds_after (codes "network") i) front (network_opens g past i low)
+    let front = told_front apps from room m g entries within in
+    let whole = told_past apps from room m g entries in
+    let opens : (key : List ℕ) → holds_at_opening key i (group_data apps from room g entries) ≡ not (is_lost i (get key (opening_data (shown_of g past)))) =
+    λ key. ap (λ (o : Option Data). not (is_lost i o)) (opening_told key apps from room g entries) in (
+      ap₂ (holds_after (codes "network") i) front (opens (codes "network") ∙ network_opens g past i low)
           ∙ (held_told (codes "network") actual g apps past more i low (network_in g apps) ∙ ap (λ (es : List Entry). is_kept g (actual g es) (promise_of g i)) whole),
-      ap₂ (holds_after (codes "sure") i) front (sure_opens g past i low)
+      ap₂ (holds_after (codes "sure") i) front (opens (codes "sure") ∙ sure_opens g past i low)
           ∙ (held_told (codes "sure") sure g apps past more i low (sure_in g apps) ∙ ap (λ (es : List Entry). is_kept g (sure g es) (promise_of g i)) whole),
     )

@@ -1,5 +1,5 @@
 -- What a picture says of one entry of a journal.
-use Rattle.std.specs.Prelude.{ℕ, ◌+◌, ◌==◌, ◌&&◌, ◌||◌, not, Bool, false, List, [], ◌∷◌, ◌++◌, Option, Some, None, codes, length, map, option_map, suc, if◌then◌else◌}
+use Rattle.std.specs.Prelude.{ℕ, ◌+◌, ◌==◌, ◌&&◌, ◌||◌, not, Bool, false, List, [], ◌∷◌, ◌++◌, Option, Some, None, codes, drop, length, map, option_map, suc, if◌then◌else◌}
 use Rattle.std.specs.List.{list_any}
 use Rattle.serde_json.specs.Data.{Data, string, object, Members, no_members, put}
 use Rattle.st_text.specs.Words.{line_text}
@@ -15,17 +15,16 @@ use Rattle.st_event.specs.declared.reply.Reply.{Reply}
 use Rattle.st_event.specs.declared.reply.Reply.TheVariants.{Decided}
 use Rattle.st_event.specs.Moments.{commands, reports}
 use Rattle.st_event.specs.Proposals.{is_queued, pending, first_rows}
-use Rattle.st_entry.specs.Entries.{event_words, reply_words}
-use Rattle.st_entry.specs.Keywords.{reply_mark}
+use Rattle.st_entry.specs.Entries.{entry_words as journal_words}
 use Rattle.st_player.specs.Fields.{changes_from}
 use Rattle.st_player.specs.Json.{number_data, put_list, put_some, put_where}
 use Rattle.st_player.specs.Cuts.{numbers_of}
 use Rattle.st_player.specs.Refusals.{refused_of}
 use Rattle.st_player.specs.Snapshots.{Shown, shown_of}
 
--- the line of an entry in its journal, without its number
-abbrev pub line_of : Group → List (List ℕ) → Entry → List ℕ
-line_of g apps entry = line_text (event_words g apps entry.event ++ reply_mark ∷ reply_words g apps entry.reply)
+-- the line of the entry of a number in its journal, without that number
+abbrev pub line_of : Group → List (List ℕ) → ℕ → Entry → List ℕ
+line_of g apps n entry = line_text (drop 1 (journal_words g apps n entry))
 
 -- the rows of a proposal, and of one that is decided
 abbrev pub decided_rows : Reply → List Row → List Row
@@ -110,7 +109,7 @@ abbrev pub with_words : Group → List (List ℕ) → List Entry → Entry → M
 with_words g apps past entry ms = put_some (codes "refused") (refused_of g past entry.event entry.reply)
     (put_some (codes "asked") (option_map number_data (asked_of past entry.event entry.reply))
     (put_list (codes "on") (map number_data (about g past entry))
-    (put (codes "line") (string (line_of g apps entry)) ms)))
+    (put (codes "line") (string (line_of g apps (length past + 1) entry)) ms)))
 
 -- the same as members of an object
 unfoldable pub entry_words : Group → List (List ℕ) → List Entry → Entry → Members

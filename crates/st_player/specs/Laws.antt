@@ -1,5 +1,5 @@
 -- Laws of pages. Each is the contract of a function of `laws` that does nothing.
-use Rattle.std.specs.Prelude.{Some, ◌≡◌, ◌<◌, ◌≤◌, ◌+◌, ◌++◌, ℕ, List, codes, length, take, drop}
+use Rattle.std.specs.Prelude.{Some, ◌≡◌, ◌<◌, ◌≤◌, ◌+◌, ◌++◌, ◌∷◌, [], ℕ, List, codes, length, take, drop}
 use Rattle.serde_json.specs.Data.{Data}
 use Rattle.serde_json.specs.Find.{get}
 use Rattle.st_net.specs.declared.entity.Entity.{Entity}
@@ -11,35 +11,53 @@ use Rattle.st_event.specs.Observed.{actual, sure}
 use Rattle.st_event.specs.Proposals.{pending, version}
 use Rattle.st_player.specs.Fields.{state_data}
 use Rattle.st_player.specs.Json.{number_data}
-use Rattle.st_player.specs.Pictures.{after, entries_data, first_of, opening_data, shown_entries}
-use Rattle.st_player.specs.PlayedBack.{holds_after, holds_at_opening, last_at, last_told, told_by_opening}
-use Rattle.st_player.specs.Snapshots.{shown_of}
+use Rattle.st_player.specs.Pictures.{after, bytes_of, entries_data, group_data}
+use Rattle.st_player.specs.PlayedBack.{at_opening, entries_in, first_in, holds_after, holds_at_opening, last_at, last_told, told_by_opening, total_in}
 use Rattle.st_player.specs.States.{state_of}
 
--- The opening and the first m of the entries that are shown tell of each entity what its state is after as many entries of the journal as
--- these and those before the page: at each key of a state, what is told last is what stands there in the whole state.
-abbrev pub StatesPlayBack : Type 0
-StatesPlayBack = (g : Group) (apps : List (List ℕ)) (from room m : ℕ) (entries : List Entry) (k : List ℕ) (e : Entity)
-    → (k ≡ codes "entity" → ⊥) → IsEntityOf g e → m ≤ length (shown_entries g apps from room entries)
-    → last_told k (place_in g e) (take m (shown_entries g apps from room entries)) (told_by_opening k (place_in g e) (opening_data (shown_of g (after from entries)))) ≡ get k (state_data (state_of g (after (first_of from entries + m) entries) e))
+-- The opening and the first m of the entries tell of each entity what its state is after as many entries of the journal as these and those
+-- before the page: at each key of a state, what is told last is what stands there in the whole state.
+abbrev pub TellsStates : Group → List Entry → Data → Type 0
+TellsStates g entries told = (k : List ℕ) (e : Entity) (m : ℕ) → (k ≡ codes "entity" → ⊥) → IsEntityOf g e → m ≤ length (entries_in told)
+    → last_told k (place_in g e) (take m (entries_in told)) (told_by_opening k (place_in g e) told) ≡ get k (state_data (state_of g (after (first_in told + m) entries) e))
 
 -- In the same way they tell the version, and how many proposals wait.
-abbrev pub CountsPlayBack : Type 0
-CountsPlayBack = (g : Group) (apps : List (List ℕ)) (from room m : ℕ) (entries : List Entry) → m ≤ length (shown_entries g apps from room entries)
-    → (last_at (codes "version") (take m (shown_entries g apps from room entries)) (get (codes "version") (opening_data (shown_of g (after from entries)))) ≡ Some (number_data (version (after (first_of from entries + m) entries))))
-    × (last_at (codes "pending") (take m (shown_entries g apps from room entries)) (get (codes "pending") (opening_data (shown_of g (after from entries)))) ≡ Some (number_data (length (pending (after (first_of from entries + m) entries)))))
+abbrev pub TellsCounts : List Entry → Data → Type 0
+TellsCounts entries told = (m : ℕ) → m ≤ length (entries_in told)
+    → (last_at (codes "version") (take m (entries_in told)) (at_opening (codes "version") told) ≡ Some (number_data (version (after (first_in told + m) entries))))
+    × (last_at (codes "pending") (take m (entries_in told)) (at_opening (codes "pending") told) ≡ Some (number_data (length (pending (after (first_in told + m) entries)))))
 
 -- And of each promise whether it holds, in the network and in the sure set.
-abbrev pub PromisesPlayBack : Type 0
-PromisesPlayBack = (g : Group) (apps : List (List ℕ)) (from room m i : ℕ) (entries : List Entry) → i < length g.promises → m ≤ length (shown_entries g apps from room entries)
-    → (holds_after (codes "network") i (take m (shown_entries g apps from room entries)) (holds_at_opening (codes "network") i (opening_data (shown_of g (after from entries))))
-    ≡ is_kept g (actual g (after (first_of from entries + m) entries)) (promise_of g i))
-    × (holds_after (codes "sure") i (take m (shown_entries g apps from room entries)) (holds_at_opening (codes "sure") i (opening_data (shown_of g (after from entries))))
-    ≡ is_kept g (sure g (after (first_of from entries + m) entries)) (promise_of g i))
+abbrev pub TellsPromises : Group → List Entry → Data → Type 0
+TellsPromises g entries told = (i m : ℕ) → i < length g.promises → m ≤ length (entries_in told)
+    → (holds_after (codes "network") i (take m (entries_in told)) (holds_at_opening (codes "network") i told) ≡ is_kept g (actual g (after (first_in told + m) entries)) (promise_of g i))
+    × (holds_after (codes "sure") i (take m (entries_in told)) (holds_at_opening (codes "sure") i told) ≡ is_kept g (sure g (after (first_in told + m) entries)) (promise_of g i))
 
--- The entries before the page, those that it shows and those that it leaves out behind them are all entries of the journal, in order.
+-- The data of every group with its journal does so.
+abbrev pub StatesPlayBack : Type 0
+StatesPlayBack = (apps : List (List ℕ)) (from room : ℕ) (g : Group) (entries : List Entry) → TellsStates g entries (group_data apps from room g entries)
+
+abbrev pub CountsPlayBack : Type 0
+CountsPlayBack = (apps : List (List ℕ)) (from room : ℕ) (g : Group) (entries : List Entry) → TellsCounts entries (group_data apps from room g entries)
+
+abbrev pub PromisesPlayBack : Type 0
+PromisesPlayBack = (apps : List (List ℕ)) (from room : ℕ) (g : Group) (entries : List Entry) → TellsPromises g entries (group_data apps from room g entries)
+
+-- The entries before the page, those that it shows and those that it leaves out behind them are all entries of the journal, in order, and
+-- it tells how many they are.
+pub record ShowsBeginning (apps : List (List ℕ)) (g : Group) (entries : List Entry) (told : Data) : Type 0 where
+  pub left : List Data
+  pub behind : entries_data g apps (after (first_in told) entries) (drop (first_in told) entries) ≡ entries_in told ++ left
+  pub count : first_in told + (length (entries_in told) + length left) ≡ length entries
+  pub total : total_in told ≡ length entries
+
 abbrev pub NoEntryIsLost : Type 0
-NoEntryIsLost = (g : Group) (apps : List (List ℕ)) (from room : ℕ) (entries : List Entry)
-    → (left : List Data)
-    × (entries_data g apps (after from entries) (drop from entries) ≡ shown_entries g apps from room entries ++ left)
-    × (first_of from entries + (length (shown_entries g apps from room entries) + length left) ≡ length entries)
+NoEntryIsLost = (apps : List (List ℕ)) (from room : ℕ) (g : Group) (entries : List Entry) → ShowsBeginning apps g entries (group_data apps from room g entries)
+
+-- Those that it shows take no more than the room, and with the next of those that it leaves out they would take more.
+pub record FitsLongest (apps : List (List ℕ)) (room : ℕ) (g : Group) (entries : List Entry) (told : Data) : Type 0 where
+  pub within : bytes_of (entries_in told) ≤ room
+  pub longest : (next : Data) (later : List Data) → entries_data g apps (after (first_in told) entries) (drop (first_in told) entries) ≡ entries_in told ++ next ∷ later → room < bytes_of (entries_in told ++ next ∷ [])
+
+abbrev pub LongestFits : Type 0
+LongestFits = (apps : List (List ℕ)) (from room : ℕ) (g : Group) (entries : List Entry) → FitsLongest apps room g entries (group_data apps from room g entries)

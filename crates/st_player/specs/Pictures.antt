@@ -1,6 +1,6 @@
 -- The picture of a document's groups with their journals, as one value of JSON.
 use Rattle.std.specs.Prelude.{ℕ, ◌+◌, ◌-◌, ◌/◌, nat_le, max, min, Bool, true, not, List, [], ◌∷◌, ◌++◌, codes, length, map, drop, take, reverse, if◌then◌else◌, slice_index_or}
-use Rattle.std.specs.List.{list_any, range_with_len, position_or_len}
+use Rattle.std.specs.List.{list_any, range_with_len, position_or_len, sum_by}
 use Rattle.serde_json.specs.Data.{Data, string, object, Members, no_members, put}
 use Rattle.serde_json.specs.Written.{compact_text}
 use Rattle.st_net.specs.Groups.{Group, no_device, no_link, promise_of}
@@ -79,6 +79,10 @@ entries_data g apps past (entry ∷ later) = entry_data g apps past entry ∷ en
 -- the bytes that one of a list takes, with a comma
 abbrev pub size_of : Data → ℕ
 size_of d = length (compact_text d) + 1
+
+-- and those that a list of them takes
+abbrev pub bytes_of : List Data → ℕ
+bytes_of ds = sum_by size_of ds
 
 -- the longest beginning of a list that takes at most so many bytes
 abbrev pub fitting : ℕ → List Data → List Data

@@ -1,6 +1,6 @@
 //! What is told of one entry of a journal: its line, what it is about, why it refuses, and what differs after it.
 
-ghost use Rattle.std.specs.Prelude.{◌≡◌, ◌<◌, ◌^◌, ◌++◌, ◌∷◌, [], IfOk, OnOk, codes, drop, length, map, option_map, true};
+ghost use Rattle.std.specs.Prelude.{◌≡◌, ℕ, ◌<◌, ◌^◌, ◌++◌, ◌∷◌, [], IfOk, OnOk, codes, drop, length, map, option_map, true};
 ghost use Rattle.std.specs.Option.{option_copied};
 ghost use Rattle.serde_json.specs.Data.{put as put_lem, string};
 ghost use Rattle.serde_json.specs.View.{view, members_view};
@@ -58,7 +58,7 @@ fn without_space(text: &Text) -> &[u8]
     }
 }
 
-/// Puts the line of an entry without its number.
+/// Puts the line of an entry without its number, whichever that is.
 fn put_line(
     object: &mut JsonObject,
     alloc: Global,
@@ -67,7 +67,7 @@ fn put_line(
     entry: &Entry,
 ) -> Result<(), AllocError>
     requires { are_names apps.now ≡ true }
-    ensures { OnOk result (members_view object.new ≡ put_lem (codes "line") (string (line_of topo.now apps.now entry.now)) (members_view object.old)) }
+    ensures { (n : ℕ) → OnOk result (members_view object.new ≡ put_lem (codes "line") (string (line_of topo.now apps.now n entry.now)) (members_view object.old)) }
 {
     topo.is_sound();
     let words = words_of(alloc, topo, apps, entry)?;

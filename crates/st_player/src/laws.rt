@@ -1,6 +1,9 @@
 //! Laws of the data of a page. Each function does nothing: its contract is the law, for whoever reads a page and has to say what it shows.
 
-ghost use Rattle.st_player.specs.Laws.{CountsPlayBack, NoEntryIsLost, PromisesPlayBack, StatesPlayBack};
+ghost use Rattle.std.specs.Prelude.{◌≡◌, ◌*◌, ◌≤◌, ℕ};
+ghost use Rattle.st_player.specs.declared.pictures.TheConstants.{MOST_BYTES};
+ghost use Rattle.st_player.specs.Laws.{CountsPlayBack, LongestFits, NoEntryIsLost, PromisesPlayBack, StatesPlayBack};
+ghost use Rattle.st_player.specs.Pictures.{room_of};
 
 /// What the opening and the entries behind it tell is how the group stands after them: the state of each entity, the version and what waits,
 /// and whether each promise holds.
@@ -13,4 +16,15 @@ pub fn pages_play_back()
 /// What stands before the page, what it shows and what it leaves out is the whole journal.
 pub fn no_entry_is_lost()
     ensures { NoEntryIsLost }
+{}
+
+/// What a page shows of a journal is the longest that takes no more bytes than the group has.
+pub fn the_longest_is_shown()
+    ensures { LongestFits }
+{}
+
+/// The number of `MOST_BYTES`, and that the groups together have no more.
+pub fn most_bytes()
+    ensures number { MOST_BYTES ≡ 4194304 }
+    ensures shared { (groups : ℕ) → groups * room_of groups ≤ 4194304 }
 {}

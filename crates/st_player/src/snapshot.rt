@@ -1,6 +1,6 @@
 //! Snapshots of a group on its way through its journal: what is shown of it after an entry. Entries are told by two of them.
 
-ghost use Rattle.std.specs.Prelude.{◌≡◌, IfOk, IsTrue};
+ghost use Rattle.std.specs.Prelude.{◌≡◌, IfOk};
 ghost use Rattle.st_net.specs.Sets.{MarksOf, is_in};
 ghost use Rattle.st_event.specs.History.{History as history_lem};
 ghost use Rattle.st_event.specs.Observed.{actual, sure as sure_lem};
@@ -10,7 +10,8 @@ ghost use Rattle.st_player.specs.Steps.{IsHeld, IsSnapshot};
 use crate::playback::Playback;
 use crate::state::{State, is_up};
 use st_control::Control;
-use st_net::{Entity, EntitySet, GroupTopo};
+use st_net::{Entity, EntitySet};
+use st_promise::is_same_set;
 use st_world::World;
 use std::alloc::{AllocError, Global};
 
@@ -73,25 +74,6 @@ fn network_set(alloc: Global, world: &World) -> Result<EntitySet, AllocError>
         }
     }
     Ok(set)
-}
-
-/// Whether two sets of a group's entities are one.
-fn is_same_set(topo: &GroupTopo, a: &EntitySet, b: &EntitySet) -> bool
-    requires first { MarksOf topo.now a.now }
-    requires second { MarksOf topo.now b.now }
-    ensures { IsTrue result → is_in a.now ≡ is_in b.now }
-{
-    'devices: for i in 0..topo.device_count() {
-        if a.has(Entity::Device(i)) != b.has(Entity::Device(i)) {
-            return false;
-        }
-    }
-    'links: for i in 0..topo.link_count() {
-        if a.has(Entity::Link(i)) != b.has(Entity::Link(i)) {
-            return false;
-        }
-    }
-    true
 }
 
 /// Judges each promise in a set.

@@ -15,6 +15,6 @@ put_text-requires-clause-text c =
     ∙ rest_plain c.in_ok-words.words (ap is_plain c.in_ok-words.ensures ∙ words_plain c.args.topo.now c.args.apps.now c.args.entry.now.event c.args.entry.now.reply c.is_sound.ensures c.requires)
 
 pub returns : goal.returns
-returns c =
+returns c n =
     let line = c.without_space.ensures ∙ (ap (drop 1) c.in_ok-words.ensures ∙ unspaced (event_words c.args.topo.now c.args.apps.now c.args.entry.now.event ++ reply_mark ∷ reply_words c.args.topo.now c.args.apps.now c.args.entry.now.reply)) in
     ok_by c.put_text.result (λ end. end ∙ ap (λ text. put (codes "line") (string text) (members_view c.args.object.now)) line) c.put_text.ensures

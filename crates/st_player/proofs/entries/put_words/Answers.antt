@@ -1,4 +1,4 @@
-use Rattle.std.proofs.Common.{◌≡◌, ◌∙◌, ℕ, List, map, ap, codes}
+use Rattle.std.proofs.Common.{◌≡◌, ◌∙◌, ◌+◌, ℕ, List, length, map, ap, codes}
 use Rattle.std.specs.Prelude.{Option, option_map}
 use Rattle.serde_json.specs.Data.{Data, put, string}
 use Rattle.serde_json.specs.View.{members_view, view}
@@ -15,8 +15,9 @@ returns c =
     let h = c.args.playback.now in
     let apps = c.args.apps.now in
     let entry = c.args.entry.now in
+    let n = length h.past + 1 in
     let group : c.topo.result.now ≡ h.group = c.topo.ensures.topo ∙ (c.control.ensures.group ∙ ap (λ (k : History). k.group) c.world-world.ensures) in
-    let line = c.in_ok-put_line.ensures ∙ ap (λ (g : Group). put (codes "line") (string (line_of g apps entry)) (members_view c.args.object.now)) group in
+    let line = c.in_ok-put_line.ensures n ∙ ap (λ (g : Group). put (codes "line") (string (line_of g apps n entry)) (members_view c.args.object.now)) group in
     let on : c.as_slice.result.now ≡ about h.group h.past entry = c.as_slice.ensures.value ∙ (c.in_ok-about.ensures ∙ ap (λ (k : History). about k.group k.past entry) c.world-world.ensures) in
     let second = c.in_ok-put_numbers.ensures
     ∙ (ap (λ (ns : List ℕ). put_list (codes "on") (map number_data ns) (members_view c.put_line.new.object)) on

@@ -6,7 +6,7 @@ use Rattle.st_player.proofs.snapshot.judge_again.Goals as goal
 pub returns-in_ok-to_vec : goal.returns-in_ok-to_vec
 returns-in_ok-to_vec c =
     let g = c.args.control.now.group in
-    let same = c.is_same_set.ensures c.if-is_same_set.true in
+    let same = c.is_same_set.ensures.0 c.if-is_same_set.true in
     let kept : c.in_ok-to_vec.field-0.items ≡ c.args.before.now.kept.items = search rules in
     record {
       of = c.requires.marks;
