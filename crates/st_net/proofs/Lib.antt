@@ -11,4 +11,3 @@ pub mod NameSteps
 pub mod Sound
 pub mod SameLists
 pub mod GroupLaws
-pub mod DemandLaws
