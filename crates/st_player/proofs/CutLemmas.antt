@@ -225,7 +225,7 @@ pub numbers_all : (g : Group) (test : Entity → Bool) (place : ℕ) (numbers : 
 numbers_all g test place numbers past was = was ∙ ap (λ es. map (place_in g) (filter test es)) (take_all place (entities_of g) past)
 
 -- walks that lead no further
-still : (g : Group) (up : Entity → Bool) (side : ℕ → Bool) (b n k m : ℕ) → m ≡ n + k → with_joined g up side (is_near g up side b n) ≡ is_near g up side b n → is_near g up side b m ≡ is_near g up side b n
+pub still : (g : Group) (up : Entity → Bool) (side : ℕ → Bool) (b n k m : ℕ) → m ≡ n + k → with_joined g up side (is_near g up side b n) ≡ is_near g up side b n → is_near g up side b m ≡ is_near g up side b n
 still g up side b n zero m at stays = ap (is_near g up side b) (let e : m ≡ n = omega (arith, at) in e)
 still g up side b n (suc k) m at stays =
     let e : m ≡ suc (n + k) = omega (arith, at) in

@@ -1,5 +1,5 @@
 -- What stands at the keys of a group's data.
-use Rattle.std.proofs.Common.{◌≡◌, ◌∙◌, ℕ, List, [], ◌∷◌, refl, ap, codes, length, take, drop}
+use Rattle.std.proofs.Common.{◌≡◌, ◌∙◌, ℕ, List, [], ◌∷◌, refl, ap, codes, length, drop}
 use Rattle.std.specs.Prelude.{Some, reverse, option_and_then}
 use Rattle.std.proofs.lemmas.List.{take_min, drop_min}
 use Rattle.serde_json.specs.Data.{Data}

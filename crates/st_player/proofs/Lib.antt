@@ -1,4 +1,6 @@
+pub mod AskedLemmas
 pub mod CutLemmas
+pub mod FarCuts
 pub mod GroupParts
 pub mod PartLemmas
 pub mod PassLemmas
@@ -13,6 +15,8 @@ pub mod SafeLemmas
 pub mod SnapshotLemmas
 pub mod StateLemmas
 pub mod StateParts
+pub mod ToldCuts
+pub mod ToldEntries
 pub mod Ups
 pub mod WeighLemmas
 mod WorkedCuts

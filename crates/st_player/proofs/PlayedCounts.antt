@@ -26,19 +26,19 @@ use Rattle.st_player.proofs.PartLemmas.{not_same}
 use Rattle.st_player.proofs.PlayedBack.{apart_list, apart_some, apart_where, back_more, equal_number, not_in_words, other_number, told_front, told_past}
 
 -- what an entry puts, from the words on
-abbrev with_set : Shown → Shown → Members → Members
+abbrev pub with_set : Shown → Shown → Members → Members
 with_set old new ms = put_list (codes "set") (changes_from 0 old.states new.states) ms
 
-abbrev with_network : Shown → Shown → Members → Members
+abbrev pub with_network : Shown → Shown → Members → Members
 with_network old new ms = put_some (codes "network") (turned_of old.network new.network) (with_set old new ms)
 
-abbrev with_sure : Shown → Shown → Members → Members
+abbrev pub with_sure : Shown → Shown → Members → Members
 with_sure old new ms = put_some (codes "sure") (turned_of old.sure new.sure) (with_network old new ms)
 
-abbrev with_version : Shown → Shown → Members → Members
+abbrev pub with_version : Shown → Shown → Members → Members
 with_version old new ms = put_where (not (old.version == new.version)) (codes "version") (number_data new.version) (with_sure old new ms)
 
-told_all : (k : List ℕ) (old new : Shown) (ms : Members) → get k (told_data old new ms) ≡ get_member k (put_where (not (old.pending == new.pending)) (codes "pending") (number_data new.pending) (with_version old new ms))
+pub told_all : (k : List ℕ) (old new : Shown) (ms : Members) → get k (told_data old new ms) ≡ get_member k (put_where (not (old.pending == new.pending)) (codes "pending") (number_data new.pending) (with_version old new ms))
 unfolding told_data
 told_all k old new ms = refl
 
@@ -202,7 +202,7 @@ turned_told i before after count low =
     ap₂ (λ (l k : Bool). if l then false else (if k then true else get_or before i false)) lost back ∙ turn_is (get_or before i false) (get_or after i false)
 
 -- what an entry tells of the network and of the sure set
-some_put : (k : List ℕ) (o : Option Data) (ms : Members) → get_member k ms ≡ None → get_member k (put_some k o ms) ≡ o
+pub some_put : (k : List ℕ) (o : Option Data) (ms : Members) → get_member k ms ≡ None → get_member k (put_some k o ms) ≡ o
 some_put k None ms none = none
 some_put k (Some d) ms none = get_member-put k d ms
 

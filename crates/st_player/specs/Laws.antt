@@ -1,19 +1,29 @@
 -- Laws of pages. Each is the contract of a function of `laws` that does nothing.
-use Rattle.std.specs.Prelude.{Some, ◌≡◌, ◌<◌, ◌≤◌, ◌+◌, ◌++◌, ◌∷◌, [], ℕ, List, codes, length, take, drop}
+use Rattle.std.specs.Prelude.{Some, ◌≡◌, ◌<◌, ◌≤◌, ◌+◌, ◌++◌, ◌∷◌, [], ℕ, List, codes, length, take, drop, reverse}
 use Rattle.serde_json.specs.Data.{Data}
 use Rattle.serde_json.specs.Find.{get}
 use Rattle.st_net.specs.declared.entity.Entity.{Entity}
-use Rattle.st_net.specs.Groups.{Group, IsEntityOf, promise_of}
+use Rattle.st_net.specs.declared.promise.Broken.{Broken}
+use Rattle.st_net.specs.Groups.{Group, IsEntityOf, IsSound, promise_of}
 use Rattle.st_net.specs.InOrder.{place_in}
+use Rattle.st_net.specs.Numbered.{nth}
 use Rattle.st_net.specs.Promises.{is_kept}
+use Rattle.st_event.specs.declared.event.Event.TheVariants.{Check}
 use Rattle.st_event.specs.declared.journal.Entry.{Entry}
-use Rattle.st_event.specs.Observed.{actual, sure}
-use Rattle.st_event.specs.Proposals.{pending, version}
+use Rattle.st_event.specs.declared.reply.Cause.TheVariants.{Broken as broken_cause}
+use Rattle.st_event.specs.declared.reply.Receipt.{Receipt}
+use Rattle.st_event.specs.declared.reply.Reply.TheVariants.{Decided, Queued}
+use Rattle.st_event.specs.Legal.{IsLegal}
+use Rattle.st_event.specs.Observed.{actual, sure, sure_after}
+use Rattle.st_event.specs.Proposals.{first_rows, pending, version}
+use Rattle.st_player.specs.Entries.{entry_data}
 use Rattle.st_player.specs.Fields.{state_data}
 use Rattle.st_player.specs.Json.{number_data}
 use Rattle.st_player.specs.Pictures.{after, bytes_of, entries_data, group_data}
-use Rattle.st_player.specs.PlayedBack.{at_opening, entries_in, first_in, holds_after, holds_at_opening, last_at, last_told, told_by_opening, total_in}
+use Rattle.st_player.specs.PlayedBack.{at_opening, entries_in, first_in, holds_after, holds_at_opening, last_at, last_told, number_in, told_by_opening, total_in}
+use Rattle.st_player.specs.Refusals.{refusal_of}
 use Rattle.st_player.specs.States.{state_of}
+use Rattle.st_player.specs.ToldRefusals.{TellsCut}
 
 -- The opening and the first m of the entries tell of each entity what its state is after as many entries of the journal as these and those
 -- before the page: at each key of a state, what is told last is what stands there in the whole state.
@@ -61,3 +71,19 @@ pub record FitsLongest (apps : List (List ℕ)) (room : ℕ) (g : Group) (entrie
 
 abbrev pub LongestFits : Type 0
 LongestFits = (apps : List (List ℕ)) (from room : ℕ) (g : Group) (entries : List Entry) → FitsLongest apps room g entries (group_data apps from room g entries)
+
+-- Of an entry of a legal journal that refuses a proposal, since a promise would break while its rows change, the cut is told that would be left.
+abbrev pub RefusalsTellCuts : Type 0
+RefusalsTellCuts = (g : Group) (apps : List (List ℕ)) (past : List Entry) (entry : Entry) (broken : Broken) → IsSound g → IsLegal g (entry ∷ past) → refusal_of entry.event entry.reply ≡ Some (broken_cause broken)
+    → TellsCut g (sure_after g past (first_rows (pending past))) broken (entry_data g apps past entry)
+
+-- the entry of this number was answered that it waits with this ticket
+pub record GaveTicket (past : List Entry) (n ticket : ℕ) : Type 0 where
+  pub entry : Entry
+  pub at : nth (reverse past) n ≡ Some entry
+  pub queued : entry.reply ≡ Queued ticket
+
+-- Of a check of a legal journal that decides a ticket, the number of the entry is told that gave it.
+abbrev pub AskedGaveTicket : Type 0
+AskedGaveTicket = (g : Group) (apps : List (List ℕ)) (past : List Entry) (entry : Entry) (receipt : Receipt) → IsLegal g (entry ∷ past) → entry.event ≡ Check → entry.reply ≡ Decided receipt
+    → GaveTicket past (number_in (get (codes "asked") (entry_data g apps past entry))) receipt.ticket

@@ -15,3 +15,4 @@ pub mod Safe
 pub mod Snapshots
 pub mod States
 pub mod Steps
+pub mod ToldRefusals

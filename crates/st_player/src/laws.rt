@@ -2,7 +2,7 @@
 
 ghost use Rattle.std.specs.Prelude.{◌≡◌, ◌*◌, ◌≤◌, ℕ};
 ghost use Rattle.st_player.specs.declared.pictures.TheConstants.{MOST_BYTES};
-ghost use Rattle.st_player.specs.Laws.{CountsPlayBack, LongestFits, NoEntryIsLost, PromisesPlayBack, StatesPlayBack};
+ghost use Rattle.st_player.specs.Laws.{AskedGaveTicket, CountsPlayBack, LongestFits, NoEntryIsLost, PromisesPlayBack, RefusalsTellCuts, StatesPlayBack};
 ghost use Rattle.st_player.specs.Pictures.{room_of};
 
 /// What the opening and the entries behind it tell is how the group stands after them: the state of each entity, the version and what waits,
@@ -27,4 +27,15 @@ pub fn the_longest_is_shown()
 pub fn most_bytes()
     ensures number { MOST_BYTES ≡ 4194304 }
     ensures shared { (groups : ℕ) → groups * room_of groups ≤ 4194304 }
+{}
+
+/// Where a proposal is refused since a promise would break, the links that are told as left are the up links that leave the least side, and
+/// just as well those that leave the part that is shown; what they carry is what the receipt says is left.
+pub fn refusals_tell_cuts()
+    ensures { RefusalsTellCuts }
+{}
+
+/// The entry that is told as asked gave the ticket that is decided.
+pub fn asked_gave_ticket()
+    ensures { AskedGaveTicket }
 {}
