@@ -7,7 +7,8 @@ use Rattle.st_net.specs.declared.entity.Row.{Row}
 use Rattle.st_net.specs.Groups.{Group, no_promise, promise_of}
 use Rattle.st_net.specs.Laws.{KeepsWithMore, TellsKept}
 use Rattle.st_net.specs.Merge.{alters, without_altered}
-use Rattle.st_net.specs.Promises.{is_kept, first_broken}
+use Rattle.st_net.specs.Demands.{first_broken_of}
+use Rattle.st_net.specs.Promises.{is_kept}
 use Rattle.st_net.specs.Sets.{Marks, IsWithin, is_in}
 use Rattle.st_event.specs.Proposals.{first_rows}
 use Rattle.st_event.specs.Standing.{sure_in}
@@ -40,8 +41,8 @@ known_still g j up more tells judged same within i low marked =
     (tells up i low).1 (more left up (promise_of g i) within ((tells left i low).0 was))
 
 -- what was found of the judged sets is so of these
-pub found_still : (g : Group) (j : JudgedView) (before after : Entity → Bool) → IsJudged j → HasSameNetwork j.group g → is_in j.sure ≡ before → is_in j.after ≡ after → j.first ≡ first_broken g before after 0 g.promises
-found_still g j before after judged same sure left = judged.first ∙ same_first j.group g (is_in j.sure) (is_in j.after) same ∙ (λ i. first_broken g (sure i) (left i) 0 g.promises)
+pub found_still : (g : Group) (j : JudgedView) (before after : Entity → Bool) → IsJudged j → HasSameNetwork j.group g → is_in j.sure ≡ before → is_in j.after ≡ after → j.first ≡ first_broken_of g before after
+found_still g j before after judged same sure left = judged.first ∙ same_first j.group g (is_in j.sure) (is_in j.after) same ∙ (λ i. first_broken_of g (sure i) (left i))
 
 -- where nothing is known, nothing is claimed
 pub known_none : (g : Group) (up : Entity → Bool) → AreKept g up []

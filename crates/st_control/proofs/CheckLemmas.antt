@@ -8,7 +8,7 @@ use Rattle.st_net.specs.declared.entity.Row.{Row}
 use Rattle.st_net.specs.declared.promise.Broken.{Broken}
 use Rattle.st_net.specs.Groups.{Group}
 use Rattle.st_net.specs.Merge.{alters, without_altered, target_with}
-use Rattle.st_net.specs.Promises.{first_broken}
+use Rattle.st_net.specs.Demands.{first_broken_of}
 use Rattle.st_net.specs.Sets.{Marks, is_in}
 use Rattle.st_event.specs.declared.event.Proposal.{Proposal}
 use Rattle.st_event.specs.declared.event.Event.TheVariants.{Check}
@@ -28,11 +28,11 @@ use Rattle.st_control.specs.Verdict.{IsFirst, IsLatest, verdict_in, row_refusal,
 use Rattle.st_control.proofs.StampLaws.{stamped_is}
 
 -- the first broken promise, of sets that are these
-pub broken_is : (g : Group) (before left : Marks) (sure after : Entity → Bool) (broken : Option Broken) → is_in before ≡ sure → is_in left ≡ after → broken ≡ first_broken g (is_in before) (is_in left) 0 g.promises → broken ≡ first_broken g sure after 0 g.promises
+pub broken_is : (g : Group) (before left : Marks) (sure after : Entity → Bool) (broken : Option Broken) → is_in before ≡ sure → is_in left ≡ after → broken ≡ first_broken_of g (is_in before) (is_in left) → broken ≡ first_broken_of g sure after
 broken_is g before left sure after broken before_is left_is answer =
     answer
-    ∙ ap (λ (f : Entity → Bool). first_broken g f (is_in left) 0 g.promises) before_is
-    ∙ ap (λ (f : Entity → Bool). first_broken g sure f 0 g.promises) left_is
+    ∙ ap (λ (f : Entity → Bool). first_broken_of g f (is_in left)) before_is
+    ∙ ap (λ (f : Entity → Bool). first_broken_of g sure f) left_is
 
 -- the three steps of a verdict
 none_first : (a b c : Option Cause) → cause_or a b ≡ None → cause_or a (cause_or b c) ≡ c
@@ -55,7 +55,7 @@ pub verdict_by : (k : Checker) (app : AppId) (rows : List Row) (changed : Marks)
 verdict_by k app rows changed broken none is breaks =
     ap (λ (c : Option Cause). refusal_or_version c k.store.version)
     (ap (option_map broken_cause) breaks
-    ∙ ap (λ (f : Entity → Bool). option_map broken_cause (first_broken k.group (sure_in k.group (standing_in k)) f 0 k.group.promises)) (same_without k changed rows is)
+    ∙ ap (λ (f : Entity → Bool). option_map broken_cause (first_broken_of k.group (sure_in k.group (standing_in k)) f)) (same_without k changed rows is)
     ∙ sym (none_first (first_lack k.group (standing_in k).observed (target_with (value_in k.store.target) rows) rows) (first_locked (standing_in k).holder app rows) _ (sym none)))
 
 -- what stands against a proposal by what stands against its rows

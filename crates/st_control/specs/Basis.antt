@@ -3,7 +3,8 @@ use Rattle.std.specs.Prelude.{◌≡◌, ℕ, ◌+◌, ◌<◌, ◌≤◌, Bool,
 use Rattle.st_net.specs.declared.promise.Broken.{Broken}
 use Rattle.st_net.specs.Groups.{Group}
 use Rattle.st_net.specs.Merge.{without_altered}
-use Rattle.st_net.specs.Promises.{is_kept, first_broken}
+use Rattle.st_net.specs.Demands.{first_broken_of}
+use Rattle.st_net.specs.Promises.{is_kept}
 use Rattle.st_net.specs.Sets.{Marks, MarksOf, is_in}
 use Rattle.st_event.specs.Proposals.{first_rows}
 use Rattle.st_event.specs.Standing.{sure_in}
@@ -44,7 +45,7 @@ pub record IsJudged (j : JudgedView) : Type 0 where
   pub ticket : 0 < j.ticket
   pub sure : MarksOf j.group j.sure
   pub after : MarksOf j.group j.after
-  pub first : j.first ≡ first_broken j.group (is_in j.sure) (is_in j.after) 0 j.group.promises
+  pub first : j.first ≡ first_broken_of j.group (is_in j.sure) (is_in j.after)
   pub holds : j.holds ≡ take (told_to j.group j.first) (map (is_kept j.group (is_in j.after)) j.group.promises)
 
 -- this was judged on that

@@ -6,7 +6,7 @@ use Rattle.st_net.specs.declared.entity.Row.{Row}
 use Rattle.st_net.specs.declared.promise.Broken.{Broken}
 use Rattle.st_net.specs.Groups.{Group}
 use Rattle.st_net.specs.Merge.{without_altered, alters, target_with}
-use Rattle.st_net.specs.Promises.{first_broken}
+use Rattle.st_net.specs.Demands.{first_broken_of}
 use Rattle.st_net.specs.Sets.{Marks, MarksOf, is_in}
 use Rattle.st_event.specs.declared.event.Proposal.{Proposal}
 use Rattle.st_event.specs.declared.reply.Cause.{Cause}
@@ -40,7 +40,7 @@ abbrev pub sure_without : Checker → Marks → Entity → Bool
 sure_without k changed = λ e. sure_in k.group (standing_in k) e && not (is_in changed e)
 
 abbrev pub first_broken_without : Checker → Marks → Option Broken
-first_broken_without k changed = first_broken k.group (sure_in k.group (standing_in k)) (sure_without k changed) 0 k.group.promises
+first_broken_without k changed = first_broken_of k.group (sure_in k.group (standing_in k)) (sure_without k changed)
 
 -- what stands against a proposal, which gives the verdict, and the entities that its rows alter
 pub record IsJudgedIn (k : Checker) (p : Proposal) (judged : Weighed) : Type 0 where

@@ -2,7 +2,7 @@
 //! and the checker decides by what was found, as far as that still tells of how it stands.
 
 ghost use Rattle.std.specs.Prelude.{◌≡◌, ◌<◌, IfOk, IfSome};
-ghost use Rattle.st_net.specs.Promises.{first_broken};
+ghost use Rattle.st_net.specs.Demands.{first_broken_of};
 ghost use Rattle.st_net.specs.Sets.{is_in, MarksOf};
 ghost use Rattle.std.specs.Arc.{arc_value};
 ghost use Rattle.st_promise.specs.Book.{AreNeedsOf, AreKept};
@@ -116,7 +116,7 @@ impl Judged {
     ) -> Option<&Option<Broken>>
         requires before { MarksOf topo.now before.now }
         requires after { MarksOf topo.now after.now }
-        ensures { IfSome result (λ first. first.now ≡ first_broken topo.now (is_in before.now) (is_in after.now) 0 topo.now.promises) }
+        ensures { IfSome result (λ first. first.now ≡ first_broken_of topo.now (is_in before.now) (is_in after.now)) }
     {
         if has_same_network(&self.topo, topo)
             && is_same_set(topo, &self.sure, before)

@@ -4,7 +4,8 @@ ghost use Rattle.std.specs.Prelude.{◌≡◌, ◌↔◌, option_map, ℕ, ◌<�
 ghost use Rattle.std.specs.Arc.{arc_value};
 ghost use Rattle.st_net.specs.declared.entity.Entity.{Entity};
 ghost use Rattle.st_net.specs.Groups.{IsEntityOf, promise_of};
-ghost use Rattle.st_net.specs.Promises.{is_kept, first_broken};
+ghost use Rattle.st_net.specs.Demands.{first_broken_of};
+ghost use Rattle.st_net.specs.Promises.{is_kept};
 ghost use Rattle.st_net.specs.Ranges.{RowsFit};
 ghost use Rattle.st_net.specs.Sets.{is_in, MarksOf};
 ghost use Rattle.st_event.specs.declared.event.Event.TheVariants.{Submit, Check as check_event, Lock, Unlock};
@@ -120,7 +121,7 @@ fn found_in<'a>(
 ) -> Option<&'a Option<Broken>>
     requires before { MarksOf topo.now before.now }
     requires after { MarksOf topo.now after.now }
-    ensures { IfSome result (λ first. first.now ≡ first_broken topo.now (is_in before.now) (is_in after.now) 0 topo.now.promises) }
+    ensures { IfSome result (λ first. first.now ≡ first_broken_of topo.now (is_in before.now) (is_in after.now)) }
 {
     judged?.found_in(topo, before, after)
 }

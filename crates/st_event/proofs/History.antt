@@ -6,27 +6,25 @@ use Rattle.st_net.specs.declared.entity.Entity.{Entity}
 use Rattle.st_net.specs.declared.entity.Vals.{Vals}
 use Rattle.st_net.specs.declared.message.Command.{Command}
 use Rattle.st_event.specs.declared.event.Event.{Event}
-use Rattle.st_event.specs.declared.event.Event.TheVariants.{Check, Send, Finish, Fail}
-use Rattle.st_event.specs.declared.reply.Reply.{Reply}
-use Rattle.st_event.specs.declared.reply.Reply.TheVariants.{Decided}
-use Rattle.st_event.specs.declared.event.Proposal.{Proposal}
+use Rattle.st_event.specs.declared.event.Event.TheVariants.{Send, Finish, Fail}
 use Rattle.st_net.specs.declared.entity.Var.{Var}
 use Rattle.st_event.specs.declared.journal.Entry.{Entry}
 use Rattle.st_net.specs.Groups.{Group}
-use Rattle.st_event.specs.Proposals.{target, pending, first_rows, is_acceptance}
-use Rattle.st_net.specs.Merge.{vals_in, alters}
+use Rattle.st_event.specs.Proposals.{target, pending, first_rows, overlay_in}
+use Rattle.st_net.specs.Merge.{vals_in}
 use Rattle.st_net.specs.Numbered.{nth}
-use Rattle.st_event.specs.Moments.{told, begins, fence_after, work_after, vals_after, is_fail_of, is_finish_of, stamp, commands, fence, busy, work, vals}
+use Rattle.st_event.specs.Moments.{told, begins, fence_after, work_after, vals_after, is_fail_of, is_finish_of, stamp, commands, fence, busy, work, vals, is_altered_by}
 use Rattle.st_event.specs.Past.{target_at, is_spoiled}
-use Rattle.st_event.specs.Replies.{receipt_of}
+use Rattle.st_net.specs.declared.entity.Row.{Row}
+use Rattle.st_event.specs.Overlaid.{overlaid_by}
 use Rattle.st_event.specs.Legal.{IsLegal, IsNext}
 use Rattle.st_event.specs.Facts.{IsInStep}
 use Rattle.st_net.proofs.Tests.{neither, at_most}
 use Rattle.st_event.proofs.Made.{IsSent, Sends, command_now, told_sent}
 use Rattle.st_event.proofs.Stamps.{is_stamped, stamp_small, sent_past, fence_small}
-use Rattle.st_event.proofs.Targets.{IsAccepted, acceptance, target_same, target_next}
+use Rattle.st_event.proofs.Targets.{target_overlaid}
 use Rattle.st_event.proofs.SureSteps.{unaltered}
-use Rattle.st_event.proofs.Promises.{entry_of, same_entry, opening_same}
+use Rattle.st_event.proofs.Promises.{opening_same}
 
 not_at_most : (n : ℕ) → nat_le (n + 1) n ≡ false
 not_at_most n = grind (arith, nat_tests)
@@ -35,25 +33,21 @@ not_at_most n = grind (arith, nat_tests)
 pub past_stays : (g : Group) (past : List Entry) (entry : Entry) (s : ℕ) (e : Entity) → s ≤ length past → target_at g (entry ∷ past) s e ≡ target_at g past s e
 past_stays g past entry s e low = rw (at_most s (length past) low) refl
 
-kept_by_acceptance : (g : Group) (past : List Entry) (event : Event) (answer : Reply) (e : Entity) → IsAccepted g past event answer → alters g (target g past) (first_rows (pending past)) e ≡ false → vals_in g (target g (entry_of event answer ∷ past)) e ≡ vals_in g (target g past) e
-kept_by_acceptance g past event answer e is none =
-    let same : alters g (target g past) is.proposal.rows e ≡ false = subst (λ (q : List Proposal). alters g (target g past) (first_rows q) e ≡ false) is.first none in
-    let moved = target_next g past (receipt_of g past is.proposal) is.proposal is.rest is.first is.accepts in
-    let there = same_entry Check event (Decided (receipt_of g past is.proposal)) answer is.check is.answers in
-    ap (λ (x : Entry). vals_in g (target g (x ∷ past)) e) (sym there) ∙ ap (λ (t : Entity → Var → ℕ). vals_in g t e) moved ∙ unaltered g (target g past) is.proposal.rows e same
+kept_by_overlay : (g : Group) (before : Entity → Var → ℕ) (o : Option (List Row)) (e : Entity) → is_altered_by g before o e ≡ false → vals_in g (overlaid_by o before) e ≡ vals_in g before e
+kept_by_overlay g before None e none = refl
+kept_by_overlay g before (Some rows) e none = unaltered g before rows e none
 
-kept_at : (g : Group) (past : List Entry) (entry : Entry) (e : Entity) (b : Bool) → is_acceptance entry.event entry.reply ≡ b → IsLegal g past → IsNext g past entry → is_stamped g past entry e ≡ false → vals_in g (target g (entry ∷ past)) e ≡ vals_in g (target g past) e
-kept_at g past entry e true accepts legal next none =
-    let parts = neither (is_acceptance entry.event entry.reply && alters g (target g past) (first_rows (pending past)) e) _ none in
-    let unaltered : alters g (target g past) (first_rows (pending past)) e ≡ false = rw accepts at parts.0 in
-    kept_by_acceptance g past entry.event entry.reply e (acceptance g past entry.event entry.reply next.answer accepts) unaltered
-kept_at g past entry e false accepts legal next none = ap (λ (t : Entity → Var → ℕ). vals_in g t e) (target_same g past entry legal next accepts)
+kept_at : (g : Group) (past : List Entry) (entry : Entry) (e : Entity) → is_stamped g past entry e ≡ false → vals_in g (target g (entry ∷ past)) e ≡ vals_in g (target g past) e
+kept_at g past entry e none =
+    let overlay = overlay_in entry.event entry.reply (first_rows (pending past)) in
+    let parts = neither (is_altered_by g (target g past) overlay e) _ none in
+    ap (λ (t : Entity → Var → ℕ). vals_in g t e) (target_overlaid g past entry) ∙ kept_by_overlay g (target g past) overlay e parts.0
 
 stamped_or_not : (g : Group) (past : List Entry) (entry : Entry) (e : Entity) (b : Bool) → is_stamped g past entry e ≡ b → IsLegal g past → IsNext g past entry → vals_in g (target g past) e ≡ target_at g past (stamp g past e) e → vals_in g (target g (entry ∷ past)) e ≡ target_at g (entry ∷ past) (stamp g (entry ∷ past) e) e
 stamped_or_not g past entry e true is legal next before = rw (is, not_at_most (length past)) refl
 stamped_or_not g past entry e false is legal next before =
     let same : stamp g (entry ∷ past) e ≡ stamp g past e = rw is refl in
-    kept_at g past entry e (is_acceptance entry.event entry.reply) refl legal next is ∙ before ∙ sym (past_stays g past entry (stamp g past e) e (stamp_small g past e)) ∙ ap (λ (s : ℕ). target_at g (entry ∷ past) s e) (sym same)
+    kept_at g past entry e is ∙ before ∙ sym (past_stays g past entry (stamp g past e) e (stamp_small g past e)) ∙ ap (λ (s : ℕ). target_at g (entry ∷ past) s e) (sym same)
 
 -- an entity's target is what it was at the entity's stamp
 pub target_of_stamp : (g : Group) (past : List Entry) (e : Entity) → IsLegal g past → vals_in g (target g past) e ≡ target_at g past (stamp g past e) e

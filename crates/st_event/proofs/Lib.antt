@@ -9,7 +9,9 @@ pub mod SureSteps
 pub mod Promises
 pub mod History
 pub mod Agreement
+mod SmallGroups
 mod Worked
+mod WorkedEdges
 pub mod AgentSteps
 pub mod Standings
 pub mod Greatest

@@ -1,28 +1,29 @@
 -- Laws of promises and cuts, of a whole group.
-use Rattle.std.proofs.Common.{◌≡◌, ◌≢◌, ℕ, zero, suc, ◌<◌, List, length, refl, sym, arith}
+use Rattle.std.proofs.Common.{◌≡◌, ◌≢◌, ℕ, zero, suc, ◌<◌, List, refl, sym, arith}
 use Rattle.std.specs.Prelude.{Bool, true, false, ◌↔◌}
 use Rattle.st_net.specs.declared.entity.Entity.{Entity}
 use Rattle.st_net.specs.declared.promise.Promise.{Promise}
 use Rattle.st_net.specs.declared.topo.LinkOpening.{LinkOpening}
-use Rattle.st_net.specs.Groups.{Group, IsSound, AreLinks, promise_of}
+use Rattle.st_net.specs.Groups.{Group, IsSound, AreLinks}
 use Rattle.st_net.specs.Sets.{IsWithin}
 use Rattle.st_net.specs.UpGraph.{IsWalk}
 use Rattle.st_net.specs.Cuts.{least_cut, is_in_least_side}
-use Rattle.st_net.specs.Promises.{Keeps, is_kept, need_of}
+use Rattle.st_net.specs.Promises.{Keeps, need_of}
+use Rattle.st_net.specs.Demands.{demand_count, HoldsIn, is_held_in}
 use Rattle.st_event.specs.Laws.{IsLeastSide}
 use Rattle.st_net.proofs.CutLaws.{Holds-more}
-use Rattle.st_net.proofs.WalkLaws.{is_held-holds, holds-is_held, least_cut-joins, walk-least_cut}
+use Rattle.st_net.proofs.DemandLaws.{holds_with_more, tells_demands}
+use Rattle.st_net.proofs.WalkLaws.{least_cut-joins, walk-least_cut}
 use Rattle.st_net.proofs.SideLaws.{least_side-within, least_side-has}
-use Rattle.st_event.proofs.Promises.{promise_at}
 
 pub more_kept : (g : Group) (up more : Entity → Bool) (p : Promise) → IsWithin up more → Keeps g up p → Keeps g more p
 more_kept g up more p = Holds-more g.links (need_of g p) p.a p.b up more
 
-pub test_tells : (g : Group) (up : Entity → Bool) (i : ℕ) → IsSound g → i < length g.promises → (is_kept g up (promise_of g i) ≡ true) ↔ Keeps g up (promise_of g i)
-test_tells g up i sound low =
-    let p = promise_of g i in
-    let among = promise_at g.devices g.promises i sound.promises low in
-    (is_held-holds (length g.devices) g.links (need_of g p) p.a p.b up sound.links among.apart, holds-is_held (length g.devices) g.links (need_of g p) p.a p.b up sound.links among.apart)
+pub more_held : (g : Group) (up more : Entity → Bool) (i : ℕ) → IsWithin up more → HoldsIn g up i → HoldsIn g more i
+more_held g up more i within holds = holds_with_more g up more i within holds
+
+pub test_tells : (g : Group) (up : Entity → Bool) (i : ℕ) → IsSound g → i < demand_count g → (is_held_in g up i ≡ true) ↔ HoldsIn g up i
+test_tells g up i sound low = tells_demands g sound up i low
 
 alike : (p q : Bool) → (p ≡ true → q ≡ true) → (q ≡ true → p ≡ true) → p ≡ q
 alike true q there back = sym (there refl)

@@ -1,11 +1,9 @@
 -- Promises are kept while the network is changed part by part.
-use Rattle.std.proofs.Common.{◌≡◌, ℕ, zero, suc, ◌+◌, ◌<◌, List, [], ◌∷◌, length, Option, Some, None, refl, subst, inl, inr, arith}
-use Rattle.std.specs.Prelude.{Bool, true, false, ◌&&◌, not, slice_index_or, option_map, if◌then◌else◌, ◌⊎◌}
+use Rattle.std.proofs.Common.{◌≡◌, ℕ, ◌<◌, List, [], ◌∷◌, Option, Some, None, refl, subst, inl, inr}
+use Rattle.std.specs.Prelude.{Bool, true, false, option_map, ◌⊎◌}
 use Rattle.st_net.specs.declared.entity.Entity.{Entity}
 use Rattle.st_net.specs.declared.entity.Entity.TheVariants.{Device, Link}
-use Rattle.st_net.specs.declared.promise.Promise.{Promise}
 use Rattle.st_net.specs.declared.promise.Broken.{Broken}
-use Rattle.st_net.specs.declared.topo.DeviceOpening.{DeviceOpening}
 use Rattle.st_event.specs.declared.reply.Cause.TheVariants.{Broken as broken_cause}
 use Rattle.st_event.specs.declared.event.Proposal.{Proposal}
 use Rattle.st_event.specs.declared.reply.Cause.{Cause}
@@ -14,10 +12,10 @@ use Rattle.st_event.specs.declared.event.Event.TheVariants.{Check, Fail}
 use Rattle.st_event.specs.declared.reply.Reply.{Reply}
 use Rattle.st_event.specs.declared.reply.Reply.TheVariants.{Decided}
 use Rattle.st_event.specs.declared.journal.Entry.{Entry}
-use Rattle.st_net.specs.Groups.{Group, opening_of, ArePromises, IsPromiseAmong, IsSound, no_promise, promise_of}
+use Rattle.st_net.specs.Groups.{Group, opening_of, IsSound}
 use Rattle.st_net.specs.Merge.{target_with, vals_in}
 use Rattle.st_net.specs.Sets.{IsWithin}
-use Rattle.st_net.specs.Promises.{Keeps, is_kept, need_of, first_broken, is_broken}
+use Rattle.st_net.specs.Demands.{demand_count, HoldsIn, first_broken_of}
 use Rattle.st_event.specs.Proposals.{is_accepted, is_acceptance, target, version}
 use Rattle.st_event.specs.Locks.{holder}
 use Rattle.st_net.specs.Numbered.{nth}
@@ -28,26 +26,10 @@ use Rattle.st_event.specs.Replies.{receipt_of}
 use Rattle.st_event.specs.Legal.{IsLegal, IsNext, AtEach}
 use Rattle.st_event.specs.Network.{is_fail, HasNoFail, NamesLoss, LossesNamed, KeepsPromises}
 use Rattle.st_net.proofs.Tests.{same_vals_self}
-use Rattle.st_net.proofs.CutLaws.{Holds-more}
-use Rattle.st_net.proofs.WalkLaws.{is_held-holds, holds-is_held}
+use Rattle.st_net.proofs.DemandLaws.{holds_with_more, tells_demands, breaks_none}
 use Rattle.st_event.proofs.SureIsUp.{sure_is_up}
 use Rattle.st_event.proofs.Targets.{IsAccepted, acceptance}
 use Rattle.st_event.proofs.SureSteps.{accepted_within, stays_or_names}
-
-pub promise_at : (ds : List DeviceOpening) (ps : List Promise) (i : ℕ) → ArePromises ds ps → i < length ps → IsPromiseAmong ds (slice_index_or ps i no_promise)
-promise_at ds [] i are low = absurd (omega arith)
-promise_at ds (p ∷ ps) zero are low = are.0
-promise_at ds (p ∷ ps) (suc i) are low = promise_at ds ps i are.1 (omega arith)
-
-none_broken_if : (g : Group) (before after : Entity → Bool) (at : ℕ) (p : Promise) (ps : List Promise) (c : Broken) (b : Bool) → is_broken g before after p ≡ b → (if b then Some c else first_broken g before after (at + 1) ps) ≡ None → (b ≡ false) × (first_broken g before after (at + 1) ps ≡ None)
-none_broken_if g before after at p ps c true is none = cc
-none_broken_if g before after at p ps c false is none = (refl, none)
-
--- where no promise is broken first, none is broken
-none_broken : (g : Group) (before after : Entity → Bool) (at : ℕ) (ps : List Promise) (i : ℕ) → first_broken g before after at ps ≡ None → i < length ps → is_broken g before after (slice_index_or ps i no_promise) ≡ false
-none_broken g before after at [] i none low = absurd (omega arith)
-none_broken g before after at (p ∷ ps) zero none low = (none_broken_if g before after at p ps _ (is_broken g before after p) refl none).0
-none_broken g before after at (p ∷ ps) (suc i) none low = none_broken g before after (at + 1) ps i (none_broken_if g before after at p ps _ (is_broken g before after p) refl none).1 (omega arith)
 
 no_cause : (c : Option Broken) → option_map broken_cause c ≡ None → c ≡ None
 no_cause None is = refl
@@ -59,60 +41,51 @@ accepts_none None (Some x) c version is = cc
 accepts_none None None (Some x) version is = cc
 accepts_none None None None version is = refl
 
-still_kept : (p q : Bool) → (p && not q) ≡ false → p ≡ true → q ≡ true
-still_kept true true none is = refl
-still_kept true false none is = cc
-still_kept false q none is = cc
-
 abbrev pub entry_of : Event → Reply → Entry
 entry_of event answer = record { event = event; reply = answer }
 
--- a promise that holds in the sure set holds in what stays sure, where the proposal is accepted
-accepted_keeps : (g : Group) (past : List Entry) (p : Proposal) (i : ℕ) → IsSound g → is_accepted (receipt_of g past p).verdict ≡ true → i < length g.promises → Keeps g (sure g past) (promise_of g i) → Keeps g (sure_after g past p.rows) (promise_of g i)
-accepted_keeps g past p i sound accepts low keeps =
-    let promise = promise_of g i in
-    let among = promise_at g.devices g.promises i sound.promises low in
-    let test = holds-is_held (length g.devices) g.links (need_of g promise) promise.a promise.b (sure g past) sound.links among.apart keeps in
-    let none = accepts_none (first_lack g (observed g past) (target_with (target g past) p.rows) p.rows) (first_locked (holder past) p.app p.rows) (option_map broken_cause (first_broken g (sure g past) (sure_after g past p.rows) 0 g.promises)) (version past) accepts in
-    let unbroken = none_broken g (sure g past) (sure_after g past p.rows) 0 g.promises i (no_cause (first_broken g (sure g past) (sure_after g past p.rows) 0 g.promises) none) low in
-    is_held-holds (length g.devices) g.links (need_of g promise) promise.a promise.b (sure_after g past p.rows) sound.links among.apart
-    (still_kept (is_kept g (sure g past) promise) (is_kept g (sure_after g past p.rows) promise) unbroken test)
+-- a demand that holds in the sure set holds in what stays sure, where the proposal is accepted
+accepted_keeps : (g : Group) (past : List Entry) (p : Proposal) (i : ℕ) → IsSound g → is_accepted (receipt_of g past p).verdict ≡ true → i < demand_count g → HoldsIn g (sure g past) i → HoldsIn g (sure_after g past p.rows) i
+accepted_keeps g past p i sound accepts low holds =
+    let breaks = first_broken_of g (sure g past) (sure_after g past p.rows) in
+    let test = (tells_demands g sound (sure g past) i low).1 holds in
+    let none = accepts_none (first_lack g (observed g past) (target_with (target g past) p.rows) p.rows) (first_locked (holder past) p.app p.rows) (option_map broken_cause breaks) (version past) accepts in
+    (tells_demands g sound (sure_after g past p.rows) i low).0 (breaks_none g (sure g past) (sure_after g past p.rows) i (no_cause breaks none) low test)
 
 pub same_entry : (event now : Event) (answer told : Reply) → now ≡ event → told ≡ answer → entry_of event answer ≡ entry_of now told
 same_entry event now answer told p q = rw (p, q) refl
 
-by_acceptance : (g : Group) (past : List Entry) (event : Event) (answer : Reply) (i : ℕ) → IsSound g → IsAccepted g past event answer → i < length g.promises → Keeps g (sure g past) (promise_of g i) → Keeps g (sure g (entry_of event answer ∷ past)) (promise_of g i)
-by_acceptance g past event answer i sound is low keeps =
-    let promise = promise_of g i in
-    let kept = accepted_keeps g past is.proposal i sound is.accepts low keeps in
+by_acceptance : (g : Group) (past : List Entry) (event : Event) (answer : Reply) (i : ℕ) → IsSound g → IsAccepted g past event answer → i < demand_count g → HoldsIn g (sure g past) i → HoldsIn g (sure g (entry_of event answer ∷ past)) i
+by_acceptance g past event answer i sound is low holds =
+    let kept = accepted_keeps g past is.proposal i sound is.accepts low holds in
     let within = accepted_within g past is.proposal is.rest is.first is.accepts in
-    let done = Holds-more g.links (need_of g promise) promise.a promise.b (sure_after g past is.proposal.rows) (sure g (entry_of Check (Decided (receipt_of g past is.proposal)) ∷ past)) within kept in
-    subst (λ (x : Entry). Keeps g (sure g (x ∷ past)) promise) (same_entry Check event (Decided (receipt_of g past is.proposal)) answer is.check is.answers) done
+    let done = holds_with_more g (sure_after g past is.proposal.rows) (sure g (entry_of Check (Decided (receipt_of g past is.proposal)) ∷ past)) i within kept in
+    subst (λ (x : Entry). HoldsIn g (sure g (x ∷ past)) i) (same_entry Check event (Decided (receipt_of g past is.proposal)) answer is.check is.answers) done
 
-by_other : (g : Group) (past : List Entry) (entry : Entry) (i : ℕ) → (IsWithin (sure g past) (sure g (entry ∷ past)) ⊎ NamesLoss g past entry) → Keeps g (sure g past) (promise_of g i) → Keeps g (sure g (entry ∷ past)) (promise_of g i) ⊎ NamesLoss g past entry
-by_other g past entry i (inl within) keeps = inl (Holds-more g.links (need_of g (promise_of g i)) (promise_of g i).a (promise_of g i).b (sure g past) (sure g (entry ∷ past)) within keeps)
-by_other g past entry i (inr names) keeps = inr names
+by_other : (g : Group) (past : List Entry) (entry : Entry) (i : ℕ) → (IsWithin (sure g past) (sure g (entry ∷ past)) ⊎ NamesLoss g past entry) → HoldsIn g (sure g past) i → HoldsIn g (sure g (entry ∷ past)) i ⊎ NamesLoss g past entry
+by_other g past entry i (inl within) holds = inl (holds_with_more g (sure g past) (sure g (entry ∷ past)) i within holds)
+by_other g past entry i (inr names) holds = inr names
 
-keeps_at : (g : Group) (past : List Entry) (entry : Entry) (i : ℕ) (b : Bool) → is_acceptance entry.event entry.reply ≡ b → IsSound g → IsLegal g past → IsNext g past entry → i < length g.promises → Keeps g (sure g past) (promise_of g i) → Keeps g (sure g (entry ∷ past)) (promise_of g i) ⊎ NamesLoss g past entry
+keeps_at : (g : Group) (past : List Entry) (entry : Entry) (i : ℕ) (b : Bool) → is_acceptance entry.event entry.reply ≡ b → IsSound g → IsLegal g past → IsNext g past entry → i < demand_count g → HoldsIn g (sure g past) i → HoldsIn g (sure g (entry ∷ past)) i ⊎ NamesLoss g past entry
 keeps_at g past entry i true accepts sound legal next low keeps = inl (by_acceptance g past entry.event entry.reply i sound (acceptance g past entry.event entry.reply next.answer accepts) low keeps)
 keeps_at g past entry i false none sound legal next low keeps = by_other g past entry i (stays_or_names g past entry legal next none) keeps
 
--- a promise that holds in the sure set goes on to hold there, or the entry names a loss
-pub keeps_or_names : (g : Group) (past : List Entry) (entry : Entry) (i : ℕ) → IsSound g → IsLegal g past → IsNext g past entry → i < length g.promises → Keeps g (sure g past) (promise_of g i) → Keeps g (sure g (entry ∷ past)) (promise_of g i) ⊎ NamesLoss g past entry
+-- a demand that holds in the sure set goes on to hold there, or the entry names a loss
+pub keeps_or_names : (g : Group) (past : List Entry) (entry : Entry) (i : ℕ) → IsSound g → IsLegal g past → IsNext g past entry → i < demand_count g → HoldsIn g (sure g past) i → HoldsIn g (sure g (entry ∷ past)) i ⊎ NamesLoss g past entry
 keeps_or_names g past entry i sound legal next low keeps = keeps_at g past entry i (is_acceptance entry.event entry.reply) refl sound legal next low keeps
 
--- a check takes no promise from the sure set
-pub check_keeps : (g : Group) (past : List Entry) (entry : Entry) (i : ℕ) → entry.event ≡ Check → IsSound g → IsLegal g past → IsNext g past entry → i < length g.promises → Keeps g (sure g past) (promise_of g i) → Keeps g (sure g (entry ∷ past)) (promise_of g i)
+-- a check takes no demand from the sure set
+pub check_keeps : (g : Group) (past : List Entry) (entry : Entry) (i : ℕ) → entry.event ≡ Check → IsSound g → IsLegal g past → IsNext g past entry → i < demand_count g → HoldsIn g (sure g past) i → HoldsIn g (sure g (entry ∷ past)) i
 check_keeps g past entry i check sound legal next low keeps = kept (keeps_or_names g past entry i sound legal next low keeps)
   where
     silent : (event : Event) → event ≡ Check → heard event (nth (reports g past)) ≡ None
     silent event is = rw is refl
 
-    kept : (Keeps g (sure g (entry ∷ past)) (promise_of g i) ⊎ NamesLoss g past entry) → Keeps g (sure g (entry ∷ past)) (promise_of g i)
+    kept : (HoldsIn g (sure g (entry ∷ past)) i ⊎ NamesLoss g past entry) → HoldsIn g (sure g (entry ∷ past)) i
     kept (inl keeps) = keeps
     kept (inr names) = let none = silent entry.event check in let some = names.hears in cc
 
-lost_named : (g : Group) (past : List Entry) (entry : Entry) (i : ℕ) → (Keeps g (sure g (entry ∷ past)) (promise_of g i) ⊎ NamesLoss g past entry) → (Keeps g (sure g (entry ∷ past)) (promise_of g i) → ⊥) → NamesLoss g past entry
+lost_named : (g : Group) (past : List Entry) (entry : Entry) (i : ℕ) → (HoldsIn g (sure g (entry ∷ past)) i ⊎ NamesLoss g past entry) → (HoldsIn g (sure g (entry ∷ past)) i → ⊥) → NamesLoss g past entry
 lost_named g past entry i (inl keeps) lost = absurd (lost keeps)
 lost_named g past entry i (inr names) lost = names
 
@@ -148,13 +121,13 @@ no_loss g past entry none names =
     let failed = names.failed in
     cc
 
-kept_on : (g : Group) (past : List Entry) (entry : Entry) (i : ℕ) → HasNoFail past → (Keeps g (sure g (entry ∷ past)) (promise_of g i) ⊎ NamesLoss g past entry) → Keeps g (sure g (entry ∷ past)) (promise_of g i)
+kept_on : (g : Group) (past : List Entry) (entry : Entry) (i : ℕ) → HasNoFail past → (HoldsIn g (sure g (entry ∷ past)) i ⊎ NamesLoss g past entry) → HoldsIn g (sure g (entry ∷ past)) i
 kept_on g past entry i none (inl keeps) = keeps
 kept_on g past entry i none (inr names) = absurd (no_loss g past entry none names)
 
--- without a failure a promise that held at the start holds in the sure set
-pub sure_keeps : (g : Group) (past : List Entry) (i : ℕ) → IsSound g → IsLegal g past → HasNoFail past → i < length g.promises → Keeps g (actual g []) (promise_of g i) → Keeps g (sure g past) (promise_of g i)
-sure_keeps g [] i sound legal none low keeps = Holds-more g.links (need_of g (promise_of g i)) (promise_of g i).a (promise_of g i).b (actual g []) (sure g []) (start_sure g) keeps
+-- without a failure a demand that held at the start holds in the sure set
+pub sure_keeps : (g : Group) (past : List Entry) (i : ℕ) → IsSound g → IsLegal g past → HasNoFail past → i < demand_count g → HoldsIn g (actual g []) i → HoldsIn g (sure g past) i
+sure_keeps g [] i sound legal none low keeps = holds_with_more g (actual g []) (sure g []) i (start_sure g) keeps
 sure_keeps g (entry ∷ past) i sound legal none low keeps =
     kept_on g past entry i none.1 (keeps_or_names g past entry i sound legal.1 legal.0 low (sure_keeps g past i sound legal.1 none.1 low keeps))
 
@@ -172,9 +145,9 @@ keeps_promises g past sound legal = record {
   sure_is_up = sure_is_up g past;
   kept_sure = λ none i low keeps. let kept = sure_keeps g past i sound legal none low keeps in record {
     here = kept;
-    more = λ wide within. Holds-more g.links (need_of g (promise_of g i)) (promise_of g i).a (promise_of g i).b (sure g past) wide within kept;
+    more = λ wide within. holds_with_more g (sure g past) wide i within kept;
   };
-  kept_actual = λ none i low keeps. Holds-more g.links (need_of g (promise_of g i)) (promise_of g i).a (promise_of g i).b (sure g past) (actual g past) (sure_within g past none) (sure_keeps g past i sound legal none low keeps);
+  kept_actual = λ none i low keeps. holds_with_more g (sure g past) (actual g past) i (sure_within g past none) (sure_keeps g past i sound legal none low keeps);
   losses = losses_named g past sound legal;
 }
 

@@ -7,15 +7,15 @@ use Rattle.st_event.specs.declared.event.Event.{Event}
 use Rattle.st_event.specs.declared.event.Event.TheVariants.{Send}
 use Rattle.st_event.specs.declared.journal.Entry.{Entry}
 use Rattle.st_net.specs.Groups.{Group}
-use Rattle.st_event.specs.Proposals.{target, pending, first_rows, is_acceptance}
-use Rattle.st_net.specs.Merge.{vals_in, alters}
+use Rattle.st_event.specs.Proposals.{target, pending, first_rows, overlay_in}
+use Rattle.st_net.specs.Merge.{vals_in}
 use Rattle.st_net.specs.Numbered.{nth}
-use Rattle.st_event.specs.Moments.{heard, renews, is_taken, told, fence_after, stamp, commands, fence, reports}
+use Rattle.st_event.specs.Moments.{heard, is_altered_by, renews, is_taken, told, fence_after, stamp, commands, fence, reports}
 use Rattle.st_event.proofs.Made.{IsSent, Sends, command_now, told_sent}
 
 -- whether the entry gives the entity a new stamp
 abbrev pub is_stamped : Group → List Entry → Entry → Entity → Bool
-is_stamped g past entry e = (is_acceptance entry.event entry.reply && alters g (target g past) (first_rows (pending past)) e) || (is_taken entry.reply && renews (heard entry.event (nth (reports g past))) e (stamp g past e) (vals_in g (target g past) e))
+is_stamped g past entry e = is_altered_by g (target g past) (overlay_in entry.event entry.reply (first_rows (pending past))) e || (is_taken entry.reply && renews (heard entry.event (nth (reports g past))) e (stamp g past e) (vals_in g (target g past) e))
 
 if_at_most : (b : Bool) (m n k : ℕ) → m ≤ k → n ≤ k → (if b then m else n) ≤ k
 if_at_most true m n k p q = p

@@ -22,18 +22,18 @@ use Rattle.st_event.specs.declared.reply.Reply.TheVariants.{Queued, Decided}
 use Rattle.st_event.specs.declared.journal.Entry.{Entry}
 use Rattle.st_net.specs.Groups.{Group}
 use Rattle.st_net.specs.Merge.{merge_of, target_with, vals_in, alters}
-use Rattle.st_event.specs.Proposals.{is_accepted, is_acceptance, proposals, verdicts, verdicts_after, deciders, deciders_after, pending, accepted, target, first_rows}
+use Rattle.st_event.specs.Proposals.{is_accepted, is_acceptance, proposals, verdicts, verdicts_after, deciders, deciders_after, pending, overlays, with_overlay, target, first_rows}
 use Rattle.st_event.specs.Locks.{holder}
 use Rattle.st_net.specs.Numbered.{nth}
-use Rattle.st_event.specs.Moments.{heard, is_taken, renews, stamp, commands, reports, busy, work, reports_after}
+use Rattle.st_event.specs.Moments.{is_altered_by, heard, is_taken, renews, stamp, commands, reports, busy, work, reports_after}
 use Rattle.st_event.specs.Observed.{observed}
 use Rattle.st_event.specs.Replies.{reply, check_reply, receipt_of}
 use Rattle.st_event.specs.Legal.{IsLegal, IsNext}
 use Rattle.st_net.specs.Agents.{Agent, is_at_work}
 use Rattle.st_event.specs.Standing.{Standing, Wires, standing_of, wires_of, reply_in, check_reply_in, standing_after, wires_after, decide_one, hear_one, made_report}
 use Rattle.st_net.proofs.MergeLaws.{merge_of-push_all}
-use Rattle.st_event.proofs.Queues.{accepted_among-proposal, accepted_among-verdict, drop-verdict}
-use Rattle.st_event.proofs.Targets.{IsOrderly, legal_orderly}
+use Rattle.st_event.proofs.Queues.{drop-verdict}
+use Rattle.st_event.proofs.Targets.{IsOrderly, legal_orderly, overlay_none}
 use Rattle.st_event.proofs.Promises.{entry_of}
 use Rattle.st_event.proofs.Made.{report_now}
 use Rattle.st_event.proofs.AgentSteps.{agent_of-next}
@@ -67,7 +67,7 @@ and_false true = refl
 and_false false = refl
 
 pub quiet_stamp : (g : Group) (past : List Entry) (event : Event) (answer : Reply) → is_acceptance event answer ≡ false → heard event (nth (reports g past)) ≡ None → stamp g (entry_of event answer ∷ past) ≡ stamp g past
-quiet_stamp g past event answer none silent = fun_ext (λ e. rw (none, silent, and_false (is_taken answer)) refl)
+quiet_stamp g past event answer none silent = fun_ext (λ e. rw (overlay_none event answer (first_rows (pending past)) none, silent, and_false (is_taken answer)) refl)
 
 quiet_view : (g : Group) (past : List Entry) (event : Event) (answer : Reply) → heard event (nth (reports g past)) ≡ None → observed g (entry_of event answer ∷ past) ≡ observed g past
 quiet_view g past event answer silent = fun_ext (λ e. rw silent refl)
@@ -75,7 +75,7 @@ quiet_view g past event answer silent = fun_ext (λ e. rw silent refl)
 submit_moves : (g : Group) (past : List Entry) (app : AppId) (rows : List Row) (answer : Reply) → IsOrderly past → standing_of g (entry_of (Submit app rows) answer ∷ past) ≡ standing_after g (standing_of g past) (wires_of g past) (length past + 1) (Submit app rows) answer
 submit_moves g past app rows (Queued ticket) orderly =
     let few : length (verdicts past) ≤ length (proposals past) = orderly.few in
-    rw (length-append, drop-append-le, accepted_among-proposal) refl
+    rw (length-append, drop-append-le) refl
 submit_moves g past app rows answer orderly = ap (λ (s : Entity → ℕ). record (standing_of g (entry_of (Submit app rows) answer ∷ past)) { stamp = s }) (quiet_stamp g past (Submit app rows) answer refl refl)
 
 abbrev standing_from : ℕ → List ℕ → List Proposal → ℕ → (Entity → Var → ℕ) → (Entity → Prio → Option AppId) → (Entity → ℕ) → (Entity → Report) → Standing
@@ -88,9 +88,9 @@ or_false : (b : Bool) → (b || false) ≡ b
 or_false true = refl
 or_false false = refl
 
-stamp_by : (v : Bool) (n : ℕ) (altered : Entity → Bool) (old : Entity → ℕ) → (λ (e : Entity). if (v && altered e) || false then n else old e) ≡ (if v then (λ e. if altered e then n else old e) else old)
-stamp_by true n altered old = fun_ext (λ e. rw (or_false (altered e)) refl)
-stamp_by false n altered old = refl
+stamp_by : (g : Group) (before : Entity → Var → ℕ) (rows : List Row) (v : Bool) (n : ℕ) (old : Entity → ℕ) → (λ (e : Entity). if is_altered_by g before (if v then Some rows else None) e || false then n else old e) ≡ (if v then (λ e. if alters g before rows e then n else old e) else old)
+stamp_by g before rows true n old = fun_ext (λ e. rw (or_false (alters g before rows e)) refl)
+stamp_by g before rows false n old = refl
 
 renewed_by : (v : Bool) (n : ℕ) (renewed : Entity → Bool) (old : Entity → ℕ) → (λ (e : Entity). if v && renewed e then n else old e) ≡ (if v then (λ e. if renewed e then n else old e) else old)
 renewed_by true n renewed old = refl
@@ -106,20 +106,24 @@ target_by g (Refused cause) ps rows = refl
 
 stamp_decided : (g : Group) (past : List Entry) (receipt : Receipt) (p : Proposal) (rest : List Proposal) → pending past ≡ p ∷ rest → stamp g (entry_of Check (Decided receipt) ∷ past) ≡ (if is_accepted receipt.verdict then (λ e. if alters g (target g past) p.rows e then length past + 1 else stamp g past e) else stamp g past)
 stamp_decided g past receipt p rest first =
-    stamp_by (is_accepted receipt.verdict) (length past + 1) (alters g (target g past) (first_rows (pending past))) (stamp g past)
+    stamp_by g (target g past) (first_rows (pending past)) (is_accepted receipt.verdict) (length past + 1) (stamp g past)
     ∙ ap (λ (q : List Proposal). if is_accepted receipt.verdict then (λ (e : Entity). if alters g (target g past) (first_rows q) e then length past + 1 else stamp g past e) else stamp g past) first
+
+overlaid_decided : (before : List (List Row)) (accepts : Bool) (rows : List Row) → with_overlay (if accepts then Some rows else None) before ≡ (if accepts then before ++ rows ∷ [] else before)
+overlaid_decided before true rows = refl
+overlaid_decided before false rows = refl
 
 decided_moves : (g : Group) (past : List Entry) (receipt : Receipt) (p : Proposal) (rest : List Proposal) → pending past ≡ p ∷ rest → standing_of g (entry_of Check (Decided receipt) ∷ past) ≡ decide_one g (standing_of g past) (length past + 1) (p ∷ rest) receipt.verdict
 decided_moves g past receipt p rest first =
     let v = receipt.verdict in
     let next = drop-verdict (proposals past) rest (verdicts past) v p first in
-    let merged = accepted_among-verdict (proposals past) (verdicts past) v p rest first in
+    let merged = overlaid_decided (overlays past) (is_accepted v) (first_rows (pending past)) ∙ ap (λ (q : List Proposal). if is_accepted v then overlays past ++ first_rows q ∷ [] else overlays past) first in
     same_standing (length (proposals past)) (deciders past ++ (length past + 1) ∷ []) (deciders past ++ (length past + 1) ∷ []) (drop (length (verdicts past ++ v ∷ [])) (proposals past)) rest _ _ _ _ (holder past) _ _ (observed g past)
-    refl next (ap length merged ∙ version_by v (accepted past) p.rows) (ap (merge_of g) merged ∙ target_by g v (accepted past) p.rows) (stamp_decided g past receipt p rest first)
+    refl next (ap length merged ∙ version_by v (overlays past) p.rows) (ap (merge_of g) merged ∙ target_by g v (overlays past) p.rows) (stamp_decided g past receipt p rest first)
 
 check_moves : (g : Group) (past : List Entry) (queue : List Proposal) (answer : Reply) → pending past ≡ queue → answer ≡ check_reply g past queue → standing_of g (entry_of Check answer ∷ past) ≡ standing_after g (standing_of g past) (wires_of g past) (length past + 1) Check answer
 check_moves g past [] answer first is = rw is refl
-check_moves g past (p ∷ rest) answer first is = rw (is, first) (decided_moves g past (receipt_of g past p) p rest first)
+check_moves g past (p ∷ rest) answer first is = rw is (decided_moves g past (receipt_of g past p) p rest first ∙ ap (λ (queue : List Proposal). decide_one g (standing_of g past) (length past + 1) queue (receipt_of g past p).verdict) (sym first))
 
 hear_moves : (g : Group) (past : List Entry) (k : ℕ) (answer : Reply) → standing_of g (entry_of (Hear k) answer ∷ past) ≡ hear_one g (standing_of g past) (length past + 1) (nth (reports g past) k) answer
 hear_moves g past k answer = ap (λ (s : Entity → ℕ). record (standing_of g (entry_of (Hear k) answer ∷ past)) { stamp = s }) (renewed_by (is_taken answer) (length past + 1) (λ e. renews (nth (reports g past) k) e (stamp g past e) (vals_in g (target g past) e)) (stamp g past))

@@ -15,7 +15,7 @@ use Rattle.st_net.specs.Entities.{is_same_entity, is_same_vals}
 use Rattle.st_net.specs.Groups.{Group}
 use Rattle.st_net.specs.Merge.{target_with, vals_in, alters}
 use Rattle.st_net.specs.Sets.{IsWithin}
-use Rattle.st_event.specs.Proposals.{is_acceptance, is_accepted, pending, target}
+use Rattle.st_event.specs.Proposals.{is_acceptance, is_accepted, first_rows, pending, target}
 use Rattle.st_net.specs.Numbered.{nth}
 use Rattle.st_event.specs.Moments.{heard, renews, is_taken, stamp, reports}
 use Rattle.st_net.specs.Reports.{is_sure_by}
@@ -29,7 +29,7 @@ use Rattle.st_event.proofs.Stamps.{fence_small}
 use Rattle.st_event.proofs.Shown.{made_is_true}
 use Rattle.st_event.proofs.Later.{made_later}
 use Rattle.st_event.proofs.SureIsUp.{IsSureBy, sure_parts, sure_made}
-use Rattle.st_event.proofs.Targets.{target_same, target_next}
+use Rattle.st_event.proofs.Targets.{overlay_none, target_same, target_next}
 
 -- an acceptance: what stays sure
 
@@ -50,7 +50,7 @@ unaltered g target rows e none = same_vals (vals_in g (target_with target rows) 
 stays_sure : (g : Group) (past : List Entry) (p : Proposal) (rest : List Proposal) (e : Entity) → pending past ≡ p ∷ rest → is_accepted (receipt_of g past p).verdict ≡ true → sure g past e ≡ true → alters g (target g past) p.rows e ≡ false → sure g (record { event = Check; reply = Decided (receipt_of g past p) } ∷ past) e ≡ true
 stays_sure g past p rest e first accepts is none =
     let moved = target_next g past (receipt_of g past p) p rest first accepts in
-    rw (moved, unaltered g (target g past) p.rows e none, first, none, and_false (is_accepted (receipt_of g past p).verdict) false refl) is
+    rw (moved, unaltered g (target g past) p.rows e none, accepts, first, none) is
 
 -- after an acceptance the sure set has what was sure and is not altered
 pub accepted_within : (g : Group) (past : List Entry) (p : Proposal) (rest : List Proposal) → pending past ≡ p ∷ rest → is_accepted (receipt_of g past p).verdict ≡ true → IsWithin (sure_after g past p.rows) (sure g (record { event = Check; reply = Decided (receipt_of g past p) } ∷ past))
@@ -78,7 +78,7 @@ is_sure_at = is_sure_by
 -- an entry that accepts nothing and leaves what is observed, and does not renew, leaves the entity sure
 sure_kept : (g : Group) (past : List Entry) (entry : Entry) (e : Entity) → is_acceptance entry.event entry.reply ≡ false → target g (entry ∷ past) ≡ target g past → observed g (entry ∷ past) e ≡ observed g past e → (is_taken entry.reply && renews (heard entry.event (nth (reports g past))) e (stamp g past e) (vals_in g (target g past) e)) ≡ false → sure g past e ≡ true → sure g (entry ∷ past) e ≡ true
 sure_kept g past entry e none moved view renewed is =
-    let stamps : stamp g (entry ∷ past) e ≡ stamp g past e = rw (none, renewed) refl in
+    let stamps : stamp g (entry ∷ past) e ≡ stamp g past e = rw (overlay_none entry.event entry.reply (first_rows (pending past)) none, renewed) refl in
     rw (moved, view, stamps) is
 
 nothing_heard : (g : Group) (past : List Entry) (entry : Entry) (e : Entity) → is_acceptance entry.event entry.reply ≡ false → target g (entry ∷ past) ≡ target g past → heard entry.event (nth (reports g past)) ≡ None → sure g past e ≡ true → sure g (entry ∷ past) e ≡ true
@@ -122,7 +122,7 @@ new_heard : (g : Group) (past : List Entry) (entry : Entry) (r : Report) → is_
 new_heard g past entry r none moved hears self newer view =
     let same : is_same_vals r.vals (vals_in g (target g past) r.entity) ≡ true = rw view.values (same_vals_self (vals_in g (target g past) r.entity)) in
     let unrenewed : renews (Some r) r.entity (stamp g past r.entity) (vals_in g (target g past) r.entity) ≡ false = not_other (is_same_entity r.entity r.entity && not r.busy) (r.fence == stamp g past r.entity) (is_same_vals r.vals (vals_in g (target g past) r.entity)) same in
-    let stamps : stamp g (entry ∷ past) r.entity ≡ stamp g past r.entity = rw (none, hears, unrenewed, and_false (is_taken entry.reply) false refl) refl in
+    let stamps : stamp g (entry ∷ past) r.entity ≡ stamp g past r.entity = rw (overlay_none entry.event entry.reply (first_rows (pending past)) none, hears, unrenewed, and_false (is_taken entry.reply) false refl) refl in
     let now : observed g (entry ∷ past) r.entity ≡ r = rw (hears, self, newer) refl in
     rw (moved, now, stamps) (sure_made r.entity r (stamp g past r.entity) (vals_in g (target g past) r.entity) view)
 
@@ -162,4 +162,4 @@ by_heard g past entry (Some r) hears next none moved = by_report g past entry r 
 
 -- an entry that accepts nothing leaves each sure entity so, or names a loss
 pub stays_or_names : (g : Group) (past : List Entry) (entry : Entry) → IsLegal g past → IsNext g past entry → is_acceptance entry.event entry.reply ≡ false → IsWithin (sure g past) (sure g (entry ∷ past)) ⊎ NamesLoss g past entry
-stays_or_names g past entry legal next none = by_heard g past entry (heard entry.event (nth (reports g past))) refl next none (target_same g past entry legal next none)
+stays_or_names g past entry legal next none = by_heard g past entry (heard entry.event (nth (reports g past))) refl next none (target_same g past entry none)

@@ -1,6 +1,7 @@
--- An entry moves the target only where it accepts a proposal, and then by that proposal's rows.
-use Rattle.std.proofs.Common.{◌≡◌, ◌+◌, ◌≤◌, List, [], ◌∷◌, ◌++◌, length, drop, refl, ap, sym, ◌∙◌, arith, length-append, length-drop}
-use Rattle.std.specs.Prelude.{true, false}
+-- An entry moves the target only where it accepts a proposal, and then by that proposal's rows; and in a legal journal the
+-- overlays are the accepted proposals.
+use Rattle.std.proofs.Common.{◌≡◌, ◌+◌, ◌≤◌, List, [], ◌∷◌, ◌++◌, length, drop, Option, Some, None, refl, ap, sym, ◌∙◌, arith, length-append, length-drop}
+use Rattle.std.specs.Prelude.{Bool, true, false}
 use Rattle.st_net.specs.declared.entity.Row.{Row}
 use Rattle.st_net.specs.declared.entity.AppId.{AppId}
 use Rattle.st_event.specs.declared.event.Event.{Event}
@@ -12,7 +13,8 @@ use Rattle.st_event.specs.declared.journal.Entry.{Entry}
 use Rattle.st_event.specs.declared.event.Proposal.{Proposal}
 use Rattle.st_net.specs.Groups.{Group}
 use Rattle.st_net.specs.Merge.{merge_of, target_with}
-use Rattle.st_event.specs.Proposals.{is_accepted, is_accepting, is_acceptance, proposals, verdicts, pending, accepted, target}
+use Rattle.st_event.specs.Proposals.{is_accepted, is_accepting, is_acceptance, proposals, verdicts, pending, accepted, first_rows, overlay_in, with_overlay, overlays, target}
+use Rattle.st_event.specs.Overlaid.{overlaid_by}
 use Rattle.st_event.specs.Replies.{reply, check_reply, receipt_of}
 use Rattle.st_event.specs.Legal.{IsLegal, IsNext}
 use Rattle.st_net.proofs.MergeLaws.{merge_of-push_all}
@@ -58,10 +60,6 @@ accepted_same g past (Submit app rows) answer orderly is none = submit_same past
 accepted_same g past Check answer orderly is none = check_same g past (pending past) answer refl is none
 accepted_same g past _ answer orderly is none = refl
 
--- an entry that accepts nothing leaves the target
-pub target_same : (g : Group) (past : List Entry) (entry : Entry) → IsLegal g past → IsNext g past entry → is_acceptance entry.event entry.reply ≡ false → target g (entry ∷ past) ≡ target g past
-target_same g past entry legal next none = ap (merge_of g) (accepted_same g past entry.event entry.reply (legal_orderly g past legal) next.answer none)
-
 -- what an acceptance is: a check, whose receipt accepts the oldest pending proposal
 pub record IsAccepted (g : Group) (past : List Entry) (event : Event) (answer : Reply) : Type 0 where
   pub proposal : Proposal
@@ -82,6 +80,57 @@ acceptance g past _ answer is accepts = cc
 pub accepted_next : (past : List Entry) (receipt : Receipt) (p : Proposal) (rest : List Proposal) → pending past ≡ p ∷ rest → is_accepted receipt.verdict ≡ true → accepted (record { event = Check; reply = Decided receipt } ∷ past) ≡ accepted past ++ p.rows ∷ []
 accepted_next past receipt p rest first accepts = rw (accepted_among-verdict (proposals past) (verdicts past) receipt.verdict p rest first, accepts) refl
 
+-- what an entry overlays, by whether it accepts
+
+pub overlay_none : (event : Event) (answer : Reply) (first : List Row) → is_acceptance event answer ≡ false → overlay_in event answer first ≡ None
+overlay_none Check answer first none = rw none refl
+overlay_none _ answer first none = refl
+
+pub overlay_some : (event : Event) (answer : Reply) (first : List Row) → is_acceptance event answer ≡ true → overlay_in event answer first ≡ Some first
+overlay_some Check answer first accepts = rw accepts refl
+overlay_some _ answer first accepts = cc
+
+pub overlays_same : (past : List Entry) (entry : Entry) → is_acceptance entry.event entry.reply ≡ false → overlays (entry ∷ past) ≡ overlays past
+overlays_same past entry none = ap (λ (o : Option (List Row)). with_overlay o (overlays past)) (overlay_none entry.event entry.reply (first_rows (pending past)) none)
+
+pub overlays_next : (past : List Entry) (entry : Entry) → is_acceptance entry.event entry.reply ≡ true → overlays (entry ∷ past) ≡ overlays past ++ first_rows (pending past) ∷ []
+overlays_next past entry accepts = ap (λ (o : Option (List Row)). with_overlay o (overlays past)) (overlay_some entry.event entry.reply (first_rows (pending past)) accepts)
+
+-- the target is overlaid with what an entry overlays, in any journal
+
+overlaid : (g : Group) (o : Option (List Row)) (before : List (List Row)) → merge_of g (with_overlay o before) ≡ overlaid_by o (merge_of g before)
+overlaid g None before = refl
+overlaid g (Some rows) before = merge_of-push_all g before rows
+
+pub target_overlaid : (g : Group) (past : List Entry) (entry : Entry) → target g (entry ∷ past) ≡ overlaid_by (overlay_in entry.event entry.reply (first_rows (pending past))) (target g past)
+target_overlaid g past entry = overlaid g (overlay_in entry.event entry.reply (first_rows (pending past))) (overlays past)
+
+-- an entry that accepts nothing leaves the target
+pub target_same : (g : Group) (past : List Entry) (entry : Entry) → is_acceptance entry.event entry.reply ≡ false → target g (entry ∷ past) ≡ target g past
+target_same g past entry none = ap (merge_of g) (overlays_same past entry none)
+
 -- an acceptance overlays the target with the proposal's rows
 pub target_next : (g : Group) (past : List Entry) (receipt : Receipt) (p : Proposal) (rest : List Proposal) → pending past ≡ p ∷ rest → is_accepted receipt.verdict ≡ true → target g (record { event = Check; reply = Decided receipt } ∷ past) ≡ target_with (target g past) p.rows
-target_next g past receipt p rest first accepts = ap (merge_of g) (accepted_next past receipt p rest first accepts) ∙ merge_of-push_all g (accepted past) p.rows
+target_next g past receipt p rest first accepts =
+    ap (merge_of g) (overlays_next past (record { event = Check; reply = Decided receipt }) accepts)
+    ∙ merge_of-push_all g (overlays past) (first_rows (pending past))
+    ∙ ap (λ (q : List Proposal). target_with (target g past) (first_rows q)) first
+
+-- the overlays of a legal journal are the accepted proposals' rows
+
+accepted_step : (g : Group) (past : List Entry) (event : Event) (answer : Reply) → IsAccepted g past event answer → accepted (record { event = event; reply = answer } ∷ past) ≡ accepted past ++ first_rows (pending past) ∷ []
+accepted_step g past event answer is =
+    let next = accepted_next past (receipt_of g past is.proposal) is.proposal is.rest is.first is.accepts in
+    rw (is.check, is.answers) (next ∙ ap (λ (q : List Proposal). accepted past ++ first_rows q ∷ []) (sym is.first))
+
+listed_at : (g : Group) (past : List Entry) (entry : Entry) (b : Bool) → is_acceptance entry.event entry.reply ≡ b → IsLegal g past → IsNext g past entry → overlays past ≡ accepted past → overlays (entry ∷ past) ≡ accepted (entry ∷ past)
+listed_at g past entry true is legal next before =
+    overlays_next past entry is
+    ∙ ap (λ (all : List (List Row)). all ++ first_rows (pending past) ∷ []) before
+    ∙ sym (accepted_step g past entry.event entry.reply (acceptance g past entry.event entry.reply next.answer is))
+listed_at g past entry false is legal next before =
+    overlays_same past entry is ∙ before ∙ sym (accepted_same g past entry.event entry.reply (legal_orderly g past legal) next.answer is)
+
+pub overlays_are_accepted : (g : Group) (past : List Entry) → IsLegal g past → overlays past ≡ accepted past
+overlays_are_accepted g [] legal = refl
+overlays_are_accepted g (entry ∷ past) legal = listed_at g past entry (is_acceptance entry.event entry.reply) refl legal.1 legal.0 (overlays_are_accepted g past legal.1)

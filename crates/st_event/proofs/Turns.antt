@@ -52,8 +52,8 @@ report_settles g past e k made answer legal idle fences unspoiled names =
     let first = legal.1.1 in
     let values : vals g past e ≡ vals_in g (target g past) e = (agents_in_step g past e first).done idle unspoiled ∙ ap (λ (s : ℕ). target_at g past s e) fences ∙ sym (target_of_stamp g past e first) in
     let goals : vals_in g (target g (entry_of (Hear k) answer ∷ middle)) e ≡ vals_in g (target g past) e =
-    ap (λ (t : Entity → Var → ℕ). vals_in g t e) (target_same g middle (entry_of (Hear k) answer) legal.1 legal.0 refl ∙ target_same g past (entry_of (make_report e) made) first legal.1.0 refl) in
-    let middle_goal : vals_in g (target g middle) e ≡ vals_in g (target g past) e = ap (λ (t : Entity → Var → ℕ). vals_in g t e) (target_same g past (entry_of (make_report e) made) first legal.1.0 refl) in
+    ap (λ (t : Entity → Var → ℕ). vals_in g t e) (target_same g middle (entry_of (Hear k) answer) refl ∙ target_same g past (entry_of (make_report e) made) refl) in
+    let middle_goal : vals_in g (target g middle) e ≡ vals_in g (target g past) e = ap (λ (t : Entity → Var → ℕ). vals_in g t e) (target_same g past (entry_of (make_report e) made) refl) in
     let middle_stamp : stamp g middle e ≡ stamp g past e = ap (λ (f : Entity → ℕ). f e) (quiet_stamp g past (make_report e) made refl refl) in
     let low = number_low g past e in
     let newer : nat_lt (observed g past e).number (number past e + 1) ≡ true = less (observed g past e).number (number past e + 1) (omega (arith, low)) in

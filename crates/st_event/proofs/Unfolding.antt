@@ -16,11 +16,11 @@ use Rattle.st_event.specs.declared.journal.Entry.{Entry}
 use Rattle.st_net.specs.Entities.{is_same_entity}
 use Rattle.st_net.specs.Groups.{Group}
 use Rattle.st_net.specs.Holders.{holder_set, holder_freed}
-use Rattle.st_net.specs.Merge.{alters, vals_in}
+use Rattle.st_net.specs.Merge.{vals_in}
 use Rattle.st_net.specs.Numbered.{nth}
-use Rattle.st_event.specs.Proposals.{proposals_after, proposals, verdicts_after, verdicts, pending, is_acceptance, first_rows, target}
+use Rattle.st_event.specs.Proposals.{proposals_after, proposals, verdicts_after, verdicts, pending, first_rows, overlay_in, overlays, with_overlay, target}
 use Rattle.st_event.specs.Locks.{holder_after, holder}
-use Rattle.st_event.specs.Moments.{heard, told, command_of, renews, is_taken, fence_after, begins, work_after, vals_after, health_after, is_finish_of, is_report_of, is_fail_of, commands_after, reports_after, stamp, commands, fence, busy, work, vals, health, number, reports}
+use Rattle.st_event.specs.Moments.{heard, is_altered_by, told, command_of, renews, is_taken, fence_after, begins, work_after, vals_after, health_after, is_finish_of, is_report_of, is_fail_of, commands_after, reports_after, stamp, commands, fence, busy, work, vals, health, number, reports}
 use Rattle.st_net.specs.Reports.{later_report}
 use Rattle.st_event.specs.Observed.{observed, failed_between, failed_since}
 use Rattle.st_event.specs.Past.{is_spoiled, target_at}
@@ -41,8 +41,11 @@ verdicts-next past entry = refl
 pub holder-next : (past : List Entry) (entry : Entry) → holder (entry ∷ past) ≡ holder_after entry.event entry.reply (holder past)
 holder-next past entry = refl
 
-pub stamp-next : (g : Group) (past : List Entry) (entry : Entry) (e : Entity) → stamp g (entry ∷ past) e ≡ (if (is_acceptance entry.event entry.reply && alters g (target g past) (first_rows (pending past)) e) || (is_taken entry.reply && renews (heard entry.event (nth (reports g past))) e (stamp g past e) (vals_in g (target g past) e)) then length past + 1 else stamp g past e)
+pub stamp-next : (g : Group) (past : List Entry) (entry : Entry) (e : Entity) → stamp g (entry ∷ past) e ≡ (if is_altered_by g (target g past) (overlay_in entry.event entry.reply (first_rows (pending past))) e || (is_taken entry.reply && renews (heard entry.event (nth (reports g past))) e (stamp g past e) (vals_in g (target g past) e)) then length past + 1 else stamp g past e)
 stamp-next g past entry e = refl
+
+pub overlays-next : (past : List Entry) (entry : Entry) → overlays (entry ∷ past) ≡ with_overlay (overlay_in entry.event entry.reply (first_rows (pending past))) (overlays past)
+overlays-next past entry = refl
 
 pub commands-next : (g : Group) (past : List Entry) (entry : Entry) → commands g (entry ∷ past) ≡ commands_after entry.event entry.reply (command_now g past) (commands g past)
 commands-next g past entry = refl

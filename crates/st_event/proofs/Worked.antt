@@ -1,107 +1,24 @@
 -- Small journals, computed: each law gives the events of a journal with the replies that the definitions call for, or what they say of it.
 use Rattle.std.proofs.Common.{◌≡◌, ℕ, zero, suc, List, [], ◌∷◌, ◌++◌, Some, None, refl}
-use Rattle.std.specs.Prelude.{Bool, true, false, map, reverse, codes, take}
-use Rattle.st_net.specs.declared.entity.Entity.{Entity}
-use Rattle.st_net.specs.declared.entity.Entity.TheVariants.{Device, Link}
-use Rattle.st_net.specs.declared.entity.Var.{Var}
+use Rattle.std.specs.Prelude.{true, false, map, take}
+use Rattle.st_net.specs.declared.entity.Entity.TheVariants.{Link}
 use Rattle.st_net.specs.declared.entity.Var.TheVariants.{Power, Firmware, Config, Routing, LinkPower, Iface}
-use Rattle.st_net.specs.declared.entity.Vals.{Vals}
-use Rattle.st_net.specs.declared.entity.Row.{Row}
 use Rattle.st_net.specs.declared.entity.Prio.TheVariants.{Low, High}
-use Rattle.st_net.specs.declared.entity.AppId.{AppId}
 use Rattle.st_event.specs.declared.event.Event.{Event}
 use Rattle.st_event.specs.declared.event.Event.TheVariants.{Submit, Check, Lock, Unlock, Send, Deliver, Finish, Report as make_report, Hear, Fail}
-use Rattle.st_event.specs.declared.reply.Reply.{Reply}
-use Rattle.st_event.specs.declared.reply.Reply.TheVariants.{Queued, Full, Decided, Idle, Granted, Held, Released, NotYours, Sent, Settled, Blocked, Begun, Stale, NoSuch, Done, NotBusy, Reported, Taken, Old, Changed}
-use Rattle.st_event.specs.declared.reply.Verdict.{Verdict}
+use Rattle.st_event.specs.declared.reply.Reply.TheVariants.{Queued, Full, Idle, Granted, Held, Released, NotYours, Sent, Settled, Blocked, Begun, Stale, NoSuch, Done, NotBusy, Reported, Taken, Old, Changed}
 use Rattle.st_event.specs.declared.reply.Verdict.TheVariants.{Accepted, Refused}
 use Rattle.st_event.specs.declared.reply.Lack.TheVariants.{Level, PowerOff}
-use Rattle.st_event.specs.declared.reply.Cause.TheVariants.{NotControllable, Locked, Broken as broken_cause}
-use Rattle.st_net.specs.declared.promise.BrokenKind.{BrokenKind}
+use Rattle.st_event.specs.declared.reply.Cause.TheVariants.{NotControllable, Locked}
 use Rattle.st_net.specs.declared.promise.BrokenKind.TheVariants.{CutOff, Short}
-use Rattle.st_event.specs.declared.journal.Entry.{Entry}
-use Rattle.st_net.specs.declared.topo.DeviceOpening.{DeviceOpening}
-use Rattle.st_net.specs.declared.topo.LinkOpening.{LinkOpening}
 use Rattle.st_net.specs.Groups.{Group, promise_of}
 use Rattle.st_net.specs.Merge.{merge_of}
 use Rattle.st_net.specs.Promises.{is_kept, need_of}
-use Rattle.st_event.specs.Proposals.{accepted, version, target}
+use Rattle.st_event.specs.Proposals.{accepted, overlays, version, target}
 use Rattle.st_event.specs.Moments.{stamp, fence, busy, vals}
 use Rattle.st_event.specs.Observed.{observed, is_settled, sure, actual, untold, failed_between}
 use Rattle.st_event.specs.Replies.{reply}
-
--- values of a device, and of a link
-abbrev device_vals : ℕ → ℕ → ℕ → ℕ → Vals
-device_vals power firmware config routing = record { v0 = power; v1 = firmware; v2 = config; v3 = routing }
-
-abbrev usual : Vals
-usual = device_vals 1 1 1 1
-
-abbrev device : Bool → Vals → ℕ → DeviceOpening
-device tor vals health = record { tor = tor; vals = vals; health = health }
-
-abbrev link : ℕ → ℕ → LinkOpening
-link a b = record { a = a; b = b; capacity = 10; vals = record { v0 = 1; v1 = 1; v2 = 0; v3 = 0 }; health = 1 }
-
--- two ToRs, each linked to two switches, with one promise between the two; the switches open so
-abbrev two_paths : ℕ → DeviceOpening → DeviceOpening → Group
-two_paths percent a1 a2 = record {
-  name = codes "dc1";
-  device_names = codes "t1" ∷ codes "t2" ∷ codes "a1" ∷ codes "a2" ∷ [];
-  link_names = codes "l1" ∷ codes "l2" ∷ codes "l3" ∷ codes "l4" ∷ [];
-  devices = device true usual 5 ∷ device true usual 5 ∷ a1 ∷ a2 ∷ [];
-  links = link 0 2 ∷ link 0 3 ∷ link 1 2 ∷ link 1 3 ∷ [];
-  promises = record { a = 0; b = 1; percent = percent } ∷ [];
-}
-
-abbrev small : ℕ → Group
-small percent = two_paths percent (device false usual 5) (device false usual 5)
-
-abbrev q : Group
-q = small 50
-
-abbrev t1 : Entity
-t1 = Device 0
-
-abbrev a1 : Entity
-a1 = Device 2
-
-abbrev a2 : Entity
-a2 = Device 3
-
--- the journal of these events, each with the reply that it calls for
-abbrev run : Group → List Event → List Entry → List Entry
-run g [] past = past
-run g (event ∷ events) past = run g events (record { event = event; reply = reply g past event } ∷ past)
-
-abbrev after : Group → List Event → List Entry
-after g events = run g events []
-
-abbrev replies : Group → List Event → List Reply
-replies g events = map (λ entry. entry.reply) (reverse (after g events))
-
--- two applications
-abbrev app : ℕ → AppId
-app n = record { 0 = n }
-
-abbrev te : AppId
-te = app 0
-
-abbrev up : AppId
-up = app 1
-
-abbrev row : Entity → Var → ℕ → Row
-row e v value = record { entity = e; var = v; value = value }
-
-abbrev propose : AppId → Entity → Var → ℕ → Event
-propose by e v value = Submit by (row e v value ∷ [])
-
-abbrev decided : ℕ → ℕ → Verdict → Reply
-decided ticket entry verdict = Decided (record { ticket = ticket; entry = entry; verdict = verdict })
-
--- the promise is broken so, and the first ToR alone is the least side
-abbrev breaks : BrokenKind → ℕ → ℕ → Verdict
-breaks kind need has = Refused (broken_cause (record { promise = 0; kind = kind; need = need; has = has; side = 0 ∷ [] }))
+use Rattle.st_event.proofs.SmallGroups.{device_vals, usual, device, link, two_paths, small, q, t1, a1, a2, after, replies, te, up, row, propose, decided, breaks}
 
 -- Promises
 
@@ -202,6 +119,10 @@ two_writers = propose te a1 Config 5 ∷ propose up a1 Config 7 ∷ Check ∷ Ch
 
 last_writer_wins : (version (after q two_writers) ≡ 2) × (target q (after q two_writers) a1 Config ≡ 7) × (merge_of q (take 1 (accepted (after q two_writers))) a1 Config ≡ 5)
 last_writer_wins = (refl, refl, refl)
+
+-- each acceptance overlays the target by its entry, and a refusal does not
+overlays_by_entry : (overlays (after q two_writers) ≡ (row a1 Config 5 ∷ []) ∷ (row a1 Config 7 ∷ []) ∷ []) × (overlays (after q (take 3 two_writers)) ≡ (row a1 Config 5 ∷ []) ∷ []) × (overlays (after q (propose up t1 Firmware 2 ∷ Check ∷ [])) ≡ [])
+overlays_by_entry = (refl, refl, refl)
 
 -- a row that changes nothing takes a version and leaves the stamp
 abbrev no_change : List Event

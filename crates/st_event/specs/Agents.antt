@@ -4,7 +4,7 @@ use Rattle.st_net.specs.declared.entity.Entity.{Entity}
 use Rattle.st_net.specs.declared.entity.Vals.{Vals}
 use Rattle.st_net.specs.declared.message.Command.{Command}
 use Rattle.st_event.specs.declared.event.Event.{Event}
-use Rattle.st_event.specs.declared.event.Event.TheVariants.{Deliver, Finish, Report as make_report, Fail}
+use Rattle.st_event.specs.declared.event.Event.TheVariants.{Submit, Check, Lock, Unlock, Send, Deliver, Finish, Report as make_report, Hear, Fail}
 use Rattle.st_event.specs.declared.journal.Entry.{Entry}
 use Rattle.st_net.specs.Entities.{is_same_entity}
 use Rattle.st_net.specs.Groups.{Group}
@@ -23,4 +23,9 @@ agent_after (Deliver n) commands e a = agent_told (command_of e (commands n)) a
 agent_after (Finish at) commands e a = if is_same_entity at e then agent_finished a.work a else a
 agent_after (make_report at) commands e a = if is_same_entity at e then agent_counted a else a
 agent_after (Fail at vals health) commands e a = if is_same_entity at e then agent_failed vals health a else a
-agent_after _ commands e a = a
+agent_after (Submit app rows) commands e a = a
+agent_after Check commands e a = a
+agent_after (Lock app at prio) commands e a = a
+agent_after (Unlock app at prio) commands e a = a
+agent_after (Send at) commands e a = a
+agent_after (Hear n) commands e a = a

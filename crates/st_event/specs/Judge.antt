@@ -18,7 +18,7 @@ use Rattle.st_net.specs.declared.topo.LinkOpening.{LinkOpening}
 use Rattle.st_net.specs.Groups.{Group, no_link}
 use Rattle.st_net.specs.Merge.{target_with}
 use Rattle.st_net.specs.Holders.{Holding, effective_of}
-use Rattle.st_net.specs.Promises.{first_broken}
+use Rattle.st_net.specs.Demands.{first_broken_of}
 
 -- the level that a row on the variable needs of its own entity
 abbrev pub needs_of : Var → ℕ
@@ -78,4 +78,4 @@ refusal_or_version None version = Accepted (version + 1)
 
 -- the verdict on an application's rows: the first refusal, or else Accepted with the next version
 abbrev pub judge : Group → (Entity → Report) → (Entity → Var → ℕ) → (Entity → Prio → Option AppId) → (Entity → Bool) → (Entity → Bool) → ℕ → AppId → List Row → Verdict
-judge g observed target holder sure after version app rows = refusal_or_version (cause_or (first_lack g observed (target_with target rows) rows) (cause_or (first_locked holder app rows) (option_map broken_cause (first_broken g sure after 0 g.promises)))) version
+judge g observed target holder sure after version app rows = refusal_or_version (cause_or (first_lack g observed (target_with target rows) rows) (cause_or (first_locked holder app rows) (option_map broken_cause (first_broken_of g sure after)))) version

@@ -14,14 +14,16 @@ use Rattle.st_event.specs.declared.journal.TheConstants.{MAX_PENDING}
 use Rattle.st_net.specs.Entities.{value_of}
 use Rattle.st_net.specs.declared.topo.LinkOpening.{LinkOpening}
 use Rattle.st_net.specs.declared.promise.Promise.{Promise}
-use Rattle.st_net.specs.Groups.{Group, IsSound, AreLinks, opening_of, promise_of}
-use Rattle.st_net.specs.Merge.{target_with}
+use Rattle.st_net.specs.Groups.{Group, IsSound, AreLinks, opening_of}
+use Rattle.st_net.specs.Merge.{merge_of, target_with}
 use Rattle.st_net.specs.Numbered.{nth}
 use Rattle.st_net.specs.Sets.{IsWithin}
 use Rattle.st_net.specs.UpGraph.{IsWalk}
 use Rattle.st_net.specs.Cuts.{IsCut, cut_value, least_cut, is_in_least_side}
-use Rattle.st_net.specs.Promises.{Keeps, is_kept}
-use Rattle.st_event.specs.Proposals.{accepted, pending, first_rows, is_acceptance, target}
+use Rattle.st_net.specs.Promises.{Keeps}
+use Rattle.st_net.specs.Demands.{demand_count, HoldsIn, is_held_in}
+use Rattle.st_event.specs.Proposals.{accepted, pending, first_rows, is_acceptance, overlay_in, overlays, version, target}
+use Rattle.st_event.specs.Overlaid.{overlaid_by}
 use Rattle.st_event.specs.Moments.{stamp, fence, commands, reports}
 use Rattle.st_net.specs.Reports.{opening_report}
 use Rattle.st_event.specs.Observed.{observed, sure}
@@ -42,7 +44,7 @@ LegalJournalsKeepPromises = (g : Group) (past : List Entry) → IsSound g → Is
 
 -- a check takes no promise from the sure set
 abbrev pub ChecksTakeNoPromise : Type 0
-ChecksTakeNoPromise = (g : Group) (past : List Entry) (entry : Entry) (i : ℕ) → entry.event ≡ Check → IsSound g → IsLegal g past → IsNext g past entry → i < length g.promises → Keeps g (sure g past) (promise_of g i) → Keeps g (sure g (entry ∷ past)) (promise_of g i)
+ChecksTakeNoPromise = (g : Group) (past : List Entry) (entry : Entry) (i : ℕ) → entry.event ≡ Check → IsSound g → IsLegal g past → IsNext g past entry → i < demand_count g → HoldsIn g (sure g past) i → HoldsIn g (sure g (entry ∷ past)) i
 
 -- commands, reports and agents agree with the target, at each moment of a legal journal
 abbrev pub LegalAgentsAgree : Type 0
@@ -73,6 +75,19 @@ pub record MovesTarget (g : Group) (past : List Entry) (entry : Entry) : Type 0 
 
 abbrev pub TargetMoves : Type 0
 TargetMoves = (g : Group) (past : List Entry) (entry : Entry) → IsLegal g past → IsNext g past entry → MovesTarget g past entry
+
+-- what an entry overlays, the target is overlaid with, in any journal
+abbrev pub OverlaysMove : Type 0
+OverlaysMove = (g : Group) (past : List Entry) (entry : Entry) → target g (entry ∷ past) ≡ overlaid_by (overlay_in entry.event entry.reply (first_rows (pending past))) (target g past)
+
+-- the overlays are the rows of the accepted proposals; so the target is their merge, and the version their number
+pub record OverlaysAccepted (g : Group) (past : List Entry) : Type 0 where
+  pub list : overlays past ≡ accepted past
+  pub merge : target g past ≡ merge_of g (accepted past)
+  pub count : version past ≡ length (accepted past)
+
+abbrev pub OverlaysAreAccepted : Type 0
+OverlaysAreAccepted = (g : Group) (past : List Entry) → IsLegal g past → OverlaysAccepted g past
 
 -- no more proposals wait than may
 abbrev pub FewWait : Type 0
@@ -133,9 +148,13 @@ JournalsAreApart = (groups : ℕ → Group) (events : List GroupEvent) (journals
 abbrev pub MoreEntitiesKeepPromises : Type 0
 MoreEntitiesKeepPromises = (g : Group) (up more : Entity → Bool) (p : Promise) → IsWithin up more → Keeps g up p → Keeps g more p
 
--- of a sound group, the test says that the promise holds
-abbrev pub TestsTellPromises : Type 0
-TestsTellPromises = (g : Group) (up : Entity → Bool) (i : ℕ) → IsSound g → i < length g.promises → (is_kept g up (promise_of g i) ≡ true) ↔ Keeps g up (promise_of g i)
+-- a demand that holds goes on to hold with more entities up
+abbrev pub MoreEntitiesKeepDemands : Type 0
+MoreEntitiesKeepDemands = (g : Group) (up more : Entity → Bool) (i : ℕ) → IsWithin up more → HoldsIn g up i → HoldsIn g more i
+
+-- of a sound group, the test says that the demand holds
+abbrev pub TestsTellDemands : Type 0
+TestsTellDemands = (g : Group) (up : Entity → Bool) (i : ℕ) → IsSound g → i < demand_count g → (is_held_in g up i ≡ true) ↔ HoldsIn g up i
 
 -- a cut of the least value that each cut of that value contains, of a group with n devices
 pub record IsLeastSide (n : ℕ) (links : List LinkOpening) (up : Entity → Bool) (a b : ℕ) (side : ℕ → Bool) : Type 0 where

@@ -1,5 +1,7 @@
+pub mod Receipts
 pub mod Events
 pub mod Proposals
+pub mod Overlaid
 pub mod Locks
 pub mod Moments
 pub mod Observed

@@ -4,7 +4,7 @@ use Rattle.st_net.specs.declared.entity.AppId.{AppId}
 use Rattle.st_net.specs.declared.entity.Entity.{Entity}
 use Rattle.st_net.specs.declared.entity.Prio.{Prio}
 use Rattle.st_event.specs.declared.event.Event.{Event}
-use Rattle.st_event.specs.declared.event.Event.TheVariants.{Lock, Unlock}
+use Rattle.st_event.specs.declared.event.Event.TheVariants.{Submit, Check, Lock, Unlock, Send, Deliver, Finish, Report, Hear, Fail}
 use Rattle.st_event.specs.declared.reply.Reply.{Reply}
 use Rattle.st_event.specs.declared.reply.Reply.TheVariants.{Granted, Released}
 use Rattle.st_event.specs.declared.journal.Entry.{Entry}
@@ -22,7 +22,14 @@ is_released _ = false
 abbrev pub holder_after : Event → Reply → (Entity → Prio → Option AppId) → Entity → Prio → Option AppId
 holder_after (Lock app at prio) reply before = if is_granted reply then holder_set before at prio (Some app) else before
 holder_after (Unlock app at prio) reply before = if is_released reply then holder_freed before at prio app else before
-holder_after _ reply before = before
+holder_after (Submit app rows) reply before = before
+holder_after Check reply before = before
+holder_after (Send at) reply before = before
+holder_after (Deliver n) reply before = before
+holder_after (Finish at) reply before = before
+holder_after (Report at) reply before = before
+holder_after (Hear n) reply before = before
+holder_after (Fail at vals health) reply before = before
 
 -- the application of the last grant of a lock that its own release does not follow
 abbrev pub holder : List Entry → Entity → Prio → Option AppId

@@ -1,5 +1,5 @@
 -- How a group stands: all that a reply is given from. One part is what the checker keeps, the other is the network.
-use Rattle.std.specs.Prelude.{ℕ, ◌+◌, nat_lt, Bool, List, [], ◌∷◌, ◌++◌, length, Option, if◌then◌else◌}
+use Rattle.std.specs.Prelude.{ℕ, ◌+◌, nat_lt, Bool, List, [], ◌∷◌, ◌++◌, length, Option, Some, None, if◌then◌else◌}
 use Rattle.st_net.specs.declared.entity.AppId.{AppId}
 use Rattle.st_net.specs.declared.entity.Row.{Row}
 use Rattle.st_net.specs.declared.entity.Var.{Var}
@@ -28,6 +28,7 @@ use Rattle.st_event.specs.Observed.{observed}
 use Rattle.st_event.specs.Judge.{judge, lack_at}
 use Rattle.st_event.specs.Replies.{lock_reply, unlock_reply, governing, blocked_or_sent, row_to, deliver_reply, hear_reply}
 use Rattle.st_event.specs.Agents.{agent_of, agent_after}
+use Rattle.st_event.specs.Receipts.{receipt_given}
 
 -- what the checker keeps: how many tickets were given, the entries that decided tickets 1, 2, 3 and so on, and the rest by its name
 pub record Standing : Type 0 where
@@ -117,9 +118,10 @@ decide_one g s n (p ∷ ps) verdict = record s {
   stamp = if is_accepted verdict then stamp_altered g s.target p.rows n s.stamp else s.stamp;
 }
 
-abbrev pub decide_by : Group → Standing → ℕ → Reply → Standing
-decide_by g s n (Decided receipt) = decide_one g s n s.pending receipt.verdict
-decide_by g s n _ = s
+-- where a receipt is given, the oldest proposal is decided by its verdict
+abbrev pub decide_by : Group → Standing → ℕ → Option Receipt → Standing
+decide_by g s n None = s
+decide_by g s n (Some receipt) = decide_one g s n s.pending receipt.verdict
 
 -- a report is kept, where it is newer
 abbrev pub hear_one : Group → Standing → ℕ → Option Report → Reply → Standing
@@ -131,11 +133,15 @@ hear_one g s n heard reply = record s {
 -- how the checker stands after entry n
 abbrev pub standing_after : Group → Standing → Wires → ℕ → Event → Reply → Standing
 standing_after g s w n (Submit app rows) reply = if is_queued reply then queue_one s (record { app = app; rows = rows }) else s
-standing_after g s w n Check reply = decide_by g s n reply
+standing_after g s w n Check reply = decide_by g s n (receipt_given reply)
 standing_after g s w n (Lock app at prio) reply = record s { holder = holder_after (Lock app at prio) reply s.holder }
 standing_after g s w n (Unlock app at prio) reply = record s { holder = holder_after (Unlock app at prio) reply s.holder }
 standing_after g s w n (Hear k) reply = hear_one g s n (nth w.reports k) reply
-standing_after g s w n _ reply = s
+standing_after g s w n (Send at) reply = s
+standing_after g s w n (Deliver k) reply = s
+standing_after g s w n (Finish at) reply = s
+standing_after g s w n (make_report at) reply = s
+standing_after g s w n (Fail at vals health) reply = s
 
 abbrev pub command_in : Group → Standing → Entity → Command
 command_in g s e = record { entity = e; stamp = s.stamp e; vals = vals_in g s.target e }

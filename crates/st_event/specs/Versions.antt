@@ -1,4 +1,4 @@
--- A group's target at each of its versions: version 0 is the opening, and each accepted proposal makes the next one.
+-- A group's target at each of its versions: version 0 is the opening, and each overlay makes the next one.
 use Rattle.std.specs.Prelude.{ℕ, nat_le, List, take, if◌then◌else◌}
 use Rattle.st_net.specs.declared.entity.Entity.{Entity}
 use Rattle.st_net.specs.declared.entity.Row.{Row}
@@ -8,12 +8,12 @@ use Rattle.st_net.specs.Merge.{merge_of, target_with}
 use Rattle.st_event.specs.declared.event.Event.{Event}
 use Rattle.st_event.specs.declared.journal.Entry.{Entry}
 use Rattle.st_event.specs.declared.reply.Reply.{Reply}
-use Rattle.st_event.specs.Proposals.{accepted, first_rows, is_acceptance}
+use Rattle.st_event.specs.Proposals.{overlays, first_rows, is_acceptance}
 use Rattle.st_event.specs.Standing.{Standing}
 
--- the values at a version, which are those of its first so many accepted proposals; beyond the last version, of all of them
+-- the values at a version, which are those of its first so many overlays; beyond the last version, of all of them
 abbrev pub value_at : Group → List Entry → ℕ → Entity → Var → ℕ
-value_at g past v = merge_of g (take v (accepted past))
+value_at g past v = merge_of g (take v (overlays past))
 
 -- the values at each version, with these rows merged into the target as the next one
 abbrev pub versions_with : (ℕ → Entity → Var → ℕ) → Standing → List Row → ℕ → Entity → Var → ℕ

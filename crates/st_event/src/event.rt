@@ -68,7 +68,7 @@ impl Event {
     /// An equal event. An event without rows takes no memory.
     pub fn copy(&self, alloc: Global) -> Result<Event, AllocError>
         ensures copy { IfOk result (λ copy. copy ≡ self.now) }
-        ensures sure { IsTrue (is_without_rows self.now) → IsOk result }
+        ensures without_memory { IsTrue (is_without_rows self.now) → IsOk result }
     {
         Ok(match self {
             Event::Submit { app, rows } => Event::Submit {

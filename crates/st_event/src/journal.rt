@@ -53,7 +53,7 @@ impl Entry {
     /// An equal entry.
     pub fn copy(&self, alloc: Global) -> Result<Entry, AllocError>
         ensures copy { IfOk result (λ copy. copy ≡ self.now) }
-        ensures sure { IsTrue (is_without_rows self.now.event && is_without_side self.now.reply) → IsOk result }
+        ensures without_memory { IsTrue (is_without_rows self.now.event && is_without_side self.now.reply) → IsOk result }
     {
         Ok(Entry {
             event: self.event.copy(alloc)?,

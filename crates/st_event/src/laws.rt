@@ -1,7 +1,7 @@
 //! Laws of the definitions over journals. Each function does nothing: its contract is the law, for the proofs of the
 //! crates that keep a journal or claim something of one.
 
-ghost use Rattle.st_event.specs.Laws.{AgentsMove, ChecksTakeNoPromise, FenceIsGreatest, FencesNeverFall, FewWait, HolderIsLastGrant, JournalsAreApart, LeastSideIsCut, LeastSideIsOne, LegalAgentsAgree, LegalJournalsKeepPromises, MoreEntitiesKeepPromises, NoSuchCommand, NoSuchReport, NoWalkIsNoCut, ObservedIsGreatest, ReportsAscend, StampsAreEntries, StampsNeverFall, StandingMoves, StandingReplies, TargetMoves, TargetOpens, TestsTellPromises, WiresMove};
+ghost use Rattle.st_event.specs.Laws.{AgentsMove, ChecksTakeNoPromise, FenceIsGreatest, FencesNeverFall, FewWait, HolderIsLastGrant, JournalsAreApart, LeastSideIsCut, LeastSideIsOne, LegalAgentsAgree, LegalJournalsKeepPromises, MoreEntitiesKeepDemands, MoreEntitiesKeepPromises, NoSuchCommand, NoSuchReport, NoWalkIsNoCut, ObservedIsGreatest, OverlaysAreAccepted, OverlaysMove, ReportsAscend, StampsAreEntries, StampsNeverFall, StandingMoves, StandingReplies, TargetMoves, TargetOpens, TestsTellDemands, WiresMove};
 
 /// Each legal journal of a sound group keeps the group's promises at every moment: a sure entity is up or failed
 /// untold; while nothing fails of itself, a promise that held at the start holds in the sure set, in the network, and
@@ -27,10 +27,13 @@ pub fn stamps_never_fall()
     ensures behind { StampsAreEntries }
 {}
 
-/// A target is its opening overlaid by the accepted rows, in order.
+/// A target is its opening overlaid by what each entry overlays it with, in order; in a legal journal these are the rows of
+/// the accepted proposals.
 pub fn target_is_merge()
     ensures opens { TargetOpens }
     ensures moves { TargetMoves }
+    ensures overlaid { OverlaysMove }
+    ensures accepted { OverlaysAreAccepted }
 {}
 
 /// In a legal journal at most 64 proposals wait.
@@ -72,10 +75,12 @@ pub fn journals_are_apart()
     ensures { JournalsAreApart }
 {}
 
-/// A promise that holds goes on to hold with more entities up; and the test that the judge makes says that it holds.
+/// A promise, and each demand, that holds goes on to hold with more entities up; and the test that the judge makes says that
+/// the demand holds.
 pub fn more_entities_keep_promises()
     ensures more { MoreEntitiesKeepPromises }
-    ensures test { TestsTellPromises }
+    ensures demands { MoreEntitiesKeepDemands }
+    ensures test { TestsTellDemands }
 {}
 
 /// Of two devices there is one cut of least value that all cuts of that value contain: it has the devices that each of

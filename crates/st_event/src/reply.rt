@@ -146,7 +146,7 @@ impl Reply {
     /// An equal reply. One that decides nothing takes no memory.
     pub fn copy(&self, alloc: Global) -> Result<Reply, AllocError>
         ensures copy { IfOk result (λ copy. copy ≡ self.now) }
-        ensures sure { IsTrue (is_without_side self.now) → IsOk result }
+        ensures without_memory { IsTrue (is_without_side self.now) → IsOk result }
     {
         Ok(match self {
             Reply::Queued { ticket } => Reply::Queued { ticket: *ticket },

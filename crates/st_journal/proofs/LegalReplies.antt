@@ -55,7 +55,7 @@ use Rattle.st_event.proofs.Accepting.{next_fits}
 use Rattle.st_event.proofs.Made.{IsMade, Makes, report_now, observed_own}
 use Rattle.st_event.proofs.Shown.{made_is_true}
 use Rattle.st_event.proofs.Stamps.{stamp_small, fence_small}
-use Rattle.st_event.proofs.Targets.{legal_orderly}
+use Rattle.st_event.proofs.Targets.{legal_orderly, overlays_are_accepted}
 use Rattle.st_entry.specs.Keywords.{reply_word}
 use Rattle.st_journal.specs.EntryWords.{replies_of, reply_among}
 use Rattle.st_journal.specs.ReadingBack.{IsByApp}
@@ -403,7 +403,7 @@ module _ (g : Group) (apps : List (List ℕ)) (past : List Entry) (sound : IsSou
         fits = record {
           ticket = omega (arith, few_verdicts g past legal);
           entry = refl;
-          verdict = verdict_by g apps _ (version past) (or_cause g apps (first_lack g (observed g past) (target_with (target g past) p.rows) p.rows) _ lacks later) (omega (arith, accepted_few (proposals past) (verdicts past), few_verdicts g past legal));
+          verdict = verdict_by g apps _ (version past) (or_cause g apps (first_lack g (observed g past) (target_with (target g past) p.rows) p.rows) _ lacks later) (omega (arith, ap length (overlays_are_accepted g past legal), accepted_few (proposals past) (verdicts past), few_verdicts g past legal));
         };
         taken = refl;
       }

@@ -29,7 +29,7 @@ fn is_replied(alloc: Global, world: &mut World, entry: &Entry) -> Result<bool, A
     requires fits { EventFits world.old.history.group entry.now }
     ensures same { IfOk result (λ same. IsTrue same ↔ (entry.now.reply ≡ reply world.old.history.group world.old.history.past entry.now.event)) }
     ensures entered { IfOk result (λ same. world.new.history ≡ with_entry world.old.history (entry_after world.old.history.group world.old.history.past entry.now.event)) }
-    ensures plan { world.new.lines ≡ world.old.lines }
+    ensures losses { world.new.lines ≡ world.old.lines }
 {
     match world.step(entry.event.copy(alloc)?)? {
         Stepped::Did(reply) => Ok(is_same_reply(&entry.reply, &reply)),

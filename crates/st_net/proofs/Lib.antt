@@ -11,3 +11,4 @@ pub mod NameSteps
 pub mod Sound
 pub mod SameLists
 pub mod GroupLaws
+pub mod DemandLaws

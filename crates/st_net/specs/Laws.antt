@@ -1,5 +1,5 @@
--- What is true of the promises, cuts and sides of every sound group.
-use Rattle.std.specs.Prelude.{◌≡◌, ◌≢◌, ◌↔◌, ℕ, ◌<◌, ◌≤◌, Bool, true, List, length}
+-- What is true of the promises, demands, cuts and sides of every sound group.
+use Rattle.std.specs.Prelude.{◌≡◌, ◌≢◌, ◌↔◌, ℕ, ◌<◌, ◌≤◌, Bool, true, List, length, None}
 use Rattle.st_net.specs.declared.entity.Entity.{Entity}
 use Rattle.st_net.specs.declared.topo.LinkOpening.{LinkOpening}
 use Rattle.st_net.specs.declared.promise.Promise.{Promise}
@@ -8,6 +8,7 @@ use Rattle.st_net.specs.Sets.{IsWithin}
 use Rattle.st_net.specs.UpGraph.{IsWalk}
 use Rattle.st_net.specs.Cuts.{IsCut, cut_value, least_cut, is_in_least_side}
 use Rattle.st_net.specs.Promises.{Keeps, is_kept}
+use Rattle.st_net.specs.Demands.{demand_count, HoldsIn, is_held_in, first_broken_of}
 
 -- a promise that holds goes on to hold with more entities up
 abbrev pub KeepsWithMore : Group → Type 0
@@ -16,6 +17,18 @@ KeepsWithMore g = (up more : Entity → Bool) (p : Promise) → IsWithin up more
 -- the test tells of each promise whether it holds
 abbrev pub TellsKept : Group → Type 0
 TellsKept g = (up : Entity → Bool) (i : ℕ) → i < length g.promises → (is_kept g up (promise_of g i) ≡ true) ↔ Keeps g up (promise_of g i)
+
+-- a demand that holds goes on to hold with more entities up
+abbrev pub DemandsHoldWithMore : Group → Type 0
+DemandsHoldWithMore g = (up more : Entity → Bool) (i : ℕ) → IsWithin up more → HoldsIn g up i → HoldsIn g more i
+
+-- the test tells of each demand whether it holds
+abbrev pub TellsDemands : Group → Type 0
+TellsDemands g = (up : Entity → Bool) (i : ℕ) → i < demand_count g → (is_held_in g up i ≡ true) ↔ HoldsIn g up i
+
+-- where no demand is broken first, each that held with the first set up holds with the second
+abbrev pub BreaksNone : Group → Type 0
+BreaksNone g = (before after : Entity → Bool) (i : ℕ) → first_broken_of g before after ≡ None → i < demand_count g → is_held_in g before i ≡ true → is_held_in g after i ≡ true
 
 -- some cut has the value, and none has less
 pub record IsLeastValue (links : List LinkOpening) (up : Entity → Bool) (a b value : ℕ) : Type 0 where

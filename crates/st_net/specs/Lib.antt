@@ -3,12 +3,14 @@ pub mod Numbered
 pub mod Entities
 pub mod Levels
 pub mod Groups
+pub mod TopoFields
 pub mod Ranges
 pub mod Sets
 pub mod Merge
 pub mod UpGraph
 pub mod Cuts
 pub mod Promises
+pub mod Demands
 pub mod Faults
 pub mod Pairs
 pub mod Building

@@ -11,7 +11,7 @@ use crate::name::Name;
 use crate::names::Names;
 use crate::parts::{Built, DevicePart, LinkPart, Parts, PromisePart, TopoFault};
 use crate::promise::Promise;
-use crate::topo::{DeviceOpening, GroupTopo, LinkOpening};
+use crate::topo::{DeviceOpening, Fields, GroupTopo, LinkOpening};
 use std::alloc::{AllocError, Global};
 
 /// Names with their index, or the place of the first that stands twice.
@@ -143,7 +143,14 @@ fn topo_of(
     let devices = device_openings(alloc, parts.devices.as_slice())?;
     let links = link_openings(alloc, &device_names, parts.links.as_slice())?;
     let promises = promises(alloc, &device_names, parts.promises.as_slice())?;
-    Ok(GroupTopo::from_parts(name, device_names, link_names, devices, links, promises))
+    Ok(GroupTopo::from_fields(Fields {
+        name,
+        device_names,
+        link_names,
+        devices,
+        links,
+        promises,
+    }))
 }
 
 impl GroupTopo {

@@ -1,7 +1,7 @@
 //! Laws of every topology: what its soundness gives for promises, cuts and sides. The bodies do nothing; callers read the
 //! clauses.
 
-ghost use Rattle.st_net.specs.Laws.{KeepsWithMore, TellsKept, HasLeastCuts, WalksWhereCut, TellsLeastSide, HasOneLeastSide};
+ghost use Rattle.st_net.specs.Laws.{KeepsWithMore, TellsKept, DemandsHoldWithMore, TellsDemands, BreaksNone, HasLeastCuts, WalksWhereCut, TellsLeastSide, HasOneLeastSide};
 
 use crate::topo::GroupTopo;
 
@@ -16,6 +16,16 @@ impl GroupTopo {
     /// A promise holds exactly where the least cut of its pair is at least 1 and at least what the promise needs.
     pub fn held_means_kept(&self)
         ensures { TellsKept self.now }
+    {
+        self.is_sound()
+    }
+
+    /// A demand that holds with some entities up holds with more of them up, and the test tells whether it does; where none is
+    /// broken first, each that held goes on to hold.
+    pub fn demands_are_judged(&self)
+        ensures more { DemandsHoldWithMore self.now }
+        ensures tells { TellsDemands self.now }
+        ensures none_breaks { BreaksNone self.now }
     {
         self.is_sound()
     }

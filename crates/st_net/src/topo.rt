@@ -3,6 +3,7 @@
 
 ghost use Rattle.std.specs.Prelude.{◌≡◌, ℕ, ◌<◌, ◌^◌, length, slice_index_or, slice_get, Some, IfOk, IfSome, IfNone};
 ghost use Rattle.st_net.specs.InOrder.{place_in, entity_count, entities_of};
+ghost use Rattle.st_net.specs.TopoFields.{group_in};
 ghost use Rattle.st_net.specs.Groups.{Group, IsEntityOf, find_in, name_of as name_of_lem, no_device, no_link, no_promise, opening_of, health_of, IsSound};
 
 mod same;
@@ -60,76 +61,69 @@ pub struct LinkOpening {
     pub health: u32,
 }
 
+/// What a topology has: its name, the names of its devices and of its links, and these with its promises, each in order.
+#[derive(Drop)]
+pub(crate) struct Fields {
+    pub(crate) name: Name,
+    pub(crate) device_names: Names,
+    pub(crate) link_names: Names,
+    pub(crate) devices: Vec<DeviceOpening>,
+    pub(crate) links: Vec<LinkOpening>,
+    pub(crate) promises: Vec<Promise>,
+}
+
 /// The topology of one group, which is sound: names differ, ends and pairs are of the group, and every limit is kept.
 #[derive(Drop)]
 pub struct GroupTopo {
-    name: Name,
-    device_names: Names,
-    link_names: Names,
-    devices: Vec<DeviceOpening>,
-    links: Vec<LinkOpening>,
-    promises: Vec<Promise>,
+    fields: Fields,
 }
 
 impl Model for GroupTopo {
     ghost use Rattle.st_net.specs.Groups.{Group, IsSound};
+    ghost use Rattle.st_net.specs.TopoFields.{group_in};
 
     ghost Value = { Group };
 
-    ghost view = { λ t. record { name = t.name; device_names = t.device_names; link_names = t.link_names; devices = t.devices.items; links = t.links.items; promises = t.promises.items } };
+    ghost view = { λ t. group_in t.fields };
 
-    ghost invariant = { λ t. IsSound (record { name = t.name; device_names = t.device_names; link_names = t.link_names; devices = t.devices.items; links = t.links.items; promises = t.promises.items }) };
+    ghost invariant = { λ t. IsSound (group_in t.fields) };
 }
 
 impl GroupTopo {
     /// A group of these parts, which are sound together.
-    pub(crate) fn from_parts(
-        name: Name,
-        device_names: Names,
-        link_names: Names,
-        devices: Vec<DeviceOpening>,
-        links: Vec<LinkOpening>,
-        promises: Vec<Promise>,
-    ) -> GroupTopo
-        requires { IsSound (record { name = name; device_names = device_names; link_names = link_names; devices = devices.items; links = links.items; promises = promises.items }) }
-        ensures { result ≡ record { name = name; device_names = device_names; link_names = link_names; devices = devices.items; links = links.items; promises = promises.items } }
+    pub(crate) fn from_fields(fields: Fields) -> GroupTopo
+        requires { IsSound (group_in fields) }
+        ensures { result ≡ group_in fields }
     {
-        GroupTopo {
-            name,
-            device_names,
-            link_names,
-            devices,
-            links,
-            promises,
-        }
+        GroupTopo { fields }
     }
 
     /// The group's name.
     pub fn name(&self) -> &Name
         ensures { result.now ≡ self.now.name }
     {
-        &self.name
+        &self.fields.name
     }
 
     /// How many devices there are, at most 512.
     pub fn device_count(&self) -> u32
         ensures { result ≡ length self.now.devices }
     {
-        self.devices.len() as u32
+        self.fields.devices.len() as u32
     }
 
     /// How many links there are, at most 4,096.
     pub fn link_count(&self) -> u32
         ensures { result ≡ length self.now.links }
     {
-        self.links.len() as u32
+        self.fields.links.len() as u32
     }
 
     /// How many promises there are, at most 2,016.
     pub fn promise_count(&self) -> u32
         ensures { result ≡ length self.now.promises }
     {
-        self.promises.len() as u32
+        self.fields.promises.len() as u32
     }
 
     /// The two devices that a link joins, as it was declared.
@@ -138,7 +132,7 @@ impl GroupTopo {
         ensures a { result.0 ≡ (slice_index_or self.now.links link no_link).a }
         ensures b { result.1 ≡ (slice_index_or self.now.links link no_link).b }
     {
-        let link = &self.links[link as usize];
+        let link = &self.fields.links[link as usize];
         (link.a, link.b)
     }
 
@@ -147,7 +141,7 @@ impl GroupTopo {
         requires { link < length self.now.links }
         ensures { result ≡ (slice_index_or self.now.links link no_link).capacity }
     {
-        self.links[link as usize].capacity
+        self.fields.links[link as usize].capacity
     }
 
     /// Whether a device is a ToR.
@@ -155,7 +149,7 @@ impl GroupTopo {
         requires { device < length self.now.devices }
         ensures { result ≡ (slice_index_or self.now.devices device no_device).tor }
     {
-        self.devices[device as usize].tor
+        self.fields.devices[device as usize].tor
     }
 
     /// Promise number `i`, from 0 in the order of declaration.
@@ -163,7 +157,7 @@ impl GroupTopo {
         requires { i < length self.now.promises }
         ensures { result ≡ slice_index_or self.now.promises i no_promise }
     {
-        self.promises[i as usize]
+        self.fields.promises[i as usize]
     }
 
     /// The values that an entity opens with.
@@ -172,8 +166,8 @@ impl GroupTopo {
         ensures { result ≡ opening_of self.now e }
     {
         match e {
-            Entity::Device(i) => self.devices[i as usize].vals,
-            Entity::Link(i) => self.links[i as usize].vals,
+            Entity::Device(i) => self.fields.devices[i as usize].vals,
+            Entity::Link(i) => self.fields.links[i as usize].vals,
         }
     }
 
@@ -183,8 +177,8 @@ impl GroupTopo {
         ensures { result ≡ health_of self.now e }
     {
         match e {
-            Entity::Device(i) => self.devices[i as usize].health,
-            Entity::Link(i) => self.links[i as usize].health,
+            Entity::Device(i) => self.fields.devices[i as usize].health,
+            Entity::Link(i) => self.fields.links[i as usize].health,
         }
     }
 
@@ -195,7 +189,7 @@ impl GroupTopo {
         ensures place { result ≡ place_in self.now e }
         ensures within { result < entity_count self.now }
     {
-        e.place_behind(self.devices.len())
+        e.place_behind(self.fields.devices.len())
     }
 
     /// How many entities there are: devices and links.
@@ -225,9 +219,9 @@ impl GroupTopo {
         ensures found { result ≡ find_in self.now name.now }
         ensures within { IfSome result (IsEntityOf self.now) }
     {
-        match self.device_names.find(name.bytes()) {
+        match self.fields.device_names.find(name.bytes()) {
             Some(place) => Some(Entity::Device(place as u32)),
-            None => match self.link_names.find(name.bytes()) {
+            None => match self.fields.link_names.find(name.bytes()) {
                 Some(place) => Some(Entity::Link(place as u32)),
                 None => None,
             },
@@ -240,8 +234,8 @@ impl GroupTopo {
         ensures { result.now ≡ name_of_lem self.now e }
     {
         match e {
-            Entity::Device(i) => self.device_names.get(i as usize),
-            Entity::Link(i) => self.link_names.get(i as usize),
+            Entity::Device(i) => self.fields.device_names.get(i as usize),
+            Entity::Link(i) => self.fields.link_names.get(i as usize),
         }
     }
 
@@ -249,6 +243,6 @@ impl GroupTopo {
     pub fn is_sound(&self)
         ensures { IsSound self.now }
     {
-        let _devices = &self.devices;
+        let _devices = &self.fields.devices;
     }
 }

@@ -5,7 +5,8 @@ ghost use Rattle.std.specs.Prelude.{◌≡◌, ℕ, ◌<◌, length, map, true, 
 ghost use Rattle.st_net.specs.declared.entity.Entity.TheVariants.{Device};
 ghost use Rattle.st_net.specs.Groups.{promise_of};
 ghost use Rattle.st_net.specs.Sets.{is_in, MarksOf};
-ghost use Rattle.st_net.specs.Promises.{need_of as need_of_lem, is_kept, first_broken};
+ghost use Rattle.st_net.specs.Demands.{first_broken_of};
+ghost use Rattle.st_net.specs.Promises.{need_of as need_of_lem, is_kept};
 ghost use Rattle.st_promise.specs.UpNetwork.{up_network};
 ghost use Rattle.st_promise.specs.CutTree.{IsCutTree};
 ghost use Rattle.st_promise.specs.Book.{IsBookOf, AreKept, AreNeedsOf, HasNotFallen, HasRisen};
@@ -241,7 +242,7 @@ impl Book {
         requires book { IsBookOf topo.now self.old.of }
         requires before { MarksOf topo.now before.now }
         requires after { MarksOf topo.now after.now }
-        ensures broken { IfOk result (λ broken. broken ≡ first_broken topo.now (is_in before.now) (is_in after.now) 0 topo.now.promises) }
+        ensures broken { IfOk result (λ broken. broken ≡ first_broken_of topo.now (is_in before.now) (is_in after.now)) }
         ensures same { self.new.of ≡ self.old.of }
         ensures runs { HasNotFallen self.old self.new }
         ensures rises { IfOk result (λ broken. IfSome broken (λ _. HasRisen self.old self.new)) }
@@ -262,7 +263,7 @@ impl Book {
         requires known { AreKept topo.now (is_in after.now) known.now }
         requires before { MarksOf topo.now before.now }
         requires after { MarksOf topo.now after.now }
-        ensures broken { IfOk result (λ broken. broken ≡ first_broken topo.now (is_in before.now) (is_in after.now) 0 topo.now.promises) }
+        ensures broken { IfOk result (λ broken. broken ≡ first_broken_of topo.now (is_in before.now) (is_in after.now)) }
         ensures same { self.new.of ≡ self.old.of }
         ensures runs { HasNotFallen self.old self.new }
         ensures rises { IfOk result (λ broken. IfSome broken (λ _. HasRisen self.old self.new)) }

@@ -5,7 +5,8 @@ ghost use Rattle.std.specs.List.Sorted.{IsStrictlyIncreasing};
 ghost use Rattle.st_net.specs.declared.entity.Entity.{Entity};
 ghost use Rattle.st_net.specs.Groups.{promise_of};
 ghost use Rattle.st_net.specs.Sets.{is_in, MarksOf};
-ghost use Rattle.st_net.specs.Promises.{is_kept, broken_at, need_of, first_broken as first_broken_lem};
+ghost use Rattle.st_net.specs.Demands.{first_broken_of};
+ghost use Rattle.st_net.specs.Promises.{is_kept, broken_at, need_of};
 ghost use Rattle.st_flow.specs.Network.{Sends};
 ghost use Rattle.st_promise.specs.UpNetwork.{up_network, IsLeastCutOf};
 ghost use Rattle.st_promise.specs.Finding.{IfSent};
@@ -270,7 +271,7 @@ impl Book {
         requires marks { length fails.old ≡ length topo.now.promises }
         requires before { MarksOf topo.now before.now }
         requires after { MarksOf topo.now after.now }
-        ensures broken { IfOk result (λ broken. broken ≡ first_broken_lem topo.now (is_in before.now) (is_in after.now) 0 topo.now.promises) }
+        ensures broken { IfOk result (λ broken. broken ≡ first_broken_of topo.now (is_in before.now) (is_in after.now)) }
         ensures fails { AreFailing topo.now (is_in before.now) fails.new }
         ensures same { self.new.of ≡ self.old.of }
         ensures runs { HasNotFallen self.old self.new }

@@ -12,7 +12,7 @@ use Rattle.st_net.specs.Promises.{is_broken}
 use Rattle.st_event.specs.declared.act.Log.{Log}
 use Rattle.st_event.specs.declared.act.LogEntry.{LogEntry}
 use Rattle.st_event.specs.declared.event.Event.{Event}
-use Rattle.st_event.specs.declared.event.Event.TheVariants.{Lock, Unlock}
+use Rattle.st_event.specs.declared.event.Event.TheVariants.{Submit, Check, Lock, Unlock, Send, Deliver, Finish, Report as make_report, Hear, Fail}
 use Rattle.st_event.specs.declared.event.Proposal.{Proposal}
 use Rattle.st_event.specs.declared.journal.Entry.{Entry}
 use Rattle.st_event.specs.declared.reply.Verdict.{Verdict}
@@ -34,7 +34,14 @@ histories worlds = map (λ world. world.history) worlds
 abbrev pub is_lock_event : Event → Bool
 is_lock_event (Lock app e prio) = true
 is_lock_event (Unlock app e prio) = true
-is_lock_event _ = false
+is_lock_event (Submit app rows) = false
+is_lock_event Check = false
+is_lock_event (Send entity) = false
+is_lock_event (Deliver n) = false
+is_lock_event (Finish entity) = false
+is_lock_event (make_report entity) = false
+is_lock_event (Hear n) = false
+is_lock_event (Fail entity vals health) = false
 
 -- each such entry with its reply, of entries with the oldest first
 abbrev pub locks_among : Group → List (List ℕ) → List Entry → List Words

@@ -1,20 +1,24 @@
 -- What sums up a group after its journal, in four lines of numbers.
-use Rattle.std.specs.Prelude.{ℕ, Bool, false, not, List, [], ◌∷◌, ◌++◌, length, count_by, codes, decimal}
+use Rattle.std.specs.Prelude.{ℕ, Bool, false, not, List, [], ◌∷◌, ◌++◌, length, count_by, codes, decimal, Option, Some, None}
 use Rattle.st_text.specs.Words.{line}
 use Rattle.st_net.specs.Groups.{Group}
 use Rattle.st_event.specs.declared.journal.Entry.{Entry}
 use Rattle.st_event.specs.declared.reply.Reply.{Reply}
-use Rattle.st_event.specs.declared.reply.Reply.TheVariants.{Decided}
+use Rattle.st_event.specs.declared.reply.Receipt.{Receipt}
+use Rattle.st_event.specs.Receipts.{receipt_given}
 use Rattle.st_event.specs.Proposals.{is_accepted, is_accepting, version}
 use Rattle.st_event.specs.Moments.{commands, reports}
 use Rattle.st_event.specs.Observed.{actual}
 use Rattle.st_report.specs.Counts.{kept_count}
 use Rattle.st_report.specs.Lines.{unsettled_words}
 
--- whether a reply is a receipt that refuses
+-- whether a receipt is given and refuses
+abbrev pub refuses : Option Receipt → Bool
+refuses None = false
+refuses (Some receipt) = not (is_accepted receipt.verdict)
+
 abbrev pub is_refusing : Reply → Bool
-is_refusing (Decided receipt) = not (is_accepted receipt.verdict)
-is_refusing _ = false
+is_refusing reply = refuses (receipt_given reply)
 
 -- how many receipts accept, and how many refuse
 abbrev pub accepted_count : List Entry → ℕ

@@ -1,5 +1,5 @@
 -- What a journal has decided and accepted, each journal that goes on from it has first.
-use Rattle.std.proofs.Common.{◌≡◌, ℕ, suc, ◌+◌, ◌≤◌, Bool, true, false, List, [], ◌∷◌, ◌++◌, length, map, take, refl, ap, sym, subst, ◌∙◌, arith, length-append, take-append-drop}
+use Rattle.std.proofs.Common.{◌≡◌, ℕ, suc, ◌+◌, ◌≤◌, Bool, true, false, List, [], ◌∷◌, ◌++◌, length, map, take, Option, Some, None, refl, ap, sym, subst, ◌∙◌, arith, length-append, take-append-drop}
 use Rattle.std.specs.Prelude.{reverse, count_by, if◌then◌else◌, drop}
 use Rattle.std.specs.List.{filter}
 use Rattle.std.proofs.Math.Seq.{take-append_seam}
@@ -13,27 +13,22 @@ use Rattle.st_net.specs.declared.entity.Var.{Var}
 use Rattle.st_net.specs.Groups.{Group}
 use Rattle.st_net.specs.Merge.{merge_of}
 use Rattle.st_event.specs.declared.event.Event.{Event}
-use Rattle.st_event.specs.declared.event.Event.TheVariants.{Submit, Check}
+use Rattle.st_event.specs.declared.event.Event.TheVariants.{Check}
 use Rattle.st_event.specs.declared.event.Proposal.{Proposal}
 use Rattle.st_event.specs.declared.reply.Reply.{Reply}
-use Rattle.st_event.specs.declared.reply.Reply.TheVariants.{Queued, Decided}
+use Rattle.st_event.specs.declared.reply.Reply.TheVariants.{Decided}
 use Rattle.st_event.specs.declared.reply.Verdict.{Verdict}
 use Rattle.st_event.specs.declared.journal.Entry.{Entry}
 use Rattle.st_event.specs.Legal.{IsLegal}
-use Rattle.st_event.specs.Proposals.{accepted, accepted_among, deciders, is_accepted, proposals, proposals_after, verdicts, verdicts_after, version, with_verdict_of}
+use Rattle.st_event.specs.Proposals.{accepted_among, deciders, first_rows, is_accepted, overlay_in, overlays, pending, proposals, verdicts, verdicts_after, version, with_overlay, with_verdict_of}
 use Rattle.st_event.specs.Versions.{value_at}
 use Rattle.st_event.proofs.Standings.{length-deciders}
-use Rattle.st_event.proofs.Targets.{legal_orderly}
+use Rattle.st_event.proofs.Targets.{legal_orderly, overlays_are_accepted}
 use Rattle.st_board.proofs.Prefixes.{prefix_self, prefix_trans, prefix_length}
 use Rattle.st_run.specs.Logs.{accepted_up_to}
 use Rattle.st_service.specs.Made.{Made, past_in}
 
--- an entry more leaves the proposals and the verdicts, or has one more behind them
-
-proposals_one : (event : Event) (answer : Reply) (before : List Proposal) → IsPrefix before (proposals_after event answer before)
-proposals_one (Submit app rows) (Queued ticket) before = (record { app = app; rows = rows } ∷ [], refl)
-proposals_one (Submit app rows) _ before = prefix_self before
-proposals_one _ answer before = prefix_self before
+-- an entry more leaves the verdicts and the overlays, or has one more behind them
 
 verdict_given : (answer : Reply) (before : List Verdict) → IsPrefix before (with_verdict_of answer before)
 verdict_given (Decided receipt) before = (receipt.verdict ∷ [], refl)
@@ -43,40 +38,28 @@ verdicts_one : (event : Event) (answer : Reply) (before : List Verdict) → IsPr
 verdicts_one Check answer before = verdict_given answer before
 verdicts_one _ answer before = prefix_self before
 
-proposals_later : (more past : List Entry) → IsPrefix (proposals past) (proposals (more ++ past))
-proposals_later [] past = prefix_self (proposals past)
-proposals_later (e ∷ more) past = prefix_trans (proposals past) (proposals (more ++ past)) (proposals (e ∷ more ++ past)) (proposals_later more past) (proposals_one e.event e.reply (proposals (more ++ past)))
-
 verdicts_later : (more past : List Entry) → IsPrefix (verdicts past) (verdicts (more ++ past))
 verdicts_later [] past = prefix_self (verdicts past)
 verdicts_later (e ∷ more) past = prefix_trans (verdicts past) (verdicts (more ++ past)) (verdicts (e ∷ more ++ past)) (verdicts_later more past) (verdicts_one e.event e.reply (verdicts (more ++ past)))
 
-with_first : (b : Bool) (rows : List Row) (xs ys : List (List Row)) → IsPrefix xs ys → IsPrefix (if b then rows ∷ xs else xs) (if b then rows ∷ ys else ys)
-with_first true rows xs ys p = (p.0, ap (λ (l : List (List Row)). rows ∷ l) p.1)
-with_first false rows xs ys p = p
+overlaid_one : (o : Option (List Row)) (before : List (List Row)) → IsPrefix before (with_overlay o before)
+overlaid_one None before = prefix_self before
+overlaid_one (Some rows) before = (rows ∷ [], refl)
 
-among_more : (ps qs : List Proposal) (vs ws : List Verdict) → IsPrefix (accepted_among ps vs) (accepted_among (ps ++ qs) (vs ++ ws))
-among_more ps qs [] ws = (accepted_among (ps ++ qs) ws, refl)
-among_more [] qs (v ∷ vs) ws = (accepted_among qs (v ∷ vs ++ ws), refl)
-among_more (p ∷ ps) qs (v ∷ vs) ws = with_first (is_accepted v) p.rows (accepted_among ps vs) (accepted_among (ps ++ qs) (vs ++ ws)) (among_more ps qs vs ws)
-
-among_later : (ps qs : List Proposal) (vs ws : List Verdict) → IsPrefix ps qs → IsPrefix vs ws → IsPrefix (accepted_among ps vs) (accepted_among qs ws)
-among_later ps qs vs ws p q = subst (λ (l : List Proposal). IsPrefix (accepted_among ps vs) (accepted_among l ws)) p.1
-    (subst (λ (l : List Verdict). IsPrefix (accepted_among ps vs) (accepted_among (ps ++ p.0) l)) q.1 (among_more ps p.0 vs q.0))
-
--- what is accepted
-pub accepted_later : (more past : List Entry) → IsPrefix (accepted past) (accepted (more ++ past))
-accepted_later more past = among_later (proposals past) (proposals (more ++ past)) (verdicts past) (verdicts (more ++ past)) (proposals_later more past) (verdicts_later more past)
+-- what the target is overlaid with
+pub overlaid_later : (more past : List Entry) → IsPrefix (overlays past) (overlays (more ++ past))
+overlaid_later [] past = prefix_self (overlays past)
+overlaid_later (e ∷ more) past = prefix_trans (overlays past) (overlays (more ++ past)) (overlays (e ∷ more ++ past)) (overlaid_later more past) (overlaid_one (overlay_in e.event e.reply (first_rows (pending (more ++ past)))) (overlays (more ++ past)))
 
 -- a front that goes on has more entries in front of its journal
 pub past_later : (xs ys : List Made) (p : IsPrefix xs ys) → past_in ys ≡ past_in p.0 ++ past_in xs
 past_later xs ys p = ap past_in (sym p.1) ∙ (ap reverse (map-append (λ (m : Made). m.entry) xs p.0) ∙ reverse-append (map (λ (m : Made). m.entry) xs) (map (λ (m : Made). m.entry) p.0))
 
-pub front_accepts : (xs ys : List Made) → IsPrefix xs ys → IsPrefix (accepted (past_in xs)) (accepted (past_in ys))
-front_accepts xs ys p = subst (λ (past : List Entry). IsPrefix (accepted (past_in xs)) (accepted past)) (sym (past_later xs ys p)) (accepted_later (past_in p.0) (past_in xs))
+pub front_accepts : (xs ys : List Made) → IsPrefix xs ys → IsPrefix (overlays (past_in xs)) (overlays (past_in ys))
+front_accepts xs ys p = subst (λ (past : List Entry). IsPrefix (overlays (past_in xs)) (overlays past)) (sym (past_later xs ys p)) (overlaid_later (past_in p.0) (past_in xs))
 
 pub front_version : (xs ys : List Made) → IsPrefix xs ys → version (past_in xs) ≤ version (past_in ys)
-front_version xs ys p = prefix_length (accepted (past_in xs)) (accepted (past_in ys)) (front_accepts xs ys p)
+front_version xs ys p = prefix_length (overlays (past_in xs)) (overlays (past_in ys)) (front_accepts xs ys p)
 
 front_verdicts : (xs ys : List Made) → IsPrefix xs ys → IsPrefix (verdicts (past_in xs)) (verdicts (past_in ys))
 front_verdicts xs ys p = subst (λ (past : List Entry). IsPrefix (verdicts (past_in xs)) (verdicts past)) (sym (past_later xs ys p)) (verdicts_later (past_in p.0) (past_in xs))
@@ -89,13 +72,13 @@ take_whole xs ys p = ap (λ l. take (length xs) l) (sym p.1) ∙ take-append_sea
 pub take_within : {X : Type 0} (n : ℕ) (xs ys : List X) → IsPrefix xs ys → n ≤ length xs → take n ys ≡ take n xs
 take_within n xs ys p le = ap (λ l. take n l) (sym p.1) ∙ take-append-le n xs p.0 le
 
--- rows that begin what is accepted are the merge of the version of their number
-pub value_first : (g : Group) (past : List Entry) (rows : List (List Row)) (entity : Entity) (var : Var) → IsPrefix rows (accepted past) → merge_of g rows entity var ≡ value_at g past (length rows) entity var
-value_first g past rows entity var p = ap (λ (l : List (List Row)). merge_of g l entity var) (sym (take_whole rows (accepted past) p))
+-- rows that begin the overlays are the merge of the version of their number
+pub value_first : (g : Group) (past : List Entry) (rows : List (List Row)) (entity : Entity) (var : Var) → IsPrefix rows (overlays past) → merge_of g rows entity var ≡ value_at g past (length rows) entity var
+value_first g past rows entity var p = ap (λ (l : List (List Row)). merge_of g l entity var) (sym (take_whole rows (overlays past) p))
 
 -- the values at a version stay
 pub value_stays : (g : Group) (xs ys : List Made) (v : ℕ) (entity : Entity) (var : Var) → IsPrefix xs ys → v ≤ version (past_in xs) → value_at g (past_in xs) v entity var ≡ value_at g (past_in ys) v entity var
-value_stays g xs ys v entity var p le = ap (λ (l : List (List Row)). merge_of g l entity var) (sym (take_within v (accepted (past_in xs)) (accepted (past_in ys)) (front_accepts xs ys p) le))
+value_stays g xs ys v entity var p le = ap (λ (l : List (List Row)). merge_of g l entity var) (sym (take_within v (overlays (past_in xs)) (overlays (past_in ys)) (front_accepts xs ys p) le))
 
 -- acceptances up to a ticket
 
@@ -119,7 +102,7 @@ accepts_among [] (v ∷ vs) le = absurd (omega (arith, le))
 accepts_among (p ∷ ps) (v ∷ vs) le = filter_if (is_accepted v) v (filter is_accepted vs) ∙ count_if (is_accepted v) p.rows (accepted_among ps vs) (length (filter is_accepted vs)) (accepts_among ps vs (omega (arith, le)))
 
 accepts_all : (g : Group) (past : List Entry) → IsLegal g past → count_by is_accepted (verdicts past) ≡ version past
-accepts_all g past legal = sym (length-filter is_accepted (verdicts past)) ∙ accepts_among (proposals past) (verdicts past) (legal_orderly g past legal).few
+accepts_all g past legal = sym (length-filter is_accepted (verdicts past)) ∙ (accepts_among (proposals past) (verdicts past) (legal_orderly g past legal).few ∙ sym (ap length (overlays_are_accepted g past legal)))
 
 -- what is accepted up to a ticket that a beginning has decided is accepted there
 pub accepted_first : (g : Group) (xs ys : List Made) (ticket : ℕ) → IsLegal g (past_in xs) → IsPrefix xs ys → ticket ≤ length (deciders (past_in xs)) → accepted_up_to ticket (past_in ys) ≤ version (past_in xs)

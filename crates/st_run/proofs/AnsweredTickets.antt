@@ -15,7 +15,8 @@ use Rattle.st_event.specs.declared.reply.Reply.TheVariants.{Queued}
 use Rattle.st_event.specs.Legal.{IsLegal}
 use Rattle.st_service.specs.Asked.{asker, is_request}
 use Rattle.st_service.specs.Made.{Made, past_in}
-use Rattle.st_run.specs.Requests.{is_submit, ticket_given, ticket_in as given_in}
+use Rattle.st_event.specs.Receipts.{ticket_given}
+use Rattle.st_run.specs.Requests.{is_submit, ticket_in as given_in}
 use Rattle.st_service.specs.Tickets.{last_ticket, ticket_in}
 use Rattle.st_run.proofs.CommandEntries.{is_asking}
 use Rattle.st_run.proofs.DidLaws.{Each}

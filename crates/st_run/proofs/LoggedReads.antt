@@ -11,7 +11,7 @@ use Rattle.st_event.specs.declared.act.Act.TheVariants.{Propose, Await, Settle, 
 use Rattle.st_event.specs.declared.act.LogEntry.{LogEntry}
 use Rattle.st_event.specs.declared.act.LogSaw.{LogSaw}
 use Rattle.st_event.specs.declared.act.LogSaw.TheVariants.{Seen, At, NoVersion}
-use Rattle.st_event.specs.Proposals.{accepted, version}
+use Rattle.st_event.specs.Proposals.{overlays, version}
 use Rattle.st_event.specs.Versions.{value_at}
 use Rattle.st_wire.specs.declared.line.WireLine.{WireLine}
 use Rattle.st_world.specs.Acts.{group_number, seen_at}
@@ -214,7 +214,7 @@ knows_line (Read n entity var) g new line taught is = subst (KnowsIn new) (sym i
 knows_line (ReadAt n asked entity var) g new line taught is =
     let past = past_in (front_at new.fronts n) in
     subst (KnowsIn new) (sym is)
-    (knows_at (nat_le asked (version past)) asked (value_at g past asked entity var) (version past) (length (reader_at new.readers n).proposals) (prefix_length (accepted past) (reader_at new.readers n).proposals taught))
+    (knows_at (nat_le asked (version past)) asked (value_at g past asked entity var) (version past) (length (reader_at new.readers n).proposals) (prefix_length (overlays past) (reader_at new.readers n).proposals taught))
 knows_line (Propose n rows) g new line taught is = absurd is
 knows_line (Await n) g new line taught is = absurd is
 knows_line (Settle n rounds) g new line taught is = absurd is

@@ -13,7 +13,7 @@ use Rattle.st_event.specs.declared.act.LogEntry.{LogEntry}
 use Rattle.st_event.specs.declared.act.LogSaw.TheVariants.{At, NoVersion}
 use Rattle.st_event.specs.declared.journal.Entry.{Entry}
 use Rattle.st_event.specs.Legal.{IsLegal}
-use Rattle.st_event.specs.Proposals.{accepted, version}
+use Rattle.st_event.specs.Proposals.{overlays, version}
 use Rattle.st_event.specs.Versions.{value_at}
 use Rattle.st_wire.specs.declared.line.WireLine.{WireLine}
 use Rattle.st_world.specs.Acts.{group_number}
@@ -58,7 +58,7 @@ legal_within g xs ys p legal = legal_before g (past_in p.0) (past_in xs) (subst 
 knows_decided : (g : Group) (n : ℕ) (new : Holder) (front : List Made) (t : ℕ) → IsLegal g (past_in front) → IsPrefix (front_at new.fronts n) front → IsTaught new n → IsDecided t (past_in (front_at new.fronts n)) → KnowsOf n new (accepted_up_to t (past_in front))
 knows_decided g n new front t legal p taught decided =
     let count = accepted_first g (front_at new.fronts n) front t (legal_within g (front_at new.fronts n) front p legal) p decided in
-    let r = prefix_length (accepted (past_in (front_at new.fronts n))) (reader_at new.readers n).proposals taught in
+    let r = prefix_length (overlays (past_in (front_at new.fronts n))) (reader_at new.readers n).proposals taught in
     (count, omega (arith, count, r))
 
 knows_awaited : (groups : ℕ → Group) (lines : ℕ → List WireLine) (n : ℕ) (act : Act) (old new : Holder) (front : List Made) (t : ℕ) → IsLegal (groups n) (past_in front) → IsPrefix (front_at new.fronts n) front

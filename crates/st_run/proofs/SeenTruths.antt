@@ -14,7 +14,7 @@ use Rattle.st_event.specs.declared.act.LogEntry.{LogEntry}
 use Rattle.st_event.specs.declared.act.LogSaw.TheVariants.{Seen, At, NoVersion}
 use Rattle.st_event.specs.declared.journal.Entry.{Entry}
 use Rattle.st_event.specs.History.{History}
-use Rattle.st_event.specs.Proposals.{accepted, version}
+use Rattle.st_event.specs.Proposals.{overlays, version}
 use Rattle.st_event.specs.Versions.{value_at}
 use Rattle.st_wire.specs.declared.line.WireLine.{WireLine}
 use Rattle.st_world.specs.Acts.{group_number, seen_at}
@@ -35,8 +35,8 @@ abbrev pub journal_in : Group → List Made → History
 journal_in g front = record { group = g; past = past_in front }
 
 -- a read's version is one of the journal, with its value
-true_seen : (g : Group) (front : List Made) (rows : List (List _)) (entity : Entity) (var : Var) → IsPrefix rows (accepted (past_in front)) → IsTrueOf (journal_in g front) entity var (Seen (length rows) (merge_of g rows entity var))
-true_seen g front rows entity var p = (prefix_length rows (accepted (past_in front)) p, value_first g (past_in front) rows entity var p)
+true_seen : (g : Group) (front : List Made) (rows : List (List _)) (entity : Entity) (var : Var) → IsPrefix rows (overlays (past_in front)) → IsTrueOf (journal_in g front) entity var (Seen (length rows) (merge_of g rows entity var))
+true_seen g front rows entity var p = (prefix_length rows (overlays (past_in front)) p, value_first g (past_in front) rows entity var p)
 
 -- and so is one that was asked for, unless there was none yet
 true_at : (g : Group) (xs ys : List Made) (asked : ℕ) (entity : Entity) (var : Var) (b : Bool) → IsPrefix xs ys → nat_le asked (version (past_in xs)) ≡ b
@@ -50,7 +50,7 @@ true_at g xs ys asked entity var false p is =
     let high : version (past_in xs) < asked = grind (arith, nat_tests, is) in
     (high, more)
 
-true_line : (groups : ℕ → Group) (n : ℕ) (act : Act) (new : Holder) (line : LogEntry) (front : List Made) → IsPrefix (front_at new.fronts n) front → IsPrefix (reader_at new.readers n).proposals (accepted (past_in front))
+true_line : (groups : ℕ → Group) (n : ℕ) (act : Act) (new : Holder) (line : LogEntry) (front : List Made) → IsPrefix (front_at new.fronts n) front → IsPrefix (reader_at new.readers n).proposals (overlays (past_in front))
     → IsLineBy act (groups (group_number act)) new line → line.group ≡ n → IsTrueOf (journal_in (groups n) front) line.entity line.var line.saw
 true_line groups n (Read m entity var) new line front p q is =
     subst (λ (l : LogEntry). l.group ≡ n → IsTrueOf (journal_in (groups n) front) l.entity l.var l.saw) (sym is)
@@ -103,6 +103,6 @@ sees_truly groups lines rooms scripts passes n entries front a acts p run low wh
     let goes = did_goes groups lines n behind new p e in
     true_line groups n act new line front
     (prefix_trans (front_at new.fronts n) (front_at p.fronts n) front (goes_front n new p goes) stands.begins)
-    (prefix_trans (reader_at new.readers n).proposals (reader_at p.readers n).proposals (accepted (past_in front)) (goes.readers n) stands.reads) is) in
+    (prefix_trans (reader_at new.readers n).proposals (reader_at p.readers n).proposals (overlays (past_in front)) (goes.readers n) stands.reads) is) in
     let each : Each Q p.log = subst (Each Q) (reverse-reverse p.log) (each_turned Q (reverse p.log) (lines_read Q (reverse acts) (reverse p.log) reads)) in
     subst (λ (past : List Entry). SeesTruly n p.log (record { group = groups n; past = past })) whole.journal (each_all Q p.log each)

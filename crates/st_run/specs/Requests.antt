@@ -1,6 +1,6 @@
 -- What an application's script asks of a group by requests, and what the group's journal has of them. A journal stands here with its oldest entry
 -- first, and the commands of a script with the newest first: `act ∷ before` is a command behind those before it.
-use Rattle.std.specs.Prelude.{ℕ, zero, suc, ◌+◌, ◌==◌, Bool, true, false, List, [], ◌∷◌, length, map, Option, Some, None, if◌then◌else◌}
+use Rattle.std.specs.Prelude.{ℕ, zero, suc, ◌+◌, ◌==◌, Bool, true, false, List, [], ◌∷◌, length, map, Option, Some, None, is_some, if◌then◌else◌}
 use Rattle.std.specs.List.{filter, filter_map}
 use Rattle.st_net.specs.declared.entity.AppId.{AppId}
 use Rattle.st_net.specs.Numbered.{nth}
@@ -10,7 +10,7 @@ use Rattle.st_event.specs.declared.event.Event.{Event}
 use Rattle.st_event.specs.declared.event.Event.TheVariants.{Submit, Check, Lock as lock_event, Unlock as unlock_event, Send, Deliver, Finish, Report, Hear, Fail as fail_event}
 use Rattle.st_event.specs.declared.journal.Entry.{Entry}
 use Rattle.st_event.specs.declared.reply.Reply.{Reply}
-use Rattle.st_event.specs.declared.reply.Reply.TheVariants.{Queued, Decided}
+use Rattle.st_event.specs.Receipts.{ticket_given, receipt_given}
 use Rattle.st_world.specs.Acts.{group_number}
 
 -- the request that a command makes, if it makes one
@@ -65,11 +65,6 @@ is_submit (Report entity) = false
 is_submit (Hear n) = false
 is_submit (fail_event entity vals health) = false
 
--- the ticket that a reply gives
-abbrev pub ticket_given : Reply → Option ℕ
-ticket_given (Queued ticket) = Some ticket
-ticket_given _ = None
-
 -- the replies to an application's proposals in a journal
 abbrev pub answers_in : AppId → List Entry → List Reply
 answers_in app entries = map (λ e. e.reply) (filter (λ e. is_submit e.event) (filter (is_asked_by app) entries))
@@ -121,8 +116,7 @@ number_of kind (suc m) [] = 1
 number_of kind (suc m) (e ∷ es) = 1 + (if kind e then number_of kind m es else number_of kind (suc m) es)
 
 abbrev pub decides_one : Reply → Bool
-decides_one (Decided receipt) = true
-decides_one _ = false
+decides_one reply = is_some (receipt_given reply)
 
 -- the number of the entry that decides a ticket, and that of an application's m-th request
 abbrev pub decision_of : ℕ → List Entry → ℕ

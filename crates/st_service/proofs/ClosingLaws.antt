@@ -9,7 +9,7 @@ use Rattle.st_event.specs.declared.act.Log.{Log}
 use Rattle.st_event.specs.declared.act.LogEntry.{LogEntry}
 use Rattle.st_event.specs.declared.journal.Entry.{Entry}
 use Rattle.st_event.specs.Legal.{IsLegal}
-use Rattle.st_event.specs.Proposals.{accepted}
+use Rattle.st_event.specs.Proposals.{overlays}
 use Rattle.st_board.specs.Published.{Published}
 use Rattle.st_service.specs.Asked.{all_asked}
 use Rattle.st_service.specs.Closed.{IsWhole, Stands, entered, positions}
@@ -59,11 +59,11 @@ sum_by_map f h (x ∷ xs) = let r = sum_by_map f h xs in omega (arith, r, sum_by
 
 -- what a place has of its room stands in its pass
 pub place_stands : {X : Type 0} (log : X → List Made) (mine : X → List ℕ) (reader : X → Published) (number : ℕ) (lines : List LogEntry) (ps : List X) (x : X) (k : ℕ) (front : List Made)
-    → k < length ps → x ≡ get_or ps k x → IsPrefix (log x) front → IsMine number front (mine x) → IsPrefix (reader x).proposals (accepted (past_in front)) → Stands (holder log mine reader number ps lines) front k
+    → k < length ps → x ≡ get_or ps k x → IsPrefix (log x) front → IsMine number front (mine x) → IsPrefix (reader x).proposals (overlays (past_in front)) → Stands (holder log mine reader number ps lines) front k
 place_stands log mine reader number lines ps x k front lt at begins m reads = record {
   begins = subst (λ l. IsPrefix l front) (sym (item_was log ps k x [] lt at)) begins;
   mine = subst (λ l. IsMine number front l) (sym (item_was mine ps k x [] lt at)) m;
-  reads = subst (λ (l : Published). IsPrefix l.proposals (accepted (past_in front))) (sym (item_was reader ps k x no_reader lt at)) reads;
+  reads = subst (λ (l : Published). IsPrefix l.proposals (overlays (past_in front))) (sym (item_was reader ps k x no_reader lt at)) reads;
 }
 
 pub entered_is : {X : Type 0} (log : X → List Made) (mine : X → List ℕ) (reader : X → Published) (number : ℕ) (lines : List LogEntry) (ps : List X) → entered (holder log mine reader number ps lines) ≡ sum_by (λ x. length (mine x)) ps

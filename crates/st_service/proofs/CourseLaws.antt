@@ -16,11 +16,11 @@ use Rattle.st_event.specs.declared.journal.Entry.{Entry}
 use Rattle.st_event.specs.declared.journal.TheConstants.{MAX_ENTRIES, MAX_PENDING}
 use Rattle.st_event.specs.Events.{is_check}
 use Rattle.st_event.specs.Legal.{IsLegal}
-use Rattle.st_event.specs.Proposals.{is_accepting, accepted, pending, first_rows}
+use Rattle.st_event.specs.Proposals.{is_accepting, overlays, pending, first_rows}
 use Rattle.st_event.specs.Replies.{reply}
 use Rattle.st_event.specs.Services.{entry_after}
-use Rattle.st_event.proofs.Accepting.{accepts_none, accepted_first}
-use Rattle.st_event.proofs.Targets.{legal_orderly, accepted_same}
+use Rattle.st_event.proofs.Accepting.{accepts_none}
+use Rattle.st_event.proofs.Targets.{overlays_next, overlays_same}
 use Rattle.st_wire.specs.declared.line.WireKind.TheVariants.{Command as command_kind, Report as report_kind}
 use Rattle.st_wire.specs.declared.line.WireLine.{WireLine}
 use Rattle.st_wire.specs.Deliveries.{deliveries}
@@ -278,10 +278,10 @@ went_adds d number most past new w = record { more = w.more; all = w.all; own = 
 
 -- what is accepted then
 
-answered : (g : Group) (past : List Entry) (entry : Entry) → IsLegal g (entry ∷ past) → is_check entry.event ≡ false → accepted (entry ∷ past) ≡ accepted past
-answered g past entry legal other = accepted_same g past entry.event entry.reply (legal_orderly g past legal.1) legal.0.answer (accepts_none entry.event entry.reply other)
+answered : (g : Group) (past : List Entry) (entry : Entry) → IsLegal g (entry ∷ past) → is_check entry.event ≡ false → overlays (entry ∷ past) ≡ overlays past
+answered g past entry legal other = overlays_same past entry (accepts_none entry.event entry.reply other)
 
-accepts_nothing : (g : Group) (more past : List Entry) → all_quiet more ≡ true → IsLegal g (more ++ past) → accepted (more ++ past) ≡ accepted past
+accepts_nothing : (g : Group) (more past : List Entry) → all_quiet more ≡ true → IsLegal g (more ++ past) → overlays (more ++ past) ≡ overlays past
 accepts_nothing g [] past quiet legal = refl
 accepts_nothing g (e ∷ more) past quiet legal =
     let b = both (not (is_check e.event)) (all_quiet more) quiet in
@@ -289,23 +289,23 @@ accepts_nothing g (e ∷ more) past quiet legal =
 
 -- as much as before, or the rows of the first that waited too
 abbrev pub AcceptsFirst : List Entry → List Entry → Type 0
-AcceptsFirst past new = (accepted new ≡ accepted past) ⊎ (accepted new ≡ accepted past ++ first_rows (pending past) ∷ [])
+AcceptsFirst past new = (overlays new ≡ overlays past) ⊎ (overlays new ≡ overlays past ++ first_rows (pending past) ∷ [])
 
 check_accepts : (g : Group) (past : List Entry) (answer : Reply) (accepts : Bool) → IsLegal g past → answer ≡ reply g past Check → is_accepting answer ≡ accepts → AcceptsFirst past (record { event = Check; reply = answer } ∷ past)
-check_accepts g past answer true legal is accepts = inr (accepted_first g past answer is accepts)
-check_accepts g past answer false legal is accepts = inl (accepted_same g past Check answer (legal_orderly g past legal) is accepts)
+check_accepts g past answer true legal is accepts = inr (overlays_next past (record { event = Check; reply = answer }) accepts)
+check_accepts g past answer false legal is accepts = inl (overlays_same past (record { event = Check; reply = answer }) accepts)
 
 one_accepts : (g : Group) (past : List Entry) (event : Event) (answer : Reply) → IsLegal g past → answer ≡ reply g past event → AcceptsFirst past (record { event = event; reply = answer } ∷ past)
 one_accepts g past Check answer legal is = check_accepts g past answer (is_accepting answer) legal is refl
-one_accepts g past (Submit app rows) answer legal is = inl (accepted_same g past (Submit app rows) answer (legal_orderly g past legal) is refl)
-one_accepts g past (lock_event app e prio) answer legal is = inl (accepted_same g past (lock_event app e prio) answer (legal_orderly g past legal) is refl)
-one_accepts g past (unlock_event app e prio) answer legal is = inl (accepted_same g past (unlock_event app e prio) answer (legal_orderly g past legal) is refl)
-one_accepts g past (Send e) answer legal is = inl (accepted_same g past (Send e) answer (legal_orderly g past legal) is refl)
-one_accepts g past (Deliver n) answer legal is = inl (accepted_same g past (Deliver n) answer (legal_orderly g past legal) is refl)
-one_accepts g past (Finish e) answer legal is = inl (accepted_same g past (Finish e) answer (legal_orderly g past legal) is refl)
-one_accepts g past (make_report e) answer legal is = inl (accepted_same g past (make_report e) answer (legal_orderly g past legal) is refl)
-one_accepts g past (Hear n) answer legal is = inl (accepted_same g past (Hear n) answer (legal_orderly g past legal) is refl)
-one_accepts g past (fail_event e vals health) answer legal is = inl (accepted_same g past (fail_event e vals health) answer (legal_orderly g past legal) is refl)
+one_accepts g past (Submit app rows) answer legal is = inl (overlays_same past (record { event = Submit app rows; reply = answer }) refl)
+one_accepts g past (lock_event app e prio) answer legal is = inl (overlays_same past (record { event = lock_event app e prio; reply = answer }) refl)
+one_accepts g past (unlock_event app e prio) answer legal is = inl (overlays_same past (record { event = unlock_event app e prio; reply = answer }) refl)
+one_accepts g past (Send e) answer legal is = inl (overlays_same past (record { event = Send e; reply = answer }) refl)
+one_accepts g past (Deliver n) answer legal is = inl (overlays_same past (record { event = Deliver n; reply = answer }) refl)
+one_accepts g past (Finish e) answer legal is = inl (overlays_same past (record { event = Finish e; reply = answer }) refl)
+one_accepts g past (make_report e) answer legal is = inl (overlays_same past (record { event = make_report e; reply = answer }) refl)
+one_accepts g past (Hear n) answer legal is = inl (overlays_same past (record { event = Hear n; reply = answer }) refl)
+one_accepts g past (fail_event e vals health) answer legal is = inl (overlays_same past (record { event = fail_event e vals health; reply = answer }) refl)
 
 accepts_one : (g : Group) (more past : List Entry) → is_quiet true more ≡ true → IsLegal g (more ++ past) → AcceptsFirst past (more ++ past)
 accepts_one g [] past quiet legal = inl refl
@@ -313,21 +313,21 @@ accepts_one g (e ∷ []) past quiet legal = one_accepts g past e.event e.reply l
 accepts_one g (e ∷ f ∷ more) past quiet legal =
     let b = both (not (is_check e.event)) (is_quiet true (f ∷ more)) quiet in
     let same = answered g ((f ∷ more) ++ past) e legal (turned (is_check e.event) b.0) in ⊎_elim
-    (λ (t : accepted ((f ∷ more) ++ past) ≡ accepted past). inl (same ∙ t))
-    (λ (t : accepted ((f ∷ more) ++ past) ≡ accepted past ++ first_rows (pending past) ∷ []). inr (same ∙ t))
+    (λ (t : overlays ((f ∷ more) ++ past) ≡ overlays past). inl (same ∙ t))
+    (λ (t : overlays ((f ∷ more) ++ past) ≡ overlays past ++ first_rows (pending past) ∷ []). inr (same ∙ t))
     (accepts_one g (f ∷ more) past b.1 legal.1)
 
 -- where the version is the same, as much is accepted as before; else the rows of the first that waited too, by a work that may make a check
-pub same_version : (d : Bool) (g : Group) (number most : ℕ) (past new : List Entry) → Went d number most past new → IsLegal g new → length (accepted new) ≡ length (accepted past) → accepted new ≡ accepted past
-same_version false g number most past new w legal same = ap accepted w.all ∙ accepts_nothing g w.more past (quiet_all w.more w.quiet) (subst (IsLegal g) w.all legal)
+pub same_version : (d : Bool) (g : Group) (number most : ℕ) (past new : List Entry) → Went d number most past new → IsLegal g new → length (overlays new) ≡ length (overlays past) → overlays new ≡ overlays past
+same_version false g number most past new w legal same = ap overlays w.all ∙ accepts_nothing g w.more past (quiet_all w.more w.quiet) (subst (IsLegal g) w.all legal)
 same_version true g number most past new w legal same = ⊎_elim
-    (λ (t : accepted (w.more ++ past) ≡ accepted past). ap accepted w.all ∙ t)
-    (λ (t : accepted (w.more ++ past) ≡ accepted past ++ first_rows (pending past) ∷ []). absurd (omega (arith, same, ap (λ es. length (accepted es)) w.all, ap length t, length-append (accepted past) (first_rows (pending past) ∷ []))))
+    (λ (t : overlays (w.more ++ past) ≡ overlays past). ap overlays w.all ∙ t)
+    (λ (t : overlays (w.more ++ past) ≡ overlays past ++ first_rows (pending past) ∷ []). absurd (omega (arith, same, ap (λ es. length (overlays es)) w.all, ap length t, length-append (overlays past) (first_rows (pending past) ∷ []))))
     (accepts_one g w.more past w.quiet (subst (IsLegal g) w.all legal))
 
-pub next_version : (d : Bool) (g : Group) (number most : ℕ) (past new : List Entry) → Went d number most past new → IsLegal g new → length (accepted new) ≢ length (accepted past) → (d ≡ true) × (accepted new ≡ accepted past ++ first_rows (pending past) ∷ [])
-next_version false g number most past new w legal more = absurd (more (ap length (ap accepted w.all ∙ accepts_nothing g w.more past (quiet_all w.more w.quiet) (subst (IsLegal g) w.all legal))))
+pub next_version : (d : Bool) (g : Group) (number most : ℕ) (past new : List Entry) → Went d number most past new → IsLegal g new → length (overlays new) ≢ length (overlays past) → (d ≡ true) × (overlays new ≡ overlays past ++ first_rows (pending past) ∷ [])
+next_version false g number most past new w legal more = absurd (more (ap length (ap overlays w.all ∙ accepts_nothing g w.more past (quiet_all w.more w.quiet) (subst (IsLegal g) w.all legal))))
 next_version true g number most past new w legal more = ⊎_elim
-    (λ (t : accepted (w.more ++ past) ≡ accepted past). absurd (more (ap length (ap accepted w.all ∙ t))))
-    (λ (t : accepted (w.more ++ past) ≡ accepted past ++ first_rows (pending past) ∷ []). (refl, ap accepted w.all ∙ t))
+    (λ (t : overlays (w.more ++ past) ≡ overlays past). absurd (more (ap length (ap overlays w.all ∙ t))))
+    (λ (t : overlays (w.more ++ past) ≡ overlays past ++ first_rows (pending past) ∷ []). (refl, ap overlays w.all ∙ t))
     (accepts_one g w.more past w.quiet (subst (IsLegal g) w.all legal))

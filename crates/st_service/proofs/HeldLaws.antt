@@ -6,7 +6,7 @@ use Rattle.st_net.specs.declared.entity.Row.{Row}
 use Rattle.st_net.specs.Groups.{Group}
 use Rattle.st_event.specs.declared.journal.Entry.{Entry}
 use Rattle.st_event.specs.Legal.{IsLegal}
-use Rattle.st_event.specs.Proposals.{accepted}
+use Rattle.st_event.specs.Proposals.{overlays}
 use Rattle.st_service.specs.Lines.{numbers}
 use Rattle.st_service.specs.Made.{Made, past_in}
 use Rattle.st_service.specs.Puts.{Puts}
@@ -19,8 +19,8 @@ pub legal_taught : (g h : Group) (front : List Made) (past : List Entry) → pas
 legal_taught g h front past is same legal = subst (λ (xs : List Entry). IsLegal g xs) (sym is) (subst (λ (k : Group). IsLegal k past) same legal)
 
 -- a reader that has what a journal accepts has all that its front accepts
-pub reads_taught : {T E : Type 0} (r : Result T E) (front : List Made) (past : List Entry) (reader : List (List Row)) → past_in front ≡ past → OnOk r (IsPrefix (accepted past) reader) → IfOk r (λ _. IsPrefix (accepted (past_in front)) reader)
-reads_taught (Ok x) front past reader is begins = subst (λ (xs : List Entry). IsPrefix (accepted xs) reader) (sym is) begins
+pub reads_taught : {T E : Type 0} (r : Result T E) (front : List Made) (past : List Entry) (reader : List (List Row)) → past_in front ≡ past → OnOk r (IsPrefix (overlays past) reader) → IfOk r (λ _. IsPrefix (overlays (past_in front)) reader)
+reads_taught (Ok x) front past reader is begins = subst (λ (xs : List Entry). IsPrefix (overlays xs) reader) (sym is) begins
 reads_taught (Err error) front past reader is begins = tt
 
 -- the units that were handed over are those of the places that were added

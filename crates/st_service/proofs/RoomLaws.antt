@@ -1,5 +1,5 @@
 -- What a work makes of a room.
-use Rattle.std.proofs.Common.{◌≡◌, ℕ, suc, ◌≤◌, ◌<◌, ◌+◌, ◌^◌, Bool, true, false, List, [], ◌∷◌, ◌++◌, length, ap, sym, subst, ◌∙◌, arith, length-append}
+use Rattle.std.proofs.Common.{◌≡◌, ℕ, suc, ◌≤◌, ◌<◌, ◌+◌, ◌^◌, Bool, true, false, List, [], ◌∷◌, ◌++◌, length, Option, Some, None, ap, sym, subst, ◌∙◌, arith, length-append}
 use Rattle.std.specs.Prelude.{All, Result, Ok, Err, IfOk, OnErr, if◌then◌else◌}
 use mathlib.Core.List.{IsPrefix}
 use Rattle.st_net.specs.declared.entity.Row.{Row}
@@ -9,13 +9,7 @@ use Rattle.st_event.specs.History.{History}
 use Rattle.st_net.specs.Ranges.{RowFits}
 use Rattle.st_event.specs.declared.journal.TheConstants.{MAX_ENTRIES}
 use Rattle.st_event.specs.Legal.{IsLegal}
-use Rattle.st_event.specs.declared.event.Event.{Event}
-use Rattle.st_event.specs.declared.event.Event.TheVariants.{Check}
-use Rattle.st_event.specs.declared.event.Proposal.{Proposal}
-use Rattle.st_event.specs.declared.reply.Reply.{Reply}
-use Rattle.st_event.specs.declared.reply.Reply.TheVariants.{Decided}
-use Rattle.st_event.specs.declared.reply.Verdict.{Verdict}
-use Rattle.st_event.specs.Proposals.{accepted, accepted_among, is_accepted, pending, first_rows, proposals, verdicts, verdicts_after, with_verdict_of}
+use Rattle.st_event.specs.Proposals.{overlays, overlay_in, with_overlay, pending, first_rows}
 use Rattle.st_event.proofs.Accepting.{legal_within, next_fits}
 use Rattle.st_world.specs.World.{WorldView, IsBeginning}
 use Rattle.st_world.specs.Rounds.{Run, is_full, IsPartOf}
@@ -67,7 +61,7 @@ adds_from r number work old new b spent room view ok err fits = subst (λ (v : R
     (went_adds (decides work) number (work_share work old.history.group old.lines) old.history.past new.history.past (went_from r number work old new b spent room view ok err fits))
 
 -- where as much was accepted as before, a room stands
-pub room_stands : (old new : History) (b : Published) (spent : Bool) → new.group ≡ old.group → accepted new.past ≡ accepted old.past → IsRoom old b spent → IsRoom new b spent
+pub room_stands : (old new : History) (b : Published) (spent : Bool) → new.group ≡ old.group → overlays new.past ≡ overlays old.past → IsRoom old b spent → IsRoom new b spent
 room_stands old new b spent group same r = record {
   group = r.group ∙ sym group;
   going = r.going;
@@ -76,10 +70,10 @@ room_stands old new b spent group same r = record {
 }
 
 -- what is accepted more was published
-pub room_publishes : (old new : History) (b c : Published) (spent : Bool) (rows : List Row) → new.group ≡ old.group → accepted new.past ≡ accepted old.past ++ first_rows (pending old.past) ∷ []
+pub room_publishes : (old new : History) (b c : Published) (spent : Bool) (rows : List Row) → new.group ≡ old.group → overlays new.past ≡ overlays old.past ++ first_rows (pending old.past) ∷ []
     → rows ≡ first_rows (pending old.past) → c ≡ record b { proposals = b.proposals ++ rows ∷ [] } → spent ≡ false → IsRoom old b spent → IsRoom new c spent
 room_publishes old new b c spent rows group more are is open_still r =
-    let same : c.proposals ≡ accepted new.past = ap (λ (p : Published). p.proposals) is ∙ (ap (λ ps. ps ++ rows ∷ []) (r.whole open_still) ∙ (ap (λ rs. accepted old.past ++ rs ∷ []) are ∙ sym more)) in
+    let same : c.proposals ≡ overlays new.past = ap (λ (p : Published). p.proposals) is ∙ (ap (λ ps. ps ++ rows ∷ []) (r.whole open_still) ∙ (ap (λ rs. overlays old.past ++ rs ∷ []) are ∙ sym more)) in
     record {
       group = ap (λ (p : Published). p.group) is ∙ (r.group ∙ sym group);
       going = ap (λ (p : Published). p.ended) is ∙ r.going;
@@ -88,17 +82,17 @@ room_publishes old new b c spent rows group more are is open_still r =
     }
 
 -- or its publication was refused
-pub room_spends : (old new : History) (b c : Published) (spent : Bool) → new.group ≡ old.group → accepted new.past ≡ accepted old.past ++ first_rows (pending old.past) ∷ [] → c ≡ b → IsRoom old b spent → IsRoom new c true
+pub room_spends : (old new : History) (b c : Published) (spent : Bool) → new.group ≡ old.group → overlays new.past ≡ overlays old.past ++ first_rows (pending old.past) ∷ [] → c ≡ b → IsRoom old b spent → IsRoom new c true
 room_spends old new b c spent group more is r = rw is (record {
   group = r.group ∙ sym group;
   going = r.going;
-  begun = prefix_trans b.proposals (accepted old.past) (accepted new.past) r.begun (first_rows (pending old.past) ∷ [], sym more);
+  begun = prefix_trans b.proposals (overlays old.past) (overlays new.past) r.begun (first_rows (pending old.past) ∷ [], sym more);
   whole = λ e. absurd cc;
 })
 
 -- then more is accepted than it had
-pub refused_more : (old new : History) (b : Published) (spent : Bool) → accepted new.past ≡ accepted old.past ++ first_rows (pending old.past) ∷ [] → spent ≡ false → IsRoom old b spent → length b.proposals < length (accepted new.past)
-refused_more old new b spent more open_still r = omega (arith, ap length (r.whole open_still), ap length more, length-append (accepted old.past) (first_rows (pending old.past) ∷ []))
+pub refused_more : (old new : History) (b : Published) (spent : Bool) → overlays new.past ≡ overlays old.past ++ first_rows (pending old.past) ∷ [] → spent ≡ false → IsRoom old b spent → length b.proposals < length (overlays new.past)
+refused_more old new b spent more open_still r = omega (arith, ap length (r.whole open_still), ap length more, length-append (overlays old.past) (first_rows (pending old.past) ∷ []))
 
 -- a run that met a full journal left it full
 pub work_full : {E : Type 0} (r : Result Going E) (number : ℕ) (work : Work) (old new : WorldView)
@@ -130,35 +124,19 @@ commit_part (Err e) number work judged old new is err =
     } in
     subst (λ (w : Work). IsPartOf old new (course_in number w old)) (sym is) part
 
--- no more is accepted than there are entries
+-- there are no more overlays than entries
 
-if_few : (b : Bool) (rows : List Row) (xs : List (List Row)) (n : ℕ) → length xs ≤ n → length (if b then rows ∷ xs else xs) ≤ suc n
-if_few true rows xs n le = omega (arith, le)
-if_few false rows xs n le = omega (arith, le)
+overlaid_few : (o : Option (List Row)) (before : List (List Row)) (n : ℕ) → length before ≤ n → length (with_overlay o before) ≤ suc n
+overlaid_few None before n le = omega (arith, le)
+overlaid_few (Some rows) before n le = omega (arith, le, length-append before (rows ∷ []))
 
-few_among : (ps : List Proposal) (vs : List Verdict) → length (accepted_among ps vs) ≤ length vs
-few_among ps [] = omega arith
-few_among [] (v ∷ vs) = omega arith
-few_among (p ∷ ps) (v ∷ vs) = if_few (is_accepted v) p.rows (accepted_among ps vs) (length vs) (few_among ps vs)
-
-decided_few : (answer : Reply) (before : List Verdict) (n : ℕ) → length before ≤ n → length (with_verdict_of answer before) ≤ suc n
-decided_few (Decided receipt) before n le = omega (arith, le, length-append before (receipt.verdict ∷ []))
-decided_few _ before n le = omega (arith, le)
-
-verdict_few : (event : Event) (answer : Reply) (before : List Verdict) (n : ℕ) → length before ≤ n → length (verdicts_after event answer before) ≤ suc n
-verdict_few Check answer before n le = decided_few answer before n le
-verdict_few _ answer before n le = omega (arith, le)
-
-few_verdicts : (past : List Entry) → length (verdicts past) ≤ length past
-few_verdicts [] = omega arith
-few_verdicts (entry ∷ past) = verdict_few entry.event entry.reply (verdicts past) (length past) (few_verdicts past)
-
-pub few_accepted : (past : List Entry) → length (accepted past) ≤ length past
-few_accepted past = let a = few_among (proposals past) (verdicts past) in let v = few_verdicts past in omega (arith, a, v)
+pub few_overlays : (past : List Entry) → length (overlays past) ≤ length past
+few_overlays [] = omega arith
+few_overlays (entry ∷ past) = overlaid_few (overlay_in entry.event entry.reply (first_rows (pending past))) (overlays past) (length past) (few_overlays past)
 
 -- so there is a number for the next version
-pub next_few : (g : Group) (old new : History) (b : Published) (spent : Bool) → accepted new.past ≡ accepted old.past ++ first_rows (pending old.past) ∷ [] → IsLegal g new.past → spent ≡ false → IsRoom old b spent → length b.proposals + 1 < 2 ^ 32
+pub next_few : (g : Group) (old new : History) (b : Published) (spent : Bool) → overlays new.past ≡ overlays old.past ++ first_rows (pending old.past) ∷ [] → IsLegal g new.past → spent ≡ false → IsRoom old b spent → length b.proposals + 1 < 2 ^ 32
 next_few g old new b spent more legal open_still r =
-    let few = few_accepted new.past in
+    let few = few_overlays new.past in
     let within = legal_within g new.past legal in
-    omega (arith, few, within, ap length (r.whole open_still), ap length more, length-append (accepted old.past) (first_rows (pending old.past) ∷ []))
+    omega (arith, few, within, ap length (r.whole open_still), ap length more, length-append (overlays old.past) (first_rows (pending old.past) ∷ []))

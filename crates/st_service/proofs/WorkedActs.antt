@@ -16,7 +16,7 @@ use Rattle.st_event.specs.declared.event.Event.{Event}
 use Rattle.st_event.specs.declared.event.Event.TheVariants.{Check, Submit, Lock as lock_event, Unlock as unlock_event, Report, Hear, Fail as fail_event}
 use Rattle.st_event.specs.declared.journal.Entry.{Entry}
 use Rattle.st_event.specs.declared.journal.TheConstants.{MAX_ENTRIES}
-use Rattle.st_event.specs.Proposals.{accepted}
+use Rattle.st_event.specs.Proposals.{overlays}
 use Rattle.st_event.specs.Services.{entry_after}
 use Rattle.st_board.specs.Published.{Published}
 use Rattle.st_wire.specs.declared.line.WireKind.TheVariants.{Command}
@@ -396,7 +396,7 @@ not_answered_done d = not_an_idle_lock d.entered
 abbrev at_full : List Made → List (List Row) → List LogEntry → Holder
 at_full after proposals log = pass after (0 ∷ []) proposals log
 
-pub answers_full : (after : List Made) → length after ≡ MAX_ENTRIES → accepted (past_in after) ≡ firmware 2 ∷ [] → Acts (JournalFull 0) (Lock 0 a1 Low) small [] old (at_full after (firmware 2 ∷ []) [])
+pub answers_full : (after : List Made) → length after ≡ MAX_ENTRIES → overlays (past_in after) ≡ firmware 2 ∷ [] → Acts (JournalFull 0) (Lock 0 a1 Low) small [] old (at_full after (firmware 2 ∷ []) [])
 answers_full after full same = (refl, record { enters = tt; full = full; taught = ([], ap (λ ps. ps ++ []) same); logged = refl })
 
 -- another group's number, a journal that has room, or a line in the log
@@ -410,7 +410,7 @@ pub not_full_with_a_line : (after : List Made) → Acts (JournalFull 0) (Lock 0 
 not_full_with_a_line after d = absurd (cc (d.1.logged))
 
 -- a reader that lacks what the journal accepts
-pub not_full_untaught : (after : List Made) → accepted (past_in after) ≡ firmware 2 ∷ [] → Acts (JournalFull 0) (Lock 0 a1 Low) small [] old (at_full after [] []) → ⊥
+pub not_full_untaught : (after : List Made) → overlays (past_in after) ≡ firmware 2 ∷ [] → Acts (JournalFull 0) (Lock 0 a1 Low) small [] old (at_full after [] []) → ⊥
 not_full_untaught after same d =
     let more : firmware 2 ∷ d.1.taught.0 ≡ [] = ap (λ ps. ps ++ d.1.taught.0) (sym same) ∙ d.1.taught.1 in
     absurd (cc more)

@@ -4,7 +4,7 @@ use mathlib.Core.List.{IsPrefix}
 use Rattle.st_net.specs.Groups.{Group, IsSound}
 use Rattle.st_event.specs.declared.journal.Entry.{Entry}
 use Rattle.st_event.specs.Legal.{IsLegal}
-use Rattle.st_event.specs.Proposals.{accepted}
+use Rattle.st_event.specs.Proposals.{overlays}
 use Rattle.st_service.specs.Asked.{requests_of, requests_in}
 use Rattle.st_service.specs.Made.{Made, past_in, IsMine}
 use Rattle.st_service.specs.Passes.{Holder, front_at, mine_at, reader_at}
@@ -18,7 +18,7 @@ positions p i (m ∷ ms) = if m.by == p then i ∷ positions p (suc i) ms else p
 pub record Stands (p : Holder) (front : List Made) (g : ℕ) : Type 0 where
   pub begins : IsPrefix (front_at p.fronts g) front
   pub mine : IsMine p.number front (mine_at p.mines g)
-  pub reads : IsPrefix (reader_at p.readers g).proposals (accepted (past_in front))
+  pub reads : IsPrefix (reader_at p.readers g).proposals (overlays (past_in front))
 
 -- how many entries a pass made in all rooms
 abbrev pub entered : Holder → ℕ

@@ -9,7 +9,7 @@ use Rattle.st_event.specs.declared.act.LogSaw.TheVariants.{Seen}
 use Rattle.st_board.specs.Posts.{no_group}
 use Rattle.st_event.specs.declared.act.LogEntry.{LogEntry}
 use Rattle.st_board.specs.Published.{Published}
-use Rattle.st_event.specs.Proposals.{accepted}
+use Rattle.st_event.specs.Proposals.{overlays}
 use Rattle.st_service.specs.Made.{Made, past_in}
 
 -- its number; for each room the beginning of the journal that it has seen, the places of the entries that it made there, and its reader's front; and
@@ -40,4 +40,4 @@ pub record Reads (g : Group) (n : ℕ) (entity : Entity) (var : Var) (old new : 
 
 -- what its front of a room accepts begins what its reader has
 abbrev pub IsTaught : Holder → ℕ → Type 0
-IsTaught p n = IsPrefix (accepted (past_in (front_at p.fronts n))) (reader_at p.readers n).proposals
+IsTaught p n = IsPrefix (overlays (past_in (front_at p.fronts n))) (reader_at p.readers n).proposals

@@ -3,7 +3,7 @@ use Rattle.std.specs.Prelude.{◌≡◌, ◌⊎◌, ℕ, ◌<◌, ◌≤◌, Boo
 use mathlib.Core.List.{IsPrefix}
 use Rattle.st_event.specs.declared.journal.Entry.{Entry}
 use Rattle.st_event.specs.History.{History}
-use Rattle.st_event.specs.Proposals.{accepted}
+use Rattle.st_event.specs.Proposals.{overlays}
 use Rattle.st_wire.specs.declared.line.WireLine.{WireLine}
 use Rattle.st_board.specs.Published.{Published}
 use Rattle.st_service.specs.Asked.{all_own}
@@ -28,12 +28,12 @@ pub record EndedView : Type 0 where
   pub history : History
   pub published : Published
 
--- what is published is what was accepted, or a beginning of it in a spent room
+-- what is published is what the target was overlaid with, or a beginning of it in a spent room
 pub record IsRoom (h : History) (b : Published) (spent : Bool) : Type 0 where
   pub group : b.group ≡ h.group
   pub going : b.ended ≡ false
-  pub begun : IsPrefix b.proposals (accepted h.past)
-  pub whole : spent ≡ false → b.proposals ≡ accepted h.past
+  pub begun : IsPrefix b.proposals (overlays h.past)
+  pub whole : spent ≡ false → b.proposals ≡ overlays h.past
 
 -- the group, its loss plan and the board are the same
 pub record IsSameRoom (old new : RoomView) : Type 0 where
@@ -41,10 +41,10 @@ pub record IsSameRoom (old new : RoomView) : Type 0 where
   pub lines : new.lines ≡ old.lines
   pub board : new.published.book ≡ old.published.book
 
--- a publication was refused: the board is as it was, and more is accepted than it has
+-- a publication was refused: the board is as it was, and there are more overlays than it has
 pub record WasRefused (old new : RoomView) : Type 0 where
   pub board : new.published ≡ old.published
-  pub more : length old.published.proposals < length (accepted new.history.past)
+  pub more : length old.published.proposals < length (overlays new.history.past)
 
 -- a journal went on by at most so many entries, none of which is the request of another than this application
 pub record Adds (number most : ℕ) (old new : List Entry) : Type 0 where

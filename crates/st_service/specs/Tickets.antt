@@ -3,13 +3,12 @@ use Rattle.std.specs.Prelude.{ℕ, List, [], ◌∷◌, Option, Some, None, slic
 use Rattle.std.specs.Option.{option_or}
 use Rattle.st_event.specs.declared.journal.Entry.{Entry}
 use Rattle.st_event.specs.declared.reply.Reply.{Reply}
-use Rattle.st_event.specs.declared.reply.Reply.TheVariants.{Queued}
+use Rattle.st_event.specs.Receipts.{ticket_given}
 use Rattle.st_service.specs.Made.{Made}
 
 -- the ticket that a reply gives to a proposal
 abbrev pub ticket_in : Reply → Option ℕ
-ticket_in (Queued ticket) = Some ticket
-ticket_in _ = None
+ticket_in reply = ticket_given reply
 
 abbrev pub ticket_of : Option Made → Option ℕ
 ticket_of (Some m) = ticket_in m.entry.reply

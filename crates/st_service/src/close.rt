@@ -4,7 +4,7 @@ ghost use Rattle.std.specs.Prelude.{ℕ, ◌≡◌, ◌+◌, ◌*◌, ◌<◌, �
 ghost use mathlib.Core.List.{IsPrefix};
 ghost use Rattle.st_net.specs.Groups.{IsSound};
 ghost use Rattle.st_event.specs.Legal.{IsLegal};
-ghost use Rattle.st_event.specs.Proposals.{accepted};
+ghost use Rattle.st_event.specs.Proposals.{overlays};
 ghost use Rattle.st_service.specs.Asked.{all_asked};
 ghost use Rattle.st_service.specs.Closed.{IsWhole, Stands, entered};
 ghost use Rattle.st_service.specs.Lines.{flat};
@@ -196,7 +196,7 @@ fn stands_in<J: Naming, H: Wait + Drop>(place: &mut Place<J>, shut: &Shut<J, H>)
     requires group { shut.now.group ≡ place.old.group }
     ensures begins { MatchBool result (IsPrefix (flat place.old.seen.log) (flat shut.now.seen.log)) (Unit {0}) }
     ensures mine { MatchBool result (IsMine place.old.number (flat shut.now.seen.log) place.old.mine.items) (Unit {0}) }
-    ensures reads { IsPrefix place.old.reader.proposals (accepted (past_in (flat shut.now.seen.log))) }
+    ensures reads { IsPrefix place.old.reader.proposals (overlays (past_in (flat shut.now.seen.log))) }
 {
     let mut both = place.seen.again();
     both.learn(&shut.seen);

@@ -5,7 +5,7 @@ ghost use Rattle.std.specs.Prelude.{◌≡◌, true, false, IfOk, reverse};
 ghost use mathlib.Core.List.{IsPrefix};
 ghost use Rattle.st_net.specs.Groups.{IsSound};
 ghost use Rattle.st_event.specs.Legal.{IsLegal};
-ghost use Rattle.st_event.specs.Proposals.{accepted};
+ghost use Rattle.st_event.specs.Proposals.{overlays};
 
 use crate::room::Room;
 use st_board::{Held, Note, TargetReader};
@@ -21,7 +21,7 @@ pub struct Ended<H: Wait + Drop> {
     world: World,
     held: Held<H>,
     note: Note,
-    ghost whole: { note.proposals ≡ accepted world.history.past },
+    ghost whole: { note.proposals ≡ overlays world.history.past },
     ghost ended: { note.ended ≡ true },
     ghost group: { note.group ≡ world.history.group },
 }
@@ -55,7 +55,7 @@ impl<H: Wait + Drop> Ended<H> {
         requires { reader.old.book ≡ self.now.published.book }
         ensures same { (reader.new.book ≡ reader.old.book) × (reader.new.group ≡ reader.old.group) }
         ensures later { IsPrefix reader.old.proposals reader.new.proposals }
-        ensures whole { reader.new.proposals ≡ accepted self.now.history.past }
+        ensures whole { reader.new.proposals ≡ overlays self.now.history.past }
     {
         reader.learn(&self.note, self.world.control().store().target());
     }

@@ -5,7 +5,7 @@ ghost use Rattle.std.specs.Prelude.{◌≡◌, ◌+◌, ◌<◌, true, false, �
 ghost use mathlib.Core.List.{IsPrefix};
 ghost use Rattle.st_net.specs.Groups.{IsEntityOf};
 ghost use Rattle.st_event.specs.Legal.{IsLegal};
-ghost use Rattle.st_event.specs.Proposals.{accepted};
+ghost use Rattle.st_event.specs.Proposals.{overlays};
 ghost use Rattle.st_world.specs.Acts.{seen_at as seen_at_lem};
 ghost use Rattle.st_world.specs.Commits.{Begins};
 ghost use Rattle.st_world.specs.Rounds.{unsettled as unsettled_lem};
@@ -94,7 +94,7 @@ impl<J: Naming, L: Ledger, H: Wait + Drop> Locked<J, L, H> {
         ensures grows { Grows (work_share work.entry (J.group self.old.group) (J.lines self.old.group)) (flat place.old.seen.log) place.old.mine.items (flat place.new.seen.log) place.new.mine.items }
         ensures legal { IsLegal (J.group self.old.group) (past_in (flat place.old.seen.log)) → IsLegal (J.group self.old.group) (past_in (flat place.new.seen.log)) }
         ensures reader { IsPrefix place.old.reader.proposals place.new.reader.proposals }
-        ensures reads { IfOk result (λ _. IsPrefix (accepted (past_in (flat place.new.seen.log))) place.new.reader.proposals) }
+        ensures reads { IfOk result (λ _. IsPrefix (overlays (past_in (flat place.new.seen.log))) place.new.reader.proposals) }
     {
         if self.is_shut_to(place) {
             return Err(AllocError);
@@ -122,7 +122,7 @@ impl<J: Naming, L: Ledger, H: Wait + Drop> Locked<J, L, H> {
         ensures open { OnOk result (IsOpen self.now.lost self.now.room) }
         ensures legal { IsLegal (J.group self.now.group) (past_in (flat place.old.seen.log)) → IsLegal (J.group self.now.group) (past_in (flat place.new.seen.log)) }
         ensures reader { IsPrefix place.old.reader.proposals place.new.reader.proposals }
-        ensures reads { IfOk result (λ _. IsPrefix (accepted (past_in (flat place.new.seen.log))) place.new.reader.proposals) }
+        ensures reads { IfOk result (λ _. IsPrefix (overlays (past_in (flat place.new.seen.log))) place.new.reader.proposals) }
     {
         if self.is_shut_to(place) {
             return Err(AllocError);
@@ -143,7 +143,7 @@ impl<J: Naming, L: Ledger, H: Wait + Drop> Locked<J, L, H> {
         ensures journal { IfOk result (λ _. past_in (flat place.new.seen.log) ≡ self.now.room.history.past) }
         ensures legal { IsLegal (J.group self.now.group) (past_in (flat place.old.seen.log)) → IsLegal (J.group self.now.group) (past_in (flat place.new.seen.log)) }
         ensures reader { IsPrefix place.old.reader.proposals place.new.reader.proposals }
-        ensures reads { IfOk result (λ _. IsPrefix (accepted (past_in (flat place.new.seen.log))) place.new.reader.proposals) }
+        ensures reads { IfOk result (λ _. IsPrefix (overlays (past_in (flat place.new.seen.log))) place.new.reader.proposals) }
     {
         match self.look(place) {
             Ok(()) => self.room.begin_check(),
@@ -160,7 +160,7 @@ impl<J: Naming, L: Ledger, H: Wait + Drop> Locked<J, L, H> {
         ensures open { OnOk result (IsOpen self.now.lost self.now.room) }
         ensures legal { IsLegal (J.group self.now.group) (past_in (flat place.old.seen.log)) → IsLegal (J.group self.now.group) (past_in (flat place.new.seen.log)) }
         ensures reader { IsPrefix place.old.reader.proposals place.new.reader.proposals }
-        ensures reads { IfOk result (λ _. IsPrefix (accepted (past_in (flat place.new.seen.log))) place.new.reader.proposals) }
+        ensures reads { IfOk result (λ _. IsPrefix (overlays (past_in (flat place.new.seen.log))) place.new.reader.proposals) }
     {
         self.look(place)?;
         self.room.unsettled()
@@ -182,7 +182,7 @@ impl<J: Naming, L: Ledger, H: Wait + Drop> Locked<J, L, H> {
         ensures open { OnOk result (IsOpen self.now.lost self.now.room) }
         ensures legal { IsLegal (J.group self.now.group) (past_in (flat place.old.seen.log)) → IsLegal (J.group self.now.group) (past_in (flat place.new.seen.log)) }
         ensures reader { IsPrefix place.old.reader.proposals place.new.reader.proposals }
-        ensures reads { IfOk result (λ _. IsPrefix (accepted (past_in (flat place.new.seen.log))) place.new.reader.proposals) }
+        ensures reads { IfOk result (λ _. IsPrefix (overlays (past_in (flat place.new.seen.log))) place.new.reader.proposals) }
     {
         self.look(place)?;
         Ok(self.room.seen_at(version, entity, var))

@@ -8,7 +8,7 @@ ghost use Rattle.st_net.specs.Groups.{IsEntityOf};
 ghost use Rattle.st_net.specs.Numbered.{nth};
 ghost use Rattle.st_board.specs.Published.{IsMergeOf};
 ghost use Rattle.st_event.specs.Legal.{IsLegal};
-ghost use Rattle.st_event.specs.Proposals.{first_rows, pending, accepted, deciders};
+ghost use Rattle.st_event.specs.Proposals.{first_rows, pending, overlays, deciders};
 ghost use Rattle.st_world.specs.Acts.{seen_at as seen_at_lem};
 ghost use Rattle.st_world.specs.Commits.{Begins, MayCommit};
 ghost use Rattle.st_world.specs.Rounds.{HasSamePlant, IsPartOf, is_full, unsettled as unsettled_lem};
@@ -89,7 +89,7 @@ fn going_of(committed: &Committed) -> Going
 
 /// How many proposals were accepted in a world.
 fn version_of(world: &World) -> u32
-    ensures { result ≡ length (accepted world.now.history.past) }
+    ensures { result ≡ length (overlays world.now.history.past) }
 {
     world.control().store().version()
 }
@@ -219,7 +219,7 @@ impl<H: Wait + Drop> Room<H> {
     /// What is published.
     pub fn note(&self) -> Note
         ensures published { result ≡ self.now.published }
-        ensures whole { self.now.spent ≡ false → result.proposals ≡ accepted self.now.history.past }
+        ensures whole { self.now.spent ≡ false → result.proposals ≡ overlays self.now.history.past }
     {
         self.held.board.note()
     }
@@ -243,7 +243,7 @@ impl<H: Wait + Drop> Room<H> {
         ensures same { result ≡ going }
         ensures board { (reader.new.book ≡ reader.old.book) × (reader.new.group ≡ reader.old.group) }
         ensures later { IsPrefix reader.old.proposals reader.new.proposals }
-        ensures reads { OnOk result (IsPrefix (accepted self.now.history.past) reader.new.proposals) }
+        ensures reads { OnOk result (IsPrefix (overlays self.now.history.past) reader.new.proposals) }
     {
         if going.is_ok() {
             reader.learn(&self.note(), self.target());

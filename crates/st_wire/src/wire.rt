@@ -65,7 +65,7 @@ impl Wire {
         ensures number { IfOk result (λ n. n ≡ length self.old.commands + 1) }
         ensures ok { OnOk result (HasCommand self.old self.new command) }
         ensures err { OnErr result (HasSameMessages self.old self.new) }
-        ensures sure { 0 < self.old.room → IsOk result }
+        ensures without_memory { 0 < self.old.room → IsOk result }
         ensures room { self.old.room ≤ self.new.room + 1 }
         ensures spent { OnErr result (self.old.room ≤ self.new.room) }
     {
@@ -79,7 +79,7 @@ impl Wire {
         ensures number { IfOk result (λ n. n ≡ length self.old.reports + 1) }
         ensures ok { OnOk result (HasReport self.old self.new report) }
         ensures err { OnErr result (HasSameMessages self.old self.new) }
-        ensures sure { 0 < self.old.room → IsOk result }
+        ensures without_memory { 0 < self.old.room → IsOk result }
         ensures room { self.old.room ≤ self.new.room + 1 }
         ensures spent { OnErr result (self.old.room ≤ self.new.room) }
     {
@@ -90,7 +90,7 @@ impl Wire {
     /// Makes room, so that the next `n` messages, of whichever kinds, take no memory.
     pub fn reserve(&mut self, n: u32) -> Result<(), AllocError>
         ensures room { OnOk result (n ≤ self.new.room) }
-        ensures sure { n ≤ self.old.room → IsOk result }
+        ensures without_memory { n ≤ self.old.room → IsOk result }
         ensures more { self.old.room ≤ self.new.room }
         ensures same { HasSameMessages self.old self.new }
     {

@@ -24,8 +24,9 @@ use Rattle.st_event.specs.declared.journal.Entry.{Entry}
 use Rattle.st_event.specs.declared.reply.Verdict.{Verdict}
 use Rattle.st_event.specs.Legal.{Fits, FailFits, IsLegal}
 use Rattle.st_event.specs.Moments.{told, work_after, vals_after, commands, fence, busy, work, vals}
-use Rattle.st_event.specs.Proposals.{is_accepted, proposals, verdicts, accepted, accepted_among, target}
+use Rattle.st_event.specs.Proposals.{is_accepted, proposals, verdicts, overlays, accepted_among, target}
 use Rattle.st_event.proofs.Accepting.{proposals_fit}
+use Rattle.st_event.proofs.Targets.{overlays_are_accepted}
 use Rattle.st_event.proofs.Made.{IsSent, Sends, command_now, told_sent}
 use Rattle.st_world.specs.Acts.{failed_vals}
 
@@ -167,9 +168,9 @@ accepted_fit g (p ∷ ps) (v ∷ vs) fit =
 pub target_in_range : (g : Group) (past : List Entry) (e : Entity) → IsSound g → IsLegal g past → IsEntityOf g e → are_in_range e (vals_in g (target g past) e) ≡ true
 target_in_range g past e sound legal own =
     let opens = opening_in_range g e sound own in
-    let fit = accepted_fit g (proposals past) (verdicts past) (rows_fit g past legal) in
+    let fit = subst (All (All (RowFits g))) (sym (overlays_are_accepted g past legal)) (accepted_fit g (proposals past) (verdicts past) (rows_fit g past legal)) in
     by_in_range e (opening_of g e) (target g past e) opens
-    (λ v has. written_in_range e v (last_write (accepted past) e v) (value_of e (opening_of g e) v) (last_may g (accepted past) e v fit) (value_in_range e (opening_of g e) v opens has))
+    (λ v has. written_in_range e v (last_write (overlays past) e v) (value_of e (opening_of g e) v) (last_may g (overlays past) e v fit) (value_in_range e (opening_of g e) v opens has))
 
 -- commands
 

@@ -1,4 +1,4 @@
--- What a turn of an entity, either of its halves, and each part of them leave: nothing more is accepted, and there are few entries more.
+-- What a turn of an entity, either of its halves, and each part of them leave: nothing more is overlaid, and there are few entries more.
 use Rattle.std.proofs.Common.{◌≡◌, ℕ, zero, suc, ◌+◌, ◌*◌, ◌≤◌, List, [], ◌∷◌, ◌++◌, length, refl, ap, sym, ◌∙◌, subst, arith, length-append}
 use Rattle.std.specs.Prelude.{Bool, true, false, ◌==◌, nat_lt, All, if◌then◌else◌}
 use Rattle.std.proofs.lemmas.List.{length-map}
@@ -16,10 +16,10 @@ use Rattle.st_event.specs.declared.journal.Entry.{Entry}
 use Rattle.st_event.specs.declared.journal.TheConstants.{MAX_ENTRIES, MAX_PENDING}
 use Rattle.st_event.specs.Events.{is_check}
 use Rattle.st_event.specs.Legal.{IsLegal}
-use Rattle.st_event.specs.Proposals.{accepted, pending}
+use Rattle.st_event.specs.Proposals.{overlays, pending}
 use Rattle.st_event.specs.Services.{entry_after}
 use Rattle.st_event.proofs.Accepting.{accepts_none}
-use Rattle.st_event.proofs.Targets.{legal_orderly, accepted_same}
+use Rattle.st_event.proofs.Targets.{overlays_same}
 use Rattle.st_wire.specs.declared.line.WireKind.TheVariants.{Command as command_kind, Report as report_kind}
 use Rattle.st_wire.specs.declared.line.WireLine.{WireLine}
 use Rattle.st_wire.specs.Deliveries.{deliveries}
@@ -84,7 +84,7 @@ turn-length g lines run e =
     let last = poll-length g lines (update_turn g lines run e) e in
     omega (arith, first, last)
 
--- what is accepted
+-- what is overlaid
 
 -- how many checks a journal has
 abbrev pub check_count : List Entry → ℕ
@@ -99,23 +99,23 @@ check_count-append (entry ∷ more) past = by_check (is_check entry.event) (chec
     by_check true same = omega (arith, same)
     by_check false same = same
 
--- entries among which there is no check accept nothing
-pub no_check-accepts : (g : Group) (made past : List Entry) → IsLegal g (made ++ past) → check_count made ≡ 0 → accepted (made ++ past) ≡ accepted past
-no_check-accepts g [] past legal none = refl
-no_check-accepts g (entry ∷ made) past legal none = by_check (is_check entry.event) refl none (no_check-accepts g made past legal.1)
+-- entries among which there is no check overlay nothing
+pub no_check-accepts : (made past : List Entry) → check_count made ≡ 0 → overlays (made ++ past) ≡ overlays past
+no_check-accepts [] past none = refl
+no_check-accepts (entry ∷ made) past none = by_check (is_check entry.event) refl none (no_check-accepts made past)
   where
-    by_check : (b : Bool) → is_check entry.event ≡ b → (if b then suc (check_count made) else check_count made) ≡ 0 → (check_count made ≡ 0 → accepted (made ++ past) ≡ accepted past) → accepted (entry ∷ made ++ past) ≡ accepted past
+    by_check : (b : Bool) → is_check entry.event ≡ b → (if b then suc (check_count made) else check_count made) ≡ 0 → (check_count made ≡ 0 → overlays (made ++ past) ≡ overlays past) → overlays (entry ∷ made ++ past) ≡ overlays past
     by_check true is some rest = absurd (omega (arith, some))
-    by_check false is none rest = accepted_same g (made ++ past) entry.event entry.reply (legal_orderly g (made ++ past) legal.1) legal.0.answer (accepts_none entry.event entry.reply is) ∙ rest none
+    by_check false is none rest = overlays_same (made ++ past) entry (accepts_none entry.event entry.reply is) ∙ rest none
 
--- a part of a run that makes no check accepts nothing
-pub part-accepts : (g : Group) (past new whole : List Entry) → IsLegal g new → check_count whole ≡ check_count past → IsBeginning past new → IsBeginning new whole → accepted new ≡ accepted past
-part-accepts g past new whole legal same began part =
+-- a part of a run that makes no check overlays nothing
+pub part-accepts : (past new whole : List Entry) → check_count whole ≡ check_count past → IsBeginning past new → IsBeginning new whole → overlays new ≡ overlays past
+part-accepts past new whole same began part =
     let made = began.0 in
     let first : check_count new ≡ check_count made + check_count past = ap check_count began.1 ∙ check_count-append made past in
     let all : check_count whole ≡ check_count part.0 + check_count new = ap check_count part.1 ∙ check_count-append part.0 new in
     let none : check_count made ≡ 0 = omega (arith, first, all, same) in
-    ap accepted began.1 ∙ no_check-accepts g made past (subst (IsLegal g) began.1 legal) none
+    ap overlays began.1 ∙ no_check-accepts made past none
 
 -- events that are no checks
 
@@ -158,19 +158,19 @@ update_turn-checks g lines run e = enter-checks g (enter_told g lines run (Send 
 pub turn-checks : (g : Group) (lines : List WireLine) (run : Run) (e : Entity) → check_count (turn g lines run e).past ≡ check_count run.past
 turn-checks g lines run e = poll-checks g lines (update_turn g lines run e) e ∙ update_turn-checks g lines run e
 
--- so they accept nothing, nor does a part of them
+-- so they overlay nothing, nor does a part of them
 
-pub enter-accepts : (g : Group) (run : Run) (event : Event) (new : List Entry) → is_check event ≡ false → IsLegal g new → IsBeginning run.past new → IsBeginning new (enter g run event).past → accepted new ≡ accepted run.past
-enter-accepts g run event new none legal began part = part-accepts g run.past new (enter g run event).past legal (enter-checks g run event none) began part
+pub enter-accepts : (g : Group) (run : Run) (event : Event) (new : List Entry) → is_check event ≡ false → IsBeginning run.past new → IsBeginning new (enter g run event).past → overlays new ≡ overlays run.past
+enter-accepts g run event new none began part = part-accepts run.past new (enter g run event).past (enter-checks g run event none) began part
 
-pub poll-accepts : (g : Group) (lines : List WireLine) (run : Run) (e : Entity) (new : List Entry) → IsLegal g new → IsBeginning run.past new → IsBeginning new (poll g lines run e).past → accepted new ≡ accepted run.past
-poll-accepts g lines run e new legal began part = part-accepts g run.past new (poll g lines run e).past legal (poll-checks g lines run e) began part
+pub poll-accepts : (g : Group) (lines : List WireLine) (run : Run) (e : Entity) (new : List Entry) → IsBeginning run.past new → IsBeginning new (poll g lines run e).past → overlays new ≡ overlays run.past
+poll-accepts g lines run e new began part = part-accepts run.past new (poll g lines run e).past (poll-checks g lines run e) began part
 
-pub update_turn-accepts : (g : Group) (lines : List WireLine) (run : Run) (e : Entity) (new : List Entry) → IsLegal g new → IsBeginning run.past new → IsBeginning new (update_turn g lines run e).past → accepted new ≡ accepted run.past
-update_turn-accepts g lines run e new legal began part = part-accepts g run.past new (update_turn g lines run e).past legal (update_turn-checks g lines run e) began part
+pub update_turn-accepts : (g : Group) (lines : List WireLine) (run : Run) (e : Entity) (new : List Entry) → IsBeginning run.past new → IsBeginning new (update_turn g lines run e).past → overlays new ≡ overlays run.past
+update_turn-accepts g lines run e new began part = part-accepts run.past new (update_turn g lines run e).past (update_turn-checks g lines run e) began part
 
-pub turn-accepts : (g : Group) (lines : List WireLine) (run : Run) (e : Entity) (new : List Entry) → IsLegal g new → IsBeginning run.past new → IsBeginning new (turn g lines run e).past → accepted new ≡ accepted run.past
-turn-accepts g lines run e new legal began part = part-accepts g run.past new (turn g lines run e).past legal (turn-checks g lines run e) began part
+pub turn-accepts : (g : Group) (lines : List WireLine) (run : Run) (e : Entity) (new : List Entry) → IsBeginning run.past new → IsBeginning new (turn g lines run e).past → overlays new ≡ overlays run.past
+turn-accepts g lines run e new began part = part-accepts run.past new (turn g lines run e).past (turn-checks g lines run e) began part
 
 -- a run that was gone through is a part of itself
 pub goes_part : (old new : WorldView) (run : Run) (going : Going) → IsBeginning old.history.past run.past → Goes new run going → IsPartOf old new run

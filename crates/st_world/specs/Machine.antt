@@ -5,7 +5,7 @@ use Rattle.st_net.specs.declared.message.Command.{Command}
 use Rattle.st_net.specs.declared.message.Report.{Report}
 use Rattle.st_net.specs.Groups.{Group, IsEntityOf}
 use Rattle.st_event.specs.declared.event.Event.{Event}
-use Rattle.st_event.specs.declared.event.Event.TheVariants.{Submit, Check}
+use Rattle.st_event.specs.declared.event.Event.TheVariants.{Submit, Check, Lock, Unlock, Send, Deliver, Finish, Report as make_report, Hear, Fail}
 use Rattle.st_event.specs.declared.reply.Reply.{Reply}
 use Rattle.st_event.specs.Standing.{Wires, standing_of, wires_of, standing_after, wires_after, reply_in}
 use Rattle.st_event.specs.Versions.{value_at, versions_after}
@@ -38,10 +38,17 @@ pub record IsBelow (n : ℕ) (m : MachineView) : Type 0 where
   pub numbers : (e : Entity) → (agent_in m.checker.group m.agents e).number < n
 
 -- an event that is entered without taking memory, where there is room
-abbrev pub is_sure_event : Event → Bool
-is_sure_event (Submit app rows) = false
-is_sure_event Check = false
-is_sure_event _ = true
+abbrev pub is_without_memory : Event → Bool
+is_without_memory (Submit app rows) = false
+is_without_memory Check = false
+is_without_memory (Lock app entity prio) = true
+is_without_memory (Unlock app entity prio) = true
+is_without_memory (Send entity) = true
+is_without_memory (Deliver n) = true
+is_without_memory (Finish entity) = true
+is_without_memory (make_report entity) = true
+is_without_memory (Hear n) = true
+is_without_memory (Fail entity vals health) = true
 
 -- the machine of a group at its opening
 pub record IsOpening (g : Group) (m : MachineView) : Type 0 where

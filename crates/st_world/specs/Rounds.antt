@@ -6,9 +6,9 @@ use Rattle.st_net.specs.Entities.{is_same_entity}
 use Rattle.st_net.specs.Groups.{Group}
 use Rattle.st_net.specs.InOrder.{entities_of}
 use Rattle.st_event.specs.declared.event.Event.{Event}
-use Rattle.st_event.specs.declared.event.Event.TheVariants.{Send, Deliver, Finish, Report as make_report, Hear}
+use Rattle.st_event.specs.declared.event.Event.TheVariants.{Submit, Check, Lock, Unlock, Send, Deliver, Finish, Report as make_report, Hear, Fail}
 use Rattle.st_event.specs.declared.reply.Reply.{Reply}
-use Rattle.st_event.specs.declared.reply.Reply.TheVariants.{Sent, Reported}
+use Rattle.st_event.specs.declared.reply.Reply.TheVariants.{Queued, Full as full_queue, Decided, Idle, Granted, Held, Released, NotYours, Sent, Settled, Blocked, Begun, Stale, NoSuch, Done, NotBusy, Reported, Taken, Old, Changed}
 use Rattle.st_event.specs.declared.journal.Entry.{Entry}
 use Rattle.st_event.specs.declared.journal.TheConstants.{MAX_ENTRIES}
 use Rattle.st_event.specs.Moments.{is_sent, is_fail_of}
@@ -44,7 +44,24 @@ enter_all g run (event ∷ events) = enter_all g (enter g run event) events
 abbrev pub arrivals_of : List WireLine → Reply → List Event
 arrivals_of lines (Sent n) = map Deliver (deliveries lines command_kind n)
 arrivals_of lines (Reported n) = map Hear (deliveries lines report_kind n)
-arrivals_of lines _ = []
+arrivals_of lines (Queued ticket) = []
+arrivals_of lines (full_queue pending) = []
+arrivals_of lines (Decided receipt) = []
+arrivals_of lines Idle = []
+arrivals_of lines Granted = []
+arrivals_of lines (Held holder) = []
+arrivals_of lines Released = []
+arrivals_of lines (NotYours holder) = []
+arrivals_of lines Settled = []
+arrivals_of lines (Blocked row) = []
+arrivals_of lines Begun = []
+arrivals_of lines (Stale fence) = []
+arrivals_of lines (NoSuch made) = []
+arrivals_of lines Done = []
+arrivals_of lines NotBusy = []
+arrivals_of lines Taken = []
+arrivals_of lines (Old kept) = []
+arrivals_of lines Changed = []
 
 abbrev pub newest_arrivals : List WireLine → List Entry → List Event
 newest_arrivals lines [] = []
@@ -108,7 +125,15 @@ pub record HasSamePlant (old new : WorldView) : Type 0 where
 -- these entries send the entity a command
 abbrev pub is_sending : Entity → Event → Bool
 is_sending e (Send at) = is_same_entity at e
-is_sending e _ = false
+is_sending e (Submit app rows) = false
+is_sending e Check = false
+is_sending e (Lock app at prio) = false
+is_sending e (Unlock app at prio) = false
+is_sending e (Deliver n) = false
+is_sending e (Finish at) = false
+is_sending e (make_report at) = false
+is_sending e (Hear n) = false
+is_sending e (Fail at vals health) = false
 
 abbrev pub WasSent : List Entry → Entity → Type 0
 WasSent [] e = ⊥

@@ -10,7 +10,7 @@ ghost use Rattle.st_event.specs.declared.journal.TheConstants.{MAX_ENTRIES};
 ghost use Rattle.st_event.specs.Events.{is_without_side};
 ghost use Rattle.st_event.specs.Legal.{Fits};
 ghost use Rattle.st_world.specs.Plant.{IsPlantOf, agent_in};
-ghost use Rattle.st_world.specs.Machine.{Answers, HasSameMachine, IsBelow, IsOpening, is_sure_event};
+ghost use Rattle.st_world.specs.Machine.{Answers, HasSameMachine, IsBelow, IsOpening, is_without_memory};
 
 use crate::plant::Plant;
 use st_agent::{Delivery, Finish};
@@ -102,7 +102,7 @@ impl Machine {
     /// Makes room, so that the next `n` messages take no memory.
     pub fn reserve(&mut self, n: u32) -> Result<(), AllocError>
         ensures room { OnOk result (n ≤ self.new.messages.room) }
-        ensures sure { n ≤ self.old.messages.room → IsOk result }
+        ensures without_memory { n ≤ self.old.messages.room → IsOk result }
         ensures more { self.old.messages.room ≤ self.new.messages.room }
         ensures same { HasSameMachine self.old self.new }
     {
@@ -177,7 +177,7 @@ impl Machine {
         ensures ok { IfOk result (λ reply. (n : ℕ) → Answers self.old self.new n (Send entity) reply) }
         ensures plain { IfOk result (λ reply. IsTrue (is_without_side reply)) }
         ensures err { OnErr result (HasSameMachine self.old self.new) }
-        ensures sure { 0 < self.old.messages.room → IsOk result }
+        ensures without_memory { 0 < self.old.messages.room → IsOk result }
         ensures room { self.old.messages.room ≤ self.new.messages.room + 1 }
         ensures spent { OnErr result (self.old.messages.room ≤ self.new.messages.room) }
     {
@@ -226,7 +226,7 @@ impl Machine {
         ensures ok { IfOk result (λ reply. (n : ℕ) → Answers self.old self.new n (report_event entity) reply) }
         ensures plain { IfOk result (λ reply. IsTrue (is_without_side reply)) }
         ensures err { OnErr result (HasSameMachine self.old self.new) }
-        ensures sure { 0 < self.old.messages.room → IsOk result }
+        ensures without_memory { 0 < self.old.messages.room → IsOk result }
         ensures room { self.old.messages.room ≤ self.new.messages.room + 1 }
         ensures spent { OnErr result (self.old.messages.room ≤ self.new.messages.room) }
     {
@@ -271,7 +271,7 @@ impl Machine {
         ensures ok { IfOk result (λ answered. Answers self.old self.new entry event.now answered.told) }
         ensures kept { IfOk result (λ answered. answered.kept ≡ answered.told) }
         ensures err { OnErr result (HasSameMachine self.old self.new) }
-        ensures sure { 0 < self.old.messages.room → IsTrue (is_sure_event event.now) → IsOk result }
+        ensures without_memory { 0 < self.old.messages.room → IsTrue (is_without_memory event.now) → IsOk result }
         ensures room { self.old.messages.room ≤ self.new.messages.room + 1 }
         ensures spent { OnErr result (self.old.messages.room ≤ self.new.messages.room) }
     {

@@ -13,7 +13,7 @@ ghost use Rattle.st_event.specs.Network.{KeepsPromises};
 ghost use Rattle.st_event.specs.Standing.{standing_of};
 ghost use Rattle.st_event.specs.Versions.{value_at};
 ghost use Rattle.st_control.specs.Checker.{standing_in, versions_in};
-ghost use Rattle.st_world.specs.Machine.{is_sure_event};
+ghost use Rattle.st_world.specs.Machine.{is_without_memory};
 ghost use Rattle.st_world.specs.World.{StepSpends, Steps};
 
 pub mod acts;
@@ -95,8 +95,8 @@ impl World {
         requires { Fits self.old.history.group event }
         ensures ok { IfOk result (Steps self.old.history self.new.history event) }
         ensures err { OnErr result (self.new.history ≡ self.old.history) }
-        ensures plan { self.new.lines ≡ self.old.lines }
-        ensures sure { 0 < self.old.room → IsTrue (is_sure_event event) → IsOk result }
+        ensures losses { self.new.lines ≡ self.old.lines }
+        ensures without_memory { 0 < self.old.room → IsTrue (is_without_memory event) → IsOk result }
         ensures room { self.old.room ≤ self.new.room + 1 }
         ensures spent { MatchResult result (StepSpends self.old.room self.new.room) (λ _. self.old.room ≤ self.new.room) }
     {
@@ -119,7 +119,7 @@ impl World {
         ensures room { OnOk result (n ≤ self.new.room) }
         ensures more { self.old.room ≤ self.new.room }
         ensures history { self.new.history ≡ self.old.history }
-        ensures plan { self.new.lines ≡ self.old.lines }
+        ensures losses { self.new.lines ≡ self.old.lines }
     {
         self.journal.reserve(n as usize)?;
         self.machine.reserve(n)

@@ -3,7 +3,7 @@
 ghost use Rattle.std.specs.Prelude.{◌≡◌, ◌↔◌, IsTrue, IfOk};
 
 use crate::promise::Promise;
-use crate::topo::{DeviceOpening, GroupTopo, LinkOpening};
+use crate::topo::{DeviceOpening, Fields, GroupTopo, LinkOpening};
 use std::alloc::{AllocError, Global};
 
 fn are_same_devices(a: &[DeviceOpening], b: &[DeviceOpening]) -> bool
@@ -30,24 +30,32 @@ impl GroupTopo {
         ensures { IfOk result (λ copy. copy ≡ self.now) }
     {
         self.is_sound();
-        let name = self.name.copy(alloc)?;
-        let device_names = self.device_names.copy(alloc)?;
-        let link_names = self.link_names.copy(alloc)?;
-        let devices = self.devices.as_slice().to_vec(alloc)?;
-        let links = self.links.as_slice().to_vec(alloc)?;
-        let promises = self.promises.as_slice().to_vec(alloc)?;
-        Ok(GroupTopo::from_parts(name, device_names, link_names, devices, links, promises))
+        let fields = &self.fields;
+        Ok(GroupTopo::from_fields(Fields {
+            name: fields.name.copy(alloc)?,
+            device_names: fields.device_names.copy(alloc)?,
+            link_names: fields.link_names.copy(alloc)?,
+            devices: fields.devices.as_slice().to_vec(alloc)?,
+            links: fields.links.as_slice().to_vec(alloc)?,
+            promises: fields.promises.as_slice().to_vec(alloc)?,
+        }))
     }
 
     /// Whether the names and the parts are equal.
     pub fn same(&self, other: &GroupTopo) -> bool
         ensures { IsTrue result ↔ (self.now ≡ other.now) }
     {
-        self.name.is_same(&other.name)
-            && self.device_names.is_same(&other.device_names)
-            && self.link_names.is_same(&other.link_names)
-            && are_same_devices(self.devices.as_slice(), other.devices.as_slice())
-            && are_same_links(self.links.as_slice(), other.links.as_slice())
-            && are_same_promises(self.promises.as_slice(), other.promises.as_slice())
+        self.fields.name.is_same(&other.fields.name)
+            && self.fields.device_names.is_same(&other.fields.device_names)
+            && self.fields.link_names.is_same(&other.fields.link_names)
+            && are_same_devices(
+                self.fields.devices.as_slice(),
+                other.fields.devices.as_slice(),
+            )
+            && are_same_links(self.fields.links.as_slice(), other.fields.links.as_slice())
+            && are_same_promises(
+                self.fields.promises.as_slice(),
+                other.fields.promises.as_slice(),
+            )
     }
 }

@@ -43,7 +43,7 @@ impl World {
         requires { MayCommit self.old.history.past judged.now.ticket }
         ensures ok { IfOk result (Commits self.old.history self.new.history judged.now.ticket) }
         ensures err { OnErr result (self.new.history ≡ self.old.history) }
-        ensures plan { self.new.lines ≡ self.old.lines }
+        ensures losses { self.new.lines ≡ self.old.lines }
         ensures room { MatchResult result (SpendsRoom self.old.room self.new.room) (λ _. self.old.room ≤ self.new.room) }
     {
         if let Some(entry) = self.machine.control().store().decided(judged.ticket()) {

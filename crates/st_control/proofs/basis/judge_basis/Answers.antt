@@ -1,6 +1,6 @@
 use Rattle.std.proofs.Common.{ap, ◌∙◌}
 use Rattle.st_net.specs.Groups.{Group}
-use Rattle.st_net.specs.Promises.{first_broken}
+use Rattle.st_net.specs.Demands.{first_broken_of}
 use Rattle.st_net.specs.Sets.{is_in}
 use Rattle.st_control.proofs.basis.judge_basis.Goals as goal
 
@@ -12,6 +12,6 @@ invariant_of-result g c = record {
   ticket = c.basis.invariant.ticket;
   sure = c.basis.invariant.sure;
   after = c.basis.invariant.after;
-  first = c.in_ok-first.ensures.first ∙ ap (λ (h : Group). first_broken h (is_in c.basis.inside.sure) (is_in c.basis.inside.after) 0 h.promises) c.deref.ensures;
+  first = c.in_ok-first.ensures.first ∙ ap (λ (h : Group). first_broken_of h (is_in c.basis.inside.sure) (is_in c.basis.inside.after)) c.deref.ensures;
   holds = rw c.deref.ensures at c.in_ok-first.ensures.holds;
 }

@@ -18,8 +18,8 @@ returns-clause-ok c =
 pub returns-clause-plant : goal.returns-clause-plant
 returns-clause-plant c = record {
   group = commit_stays c.in_ok-committed.committed c.args.world.now.history c.commit.new.self.history c.args.judged.now.ticket c.in_ok-committed.ensures.ok;
-  lines = c.commit.ensures.plan;
+  lines = c.commit.ensures.losses;
 }
 
 pub returns-in_err-committed-clause-plant : goal.returns-in_err-committed-clause-plant
-returns-in_err-committed-clause-plant c = record { group = ap (λ (h : History). h.group) c.in_err-committed.ensures.err; lines = c.commit.ensures.plan }
+returns-in_err-committed-clause-plant c = record { group = ap (λ (h : History). h.group) c.in_err-committed.ensures.err; lines = c.commit.ensures.losses }

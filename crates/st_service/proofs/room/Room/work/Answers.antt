@@ -1,6 +1,6 @@
 use Rattle.std.proofs.Common.{◌≡◌, ◌≢◌, true, false, length, refl, ap, sym, subst, ◌∙◌}
 use Rattle.st_event.specs.Legal.{IsLegal}
-use Rattle.st_event.specs.Proposals.{accepted, first_rows, pending}
+use Rattle.st_event.specs.Proposals.{overlays, first_rows, pending}
 use Rattle.st_service.specs.Rooms.{RoomView, WasRefused}
 use Rattle.st_service.specs.Shares.{work_share}
 use Rattle.st_service.specs.Works.{WorkFits, decides}
@@ -13,7 +13,7 @@ invariant_of-self g c =
     let old = c.self.inside.world in
     let new = c.enter-going.new.world in
     let went = went_from c.enter-going.result c.args.number c.args.work old new c.self.inside.held.board c.self.inside.spent c.args.self.now c.self.view_is c.enter-going.ensures.ok c.enter-going.ensures.err c.requires.fits in
-    let same : length (accepted new.history.past) ≡ length (accepted old.history.past) = sym c.version_of.ensures ∙ (c.if-version_of-version.true ∙ c.version_of-version.ensures) in
+    let same : length (overlays new.history.past) ≡ length (overlays old.history.past) = sym c.version_of.ensures ∙ (c.if-version_of-version.true ∙ c.version_of-version.ensures) in
     room_stands old.history new.history c.self.inside.held.board c.self.inside.spent c.enter-going.ensures.plant.group
     (same_version (decides c.args.work) new.history.group c.args.number (work_share c.args.work old.history.group old.lines) old.history.past new.history.past went c.is_legal.ensures.legal same) c.self.invariant
 
@@ -23,7 +23,7 @@ invariant_of-self-in-Ok g c =
     let new = c.enter-going.new.world in
     let board = c.self.inside.held.board in
     let went = went_from c.enter-going.result c.args.number c.args.work old new c.self.inside.held.board c.self.inside.spent c.args.self.now c.self.view_is c.enter-going.ensures.ok c.enter-going.ensures.err c.requires.fits in
-    let apart : length (accepted new.history.past) ≢ length (accepted old.history.past) = λ e. c.if-version_of-version.false (c.version_of.ensures ∙ (e ∙ sym c.version_of-version.ensures)) in
+    let apart : length (overlays new.history.past) ≢ length (overlays old.history.past) = λ e. c.if-version_of-version.false (c.version_of.ensures ∙ (e ∙ sym c.version_of-version.ensures)) in
     let next = next_version (decides c.args.work) new.history.group c.args.number (work_share c.args.work old.history.group old.lines) old.history.past new.history.past went c.is_legal.ensures.legal apart in
     let rows : c.as_slice.result.now ≡ first_rows (pending old.history.past) = c.as_slice.ensures ∙ (c.in_ok-rows.ensures next.0 ∙ ap (λ (r : RoomView). first_rows (pending r.history.past)) (sym c.self.view_is)) in
     let going : c.self.inside.spent ≡ false = ap (λ (r : RoomView). r.spent) c.self.view_is ∙ c.requires.open in
@@ -34,7 +34,7 @@ invariant_of-self-in-Err g c =
     let old = c.self.inside.world in
     let new = c.enter-going.new.world in
     let went = went_from c.enter-going.result c.args.number c.args.work old new c.self.inside.held.board c.self.inside.spent c.args.self.now c.self.view_is c.enter-going.ensures.ok c.enter-going.ensures.err c.requires.fits in
-    let apart : length (accepted new.history.past) ≢ length (accepted old.history.past) = λ e. c.if-version_of-version.false (c.version_of.ensures ∙ (e ∙ sym c.version_of-version.ensures)) in
+    let apart : length (overlays new.history.past) ≢ length (overlays old.history.past) = λ e. c.if-version_of-version.false (c.version_of.ensures ∙ (e ∙ sym c.version_of-version.ensures)) in
     let next = next_version (decides c.args.work) new.history.group c.args.number (work_share c.args.work old.history.group old.lines) old.history.past new.history.past went c.is_legal.ensures.legal apart in
     room_spends old.history new.history c.self.inside.held.board c.publish.new.self c.self.inside.spent c.enter-going.ensures.plant.group next.1 c.in-Err.ensures.err c.self.invariant
 
@@ -43,7 +43,7 @@ publish-requires-clause-fits g c =
     let old = c.self.inside.world in
     let new = c.enter-going.new.world in
     let went = went_from c.enter-going.result c.args.number c.args.work old new c.self.inside.held.board c.self.inside.spent c.args.self.now c.self.view_is c.enter-going.ensures.ok c.enter-going.ensures.err c.requires.fits in
-    let apart : length (accepted new.history.past) ≢ length (accepted old.history.past) = λ e. c.if-version_of-version.false (c.version_of.ensures ∙ (e ∙ sym c.version_of-version.ensures)) in
+    let apart : length (overlays new.history.past) ≢ length (overlays old.history.past) = λ e. c.if-version_of-version.false (c.version_of.ensures ∙ (e ∙ sym c.version_of-version.ensures)) in
     let next = next_version (decides c.args.work) new.history.group c.args.number (work_share c.args.work old.history.group old.lines) old.history.past new.history.past went c.is_legal.ensures.legal apart in
     let legal : IsLegal new.history.group old.history.past = legal_before new.history.group went.more old.history.past (subst (IsLegal new.history.group) went.all c.is_legal.ensures.legal) in
     let rows : decides c.args.work ≡ true → c.in_ok-rows.rows ≡ first_rows (pending old.history.past) = λ d. c.in_ok-rows.ensures d ∙ ap (λ (r : RoomView). first_rows (pending r.history.past)) (sym c.self.view_is) in
@@ -54,7 +54,7 @@ publish-requires-clause-room g c =
     let old = c.self.inside.world in
     let new = c.enter-going.new.world in
     let went = went_from c.enter-going.result c.args.number c.args.work old new c.self.inside.held.board c.self.inside.spent c.args.self.now c.self.view_is c.enter-going.ensures.ok c.enter-going.ensures.err c.requires.fits in
-    let apart : length (accepted new.history.past) ≢ length (accepted old.history.past) = λ e. c.if-version_of-version.false (c.version_of.ensures ∙ (e ∙ sym c.version_of-version.ensures)) in
+    let apart : length (overlays new.history.past) ≢ length (overlays old.history.past) = λ e. c.if-version_of-version.false (c.version_of.ensures ∙ (e ∙ sym c.version_of-version.ensures)) in
     let next = next_version (decides c.args.work) new.history.group c.args.number (work_share c.args.work old.history.group old.lines) old.history.past new.history.past went c.is_legal.ensures.legal apart in
     let going : c.self.inside.spent ≡ false = ap (λ (r : RoomView). r.spent) c.self.view_is ∙ c.requires.open in
     next_few new.history.group old.history new.history c.self.inside.held.board c.self.inside.spent next.1 c.is_legal.ensures.legal going c.self.invariant
@@ -78,7 +78,7 @@ returns-clause-spent g c =
     let new = c.enter-going.new.world in
     let board = c.self.inside.held.board in
     let went = went_from c.enter-going.result c.args.number c.args.work old new c.self.inside.held.board c.self.inside.spent c.args.self.now c.self.view_is c.enter-going.ensures.ok c.enter-going.ensures.err c.requires.fits in
-    let apart : length (accepted new.history.past) ≢ length (accepted old.history.past) = λ e. c.if-version_of-version.false (c.version_of.ensures ∙ (e ∙ sym c.version_of-version.ensures)) in
+    let apart : length (overlays new.history.past) ≢ length (overlays old.history.past) = λ e. c.if-version_of-version.false (c.version_of.ensures ∙ (e ∙ sym c.version_of-version.ensures)) in
     let next = next_version (decides c.args.work) new.history.group c.args.number (work_share c.args.work old.history.group old.lines) old.history.past new.history.past went c.is_legal.ensures.legal apart in
     let going : c.self.inside.spent ≡ false = ap (λ (r : RoomView). r.spent) c.self.view_is ∙ c.requires.open in
     let after : RoomView = record { history = new.history; lines = new.lines; published = c.publish.new.self; spent = true } in

@@ -1,0 +1,183 @@
+-- More small journals, computed: what does not come, and which of two things comes first.
+use Rattle.std.proofs.Common.{◌≡◌, ℕ, List, [], ◌∷◌, ◌++◌, Some, refl}
+use Rattle.std.specs.Prelude.{true, false, map, codes, take}
+use Rattle.st_net.specs.declared.entity.Entity.TheVariants.{Device, Link}
+use Rattle.st_net.specs.declared.entity.Var.TheVariants.{Power, Firmware, Config, Routing, LinkPower, Iface}
+use Rattle.st_net.specs.declared.entity.Prio.TheVariants.{Low, High}
+use Rattle.st_event.specs.declared.event.Event.{Event}
+use Rattle.st_event.specs.declared.event.Event.TheVariants.{Submit, Check, Lock, Unlock, Send, Deliver, Finish, Report as make_report, Hear, Fail}
+use Rattle.st_event.specs.declared.reply.Reply.TheVariants.{Queued, Granted, Released, NotYours, Sent, Blocked, Begun, Stale, NoSuch, Done, Reported, Taken, Old, Changed}
+use Rattle.st_event.specs.declared.reply.Verdict.TheVariants.{Accepted, Refused}
+use Rattle.st_event.specs.declared.reply.Lack.TheVariants.{Level}
+use Rattle.st_event.specs.declared.reply.Cause.TheVariants.{NotControllable, Locked, Broken as broken_cause}
+use Rattle.st_net.specs.declared.promise.BrokenKind.TheVariants.{CutOff, Short}
+use Rattle.st_net.specs.Groups.{Group, promise_of}
+use Rattle.st_net.specs.Promises.{is_kept, need_of}
+use Rattle.st_event.specs.Proposals.{target}
+use Rattle.st_event.specs.Moments.{stamp, vals}
+use Rattle.st_event.specs.Observed.{is_settled, sure, actual, untold, failed_between}
+use Rattle.st_event.specs.Replies.{reply}
+use Rattle.st_event.proofs.SmallGroups.{device_vals, usual, device, wide_link, link, two_paths, small, q, t1, a1, a2, after, replies, te, up, row, propose, decided, breaks}
+use Rattle.st_event.specs.Past.{target_at, is_spoiled}
+
+-- Failures and what is known of them
+
+-- a failure stands behind its entity's report of one number and before that of a greater one, and between no others
+abbrev two_failures : List Event
+two_failures = make_report a1 ∷ Fail a1 usual 5 ∷ make_report a1 ∷ make_report a2 ∷ Fail a1 usual 5 ∷ []
+
+between_its_reports : (failed_between (after q two_failures) a1 0 1 ≡ false) × (failed_between (after q two_failures) a1 1 2 ≡ true) × (failed_between (after q two_failures) a1 2 3 ≡ true) × (failed_between (after q two_failures) a1 0 2 ≡ true) × (failed_between (after q two_failures) a2 0 1 ≡ false)
+between_its_reports = (refl, refl, refl, refl, refl)
+
+-- a failure is untold until a report that was made behind it is heard
+told_by_later_report : (untold q (after q (make_report a1 ∷ Hear 1 ∷ Fail a1 usual 0 ∷ [])) a1 ≡ true) × (untold q (after q (Fail a1 usual 0 ∷ make_report a1 ∷ Hear 1 ∷ [])) a1 ≡ false) × (untold q (after q (make_report a1 ∷ Fail a1 usual 0 ∷ make_report a1 ∷ Hear 1 ∷ [])) a1 ≡ true) × (untold q (after q (make_report a1 ∷ Fail a1 usual 0 ∷ make_report a1 ∷ Hear 1 ∷ Hear 2 ∷ [])) a1 ≡ false)
+told_by_later_report = (refl, refl, refl, refl)
+
+untold_is_sure_and_down : let past = after q (make_report a1 ∷ Fail a1 usual 0 ∷ make_report a1 ∷ Hear 1 ∷ []) in (sure q past a1 ≡ true) × (actual q past a1 ≡ false)
+untold_is_sure_and_down = (refl, refl)
+
+-- an update that was finished behind a failure has the command's values, and nothing of the failure is left to tell
+abbrev failed_at_work : List Event
+failed_at_work = propose up a1 Firmware 2 ∷ Check ∷ Send a1 ∷ Deliver 1 ∷ Fail a1 (device_vals 1 7 1 1) 5 ∷ Finish a1 ∷ make_report a1 ∷ Hear 1 ∷ []
+
+finished_behind_failure : (vals q (after q failed_at_work) a1 ≡ device_vals 1 2 1 1) × (sure q (after q failed_at_work) a1 ≡ true) × (actual q (after q failed_at_work) a1 ≡ true) × (untold q (after q failed_at_work) a1 ≡ false)
+finished_behind_failure = (refl, refl, refl, refl)
+
+spoiled_until_finished : (is_spoiled q (after q (take 5 failed_at_work)) a1 ≡ true) × (is_spoiled q (after q failed_at_work) a1 ≡ false)
+spoiled_until_finished = (refl, refl)
+
+-- Lacks
+
+-- a first ToR, a first switch and a first link of these levels
+abbrev three_devices : ℕ → ℕ → ℕ → Group
+three_devices t a l = record {
+  name = codes "dc1";
+  device_names = codes "t1" ∷ codes "t2" ∷ codes "a1" ∷ [];
+  link_names = codes "l1" ∷ codes "l2" ∷ [];
+  devices = device true usual t ∷ device true usual 5 ∷ device false usual a ∷ [];
+  links = record { a = 0; b = 2; capacity = 10; vals = record { v0 = 1; v1 = 1; v2 = 0; v3 = 0 }; health = l } ∷ link 1 2 ∷ [];
+  promises = [];
+}
+
+-- of a link's lacks the first end's stands before the second's, and both before its own
+first_end_first : replies (three_devices 2 3 0) (propose up (Link 0) Iface 2 ∷ Check ∷ []) ≡ Queued 1 ∷ decided 1 2 (Refused (NotControllable (row (Link 0) Iface 2) (Level t1 2 4))) ∷ []
+first_end_first = refl
+
+second_end_next : replies (three_devices 5 3 0) (propose up (Link 0) Iface 2 ∷ Check ∷ []) ≡ Queued 1 ∷ decided 1 2 (Refused (NotControllable (row (Link 0) Iface 2) (Level (Device 2) 3 4))) ∷ []
+second_end_next = refl
+
+-- a link without its level takes no interface, and takes its power
+own_level_last : replies (three_devices 5 4 0) (propose up (Link 0) Iface 2 ∷ Check ∷ propose up (Link 0) LinkPower 0 ∷ Check ∷ []) ≡ Queued 1 ∷ decided 1 2 (Refused (NotControllable (row (Link 0) Iface 2) (Level (Link 0) 0 1))) ∷ Queued 2 ∷ decided 2 4 (Accepted 1) ∷ []
+own_level_last = refl
+
+-- the level stands before the power
+level_before_power : let g = two_paths 50 (device false usual 2) (device false usual 5) in replies g (Submit up (row a1 Power 0 ∷ row a1 Config 2 ∷ []) ∷ Check ∷ []) ≡ Queued 1 ∷ decided 1 2 (Refused (NotControllable (row a1 Config 2) (Level a1 2 3))) ∷ []
+level_before_power = refl
+
+-- a device that opens off has level 1: it takes its power and no firmware
+off_has_level_one : let g = two_paths 50 (device false (device_vals 0 1 1 1) 5) (device false usual 5) in replies g (Submit up (row a1 Power 1 ∷ row a1 Firmware 2 ∷ []) ∷ Check ∷ propose up a1 Power 1 ∷ Check ∷ []) ≡ Queued 1 ∷ decided 1 2 (Refused (NotControllable (row a1 Firmware 2) (Level a1 1 2))) ∷ Queued 2 ∷ decided 2 4 (Accepted 1) ∷ []
+off_has_level_one = refl
+
+-- a lack of a later row stands before a lock on an earlier one
+lack_before_lock : let g = two_paths 50 (device false usual 5) (device false usual 0) in replies g (Lock te a1 Low ∷ Submit up (row a1 Firmware 2 ∷ row a2 Routing 0 ∷ []) ∷ Check ∷ []) ≡ Granted ∷ Queued 1 ∷ decided 1 3 (Refused (NotControllable (row a2 Routing 0) (Level a2 0 4))) ∷ []
+lack_before_lock = refl
+
+-- Commands
+
+-- values that came of themselves to the target's are sent all the same, by the level that power needs, and leave the stamp
+power_governs : replies q (propose up a1 Firmware 2 ∷ Check ∷ Fail a1 (device_vals 1 2 1 1) 5 ∷ make_report a1 ∷ Hear 1 ∷ Send a1 ∷ []) ≡ Queued 1 ∷ decided 1 2 (Accepted 1) ∷ Changed ∷ Reported 1 ∷ Taken ∷ Sent 1 ∷ []
+power_governs = refl
+
+power_blocks : replies q (propose up a1 Firmware 2 ∷ Check ∷ Fail a1 (device_vals 1 2 1 1) 0 ∷ make_report a1 ∷ Hear 1 ∷ Send a1 ∷ []) ≡ Queued 1 ∷ decided 1 2 (Accepted 1) ∷ Changed ∷ Reported 1 ∷ Taken ∷ Blocked (row a1 Power 1) ∷ []
+power_blocks = refl
+
+same_values_renew_nothing : stamp q (after q (propose up a1 Firmware 2 ∷ Check ∷ Fail a1 (device_vals 1 2 1 1) 5 ∷ make_report a1 ∷ Hear 1 ∷ [])) a1 ≡ 2
+same_values_renew_nothing = refl
+
+-- a report that was made at work neither settles nor renews, and its level blocks
+abbrev heard_at_work : List Event
+heard_at_work = propose up a1 Firmware 2 ∷ Check ∷ Send a1 ∷ Deliver 1 ∷ make_report a1 ∷ Hear 1 ∷ []
+
+busy_report_settles_nothing : (stamp q (after q heard_at_work) a1 ≡ 2) × (is_settled q (after q heard_at_work) a1 ≡ false) × (reply q (after q heard_at_work) (Send a1) ≡ Blocked (row a1 Firmware 2))
+busy_report_settles_nothing = (refl, refl, refl)
+
+-- a command whose stamp is the fence is stale
+equal_stamp_is_stale : replies q (propose up a1 Firmware 2 ∷ Check ∷ Send a1 ∷ Deliver 1 ∷ Deliver 1 ∷ Finish a1 ∷ Deliver 1 ∷ []) ≡ Queued 1 ∷ decided 1 2 (Accepted 1) ∷ Sent 1 ∷ Begun ∷ Stale 2 ∷ Done ∷ Stale 2 ∷ []
+equal_stamp_is_stale = refl
+
+-- numbers of messages, and numbers of one entity's reports, are two things
+two_numbers_of_a_report : replies q (make_report a1 ∷ make_report a2 ∷ make_report a1 ∷ Hear 3 ∷ Hear 1 ∷ Hear 2 ∷ Hear 4 ∷ []) ≡ Reported 1 ∷ Reported 2 ∷ Reported 3 ∷ Taken ∷ Old 2 ∷ Taken ∷ NoSuch 3 ∷ []
+two_numbers_of_a_report = refl
+
+-- Promises
+
+-- two ways from the first device to the second, over a switch that both take
+abbrev one_way_in : ℕ → ℕ → Group
+one_way_in from to = record {
+  name = codes "dc1";
+  device_names = codes "t1" ∷ codes "t2" ∷ codes "a1" ∷ codes "a2" ∷ [];
+  link_names = codes "l1" ∷ codes "l2" ∷ codes "l3" ∷ codes "l4" ∷ [];
+  devices = device true usual 5 ∷ device true usual 5 ∷ device false usual 5 ∷ device false usual 5 ∷ [];
+  links = wide_link 0 2 30 ∷ wide_link 2 1 10 ∷ wide_link 2 3 10 ∷ wide_link 3 1 10 ∷ [];
+  promises = record { a = from; b = to; percent = 100 } ∷ [];
+}
+
+-- the least side is not always the first ToR alone, and is that of the promise's first end
+side_of_two : replies (one_way_in 0 1) (propose up a2 Firmware 2 ∷ Check ∷ []) ≡ Queued 1 ∷ decided 1 2 (Refused (broken_cause (record { promise = 0; kind = Short; need = 20; has = 10; side = 0 ∷ 2 ∷ [] }))) ∷ []
+side_of_two = refl
+
+side_of_other_end : replies (one_way_in 1 0) (propose up a2 Firmware 2 ∷ Check ∷ []) ≡ Queued 1 ∷ decided 1 2 (Refused (broken_cause (record { promise = 0; kind = Short; need = 20; has = 10; side = 1 ∷ [] }))) ∷ []
+side_of_other_end = refl
+
+-- a promise of 0 percent asks for a walk
+walk_is_asked_for : replies (small 0) (propose up a1 Routing 0 ∷ propose up a2 Routing 0 ∷ Check ∷ Check ∷ []) ≡ Queued 1 ∷ Queued 2 ∷ decided 1 3 (Accepted 1) ∷ decided 2 4 (breaks CutOff 0 0) ∷ []
+walk_is_asked_for = refl
+
+-- a pair that is never joined needs 0; its promise does not hold, and refuses nothing
+abbrev never_joined : Group
+never_joined = record {
+  name = codes "dc1";
+  device_names = codes "t1" ∷ codes "t2" ∷ codes "a1" ∷ [];
+  link_names = codes "l1" ∷ [];
+  devices = device true usual 5 ∷ device true usual 5 ∷ device false usual 5 ∷ [];
+  links = link 0 2 ∷ [];
+  promises = record { a = 0; b = 1; percent = 100 } ∷ [];
+}
+
+never_held_refuses_nothing : (need_of never_joined (promise_of never_joined 0) ≡ 0) × (is_kept never_joined (actual never_joined []) (promise_of never_joined 0) ≡ false) × (replies never_joined (propose up t1 Firmware 2 ∷ Check ∷ []) ≡ Queued 1 ∷ decided 1 2 (Accepted 1) ∷ [])
+never_held_refuses_nothing = (refl, refl, refl)
+
+-- a need is rounded up
+need_rounds_up : map (λ n. need_of (small n) (promise_of (small n) 0)) (0 ∷ 1 ∷ 5 ∷ 50 ∷ 51 ∷ 99 ∷ 100 ∷ []) ≡ 0 ∷ 1 ∷ 1 ∷ 10 ∷ 11 ∷ 20 ∷ 20 ∷ []
+need_rounds_up = refl
+
+-- two rows' entities leave the sure set together; the entity of a row that alters nothing stays
+rows_leave_together : replies q (Submit up (row a1 Firmware 2 ∷ row a2 Firmware 2 ∷ []) ∷ Check ∷ Submit up (row a1 Firmware 2 ∷ row a2 Firmware 1 ∷ []) ∷ Check ∷ []) ≡ Queued 1 ∷ decided 1 2 (breaks CutOff 10 0) ∷ Queued 2 ∷ decided 2 4 (Accepted 1) ∷ []
+rows_leave_together = refl
+
+-- Stamps and targets
+
+-- a target that came back to what was observed is not settled before a command of its stamp was carried out
+abbrev came_back : List Event
+came_back = propose up a1 Firmware 2 ∷ Check ∷ propose up a1 Firmware 1 ∷ Check ∷ []
+
+back_is_not_settled : (stamp q (after q came_back) a1 ≡ 4) × (is_settled q (after q came_back) a1 ≡ false) × (target q (after q came_back) a1 Firmware ≡ 1) × (replies q (came_back ++ propose up a2 Firmware 2 ∷ Check ∷ []) ≡ Queued 1 ∷ decided 1 2 (Accepted 1) ∷ Queued 2 ∷ decided 2 4 (Accepted 2) ∷ Queued 3 ∷ decided 3 6 (breaks CutOff 10 0) ∷ [])
+back_is_not_settled = (refl, refl, refl, refl)
+
+-- the target behind so many entries
+abbrev two_acceptances : List Event
+two_acceptances = propose te a1 Config 5 ∷ propose up a1 Config 7 ∷ Check ∷ Check ∷ []
+
+targets_by_entries : map (λ n. (target_at q (after q two_acceptances) n a1).v2) (0 ∷ 2 ∷ 3 ∷ 4 ∷ 100 ∷ []) ≡ 1 ∷ 1 ∷ 5 ∷ 7 ∷ 7 ∷ []
+targets_by_entries = refl
+
+-- a report that is heard twice renews once, and a later one of the old fence does not renew the new stamp
+renewed_once : let past = after q (Fail a1 (device_vals 1 9 1 1) 5 ∷ make_report a1 ∷ Hear 1 ∷ make_report a1 ∷ Hear 1 ∷ Hear 2 ∷ []) in (stamp q past a1 ≡ 3) × (is_settled q past a1 ≡ false)
+renewed_once = (refl, refl)
+
+-- Locks
+
+-- an entity's two locks have holders of their own, and the high one counts while it is held
+two_locks_of_one : replies q (Lock te a1 High ∷ Lock up a1 Low ∷ propose up a1 Firmware 2 ∷ propose te a1 Firmware 3 ∷ Check ∷ Check ∷ Unlock up a1 High ∷ Unlock te a1 Low ∷ Unlock te a1 High ∷ propose te a1 Firmware 4 ∷ Check ∷ []) ≡
+    Granted ∷ Granted ∷ Queued 1 ∷ Queued 2 ∷ decided 1 5 (Refused (Locked a1 te High)) ∷ decided 2 6 (Accepted 1) ∷ NotYours (Some te) ∷ NotYours (Some up) ∷ Released ∷ Queued 3 ∷ decided 3 11 (Refused (Locked a1 up Low)) ∷ []
+two_locks_of_one = refl

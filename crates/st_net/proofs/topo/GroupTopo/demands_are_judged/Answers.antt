@@ -1,0 +1,5 @@
+use Rattle.st_net.proofs.DemandLaws.{holds_with_more, tells_demands, breaks_none}
+use Rattle.st_net.proofs.topo.GroupTopo.demands_are_judged.Goals as goal
+
+pub returns : goal.returns
+returns c = record { more = holds_with_more c.args.self.now; tells = tells_demands c.args.self.now c.is_sound.ensures; none_breaks = breaks_none c.args.self.now }
