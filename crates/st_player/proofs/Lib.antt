@@ -19,7 +19,13 @@ pub mod ToldCuts
 pub mod ToldEntries
 pub mod Ups
 pub mod WeighLemmas
+mod WorkedCalls
 mod WorkedCuts
 mod WorkedEntries
-mod WorkedStates
+mod WorkedFields
+mod WorkedGroup
+mod WorkedLosses
+mod WorkedPictures
 mod WorkedPlayedBack
+mod WorkedRefusals
+mod WorkedStates

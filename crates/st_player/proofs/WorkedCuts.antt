@@ -1,5 +1,5 @@
 -- Worked examples: the cuts of a group of two ToRs, each linked to two switches, for each part of the definitions one that no other part gives.
-use Rattle.std.proofs.Common.{◌≡◌, ℕ, true, false, Bool, List, [], ◌∷◌, refl, codes}
+use Rattle.std.proofs.Common.{◌≡◌, ℕ, true, false, Bool, List, [], ◌∷◌, refl}
 use Rattle.std.specs.Prelude.{◌&&◌, not}
 use Rattle.st_net.specs.declared.entity.Entity.{Entity}
 use Rattle.st_net.specs.declared.entity.Entity.TheVariants.{Device, Link}
@@ -7,33 +7,12 @@ use Rattle.st_net.specs.declared.entity.Row.{Row}
 use Rattle.st_net.specs.declared.entity.Var.TheVariants.{Firmware}
 use Rattle.st_net.specs.declared.promise.Broken.{Broken}
 use Rattle.st_net.specs.declared.promise.BrokenKind.TheVariants.{CutOff}
-use Rattle.st_net.specs.declared.topo.DeviceOpening.{DeviceOpening}
-use Rattle.st_net.specs.declared.topo.LinkOpening.{LinkOpening}
 use Rattle.st_net.specs.Cuts.{numbers_in}
 use Rattle.st_net.specs.Entities.{is_same_entity}
-use Rattle.st_net.specs.Groups.{Group}
-use Rattle.st_event.specs.declared.event.Event.{Event}
-use Rattle.st_event.specs.declared.event.Event.TheVariants.{Submit, Check}
+use Rattle.st_event.specs.declared.event.Event.TheVariants.{Check}
 use Rattle.st_event.specs.declared.journal.Entry.{Entry}
-use Rattle.st_event.specs.Replies.{reply}
 use Rattle.st_player.specs.Cuts.{crossing_links, cut_of, is_device_of, is_far, is_part_of, numbers_of, part_of}
-
-abbrev device : Bool → DeviceOpening
-device tor = record { tor = tor; vals = record { v0 = 1; v1 = 1; v2 = 1; v3 = 1 }; health = 5 }
-
-abbrev link : ℕ → ℕ → LinkOpening
-link a b = record { a = a; b = b; capacity = 10; vals = record { v0 = 1; v1 = 1; v2 = 0; v3 = 0 }; health = 1 }
-
--- devices t1, t2, a1, a2 and links l1 to l4
-abbrev q : Group
-q = record {
-  name = codes "dc1";
-  device_names = codes "t1" ∷ codes "t2" ∷ codes "a1" ∷ codes "a2" ∷ [];
-  link_names = codes "l1" ∷ codes "l2" ∷ codes "l3" ∷ codes "l4" ∷ [];
-  devices = device true ∷ device true ∷ device false ∷ device false ∷ [];
-  links = link 0 2 ∷ link 0 3 ∷ link 1 2 ∷ link 1 3 ∷ [];
-  promises = record { a = 0; b = 1; percent = 50 } ∷ [];
-}
+use Rattle.st_player.proofs.WorkedGroup.{a1, a2, asks, q, row, run}
 
 abbrev all_up : Entity → Bool
 all_up e = true
@@ -108,18 +87,14 @@ not_sure = refl
 
 -- the second of two proposals that change a1 and a2, behind the first: both links of t1 would be out, and a1 was not sure before
 abbrev change : Entity → List Row
-change e = record { entity = e; var = Firmware; value = 2 } ∷ []
-
-abbrev run : List Event → List Entry → List Entry
-run [] past = past
-run (event ∷ events) past = run events (record { event = event; reply = reply q past event } ∷ past)
+change e = row e Firmware 2 ∷ []
 
 abbrev past : List Entry
-past = run (Submit (record { 0 = 0 }) (change (Device 2)) ∷ Submit (record { 0 = 0 }) (change (Device 3)) ∷ Check ∷ []) []
+past = run q (asks (change a1) ∷ asks (change a2) ∷ Check ∷ [])
 
 abbrev broken : Broken
 broken = record { promise = 0; kind = CutOff; need = 10; has = 0; side = 0 ∷ [] }
 
-one_at_a_time : cut_of q past (change (Device 3)) broken ≡ record { far = 1 ∷ []; left = []; out = 0 ∷ 1 ∷ []; changes = 3 ∷ []; gone = 2 ∷ [] }
+one_at_a_time : cut_of q past (change a2) broken ≡ record { far = 1 ∷ []; left = []; out = 0 ∷ 1 ∷ []; changes = 3 ∷ []; gone = 2 ∷ [] }
 unfolding cut_of is_far
 one_at_a_time = refl

@@ -49,6 +49,35 @@ journal g
 const UNTOLD_DATA: &str =
     r#"{"apps":[],"groups":[{"devices":[{"name":"a"}],"entries":[{"line":"report a : reported 1","on":[0]},{"line":"fail a 0 power=1 firmware=1 config=1 routing=1 : changed","on":[0],"set":[{"entity":0,"is":"failed","untold":1,"works":0}]},{"line":"hear 1 : taken","on":[0]},{"line":"report a : reported 2","on":[0]},{"line":"hear 2 : taken","on":[0],"set":[{"entity":0,"known":"settled","level":0,"untold":0}]}],"first":0,"links":[],"name":"g","opening":{"network":{"lost":[]},"of":[0],"pending":0,"states":[{"fence":0,"high":null,"is":"up","known":"sure","level":5,"low":null,"real":[1,1,1,1],"seen":[1,1,1,1],"stamp":0,"target":[1,1,1,1],"untold":0,"works":5}],"sure":{"lost":[]},"version":0},"promises":[],"total":5}],"statesman":1}"#;
 
+/// A switch fails untold, so the other may be drained: the promise is lost once that begins, and back with the first switch.
+const LOST: &str = "statesman 1
+group dc1
+device t1 tor
+device t2 tor
+device a1 switch
+device a2 switch
+link l1 t1 a1 10
+link l2 t1 a2 10
+link l3 t2 a1 10
+link l4 t2 a2 10
+promise t1 t2 50
+app up
+journal dc1
+1 fail a2 0 power=1 firmware=1 config=1 routing=1 : changed
+2 submit up a1.routing=0 : queued 1
+3 check : receipt 1 accepted 1
+4 send a1 : sent 1
+5 deliver 1 : begun
+6 finish a1 : done
+7 report a1 : reported 1
+8 hear 1 : taken
+9 fail a2 5 power=1 firmware=1 config=1 routing=1 : changed
+";
+
+/// Its data behind four entries: what counts as sure loses nothing.
+const LOST_DATA: &str =
+    r#"{"apps":["up"],"groups":[{"devices":[{"name":"t1","tor":1},{"name":"t2","tor":1},{"name":"a1"},{"name":"a2"}],"entries":[{"line":"deliver 1 : begun","network":{"lost":[0]},"on":[2],"set":[{"entity":2,"is":"busy","works":1},{"entity":4,"open":0},{"entity":6,"open":0}]},{"line":"finish a1 : done","on":[2],"set":[{"entity":2,"is":"drained","real":[1,1,1,0],"works":5}]},{"line":"report a1 : reported 1","on":[2]},{"line":"hear 1 : taken","on":[2],"set":[{"entity":2,"fence":3,"known":"settled","seen":[1,1,1,0]}]},{"line":"fail a2 5 power=1 firmware=1 config=1 routing=1 : changed","network":{"back":[0]},"on":[3],"set":[{"entity":3,"is":"up","works":5},{"entity":5,"open":1},{"entity":7,"open":1}]}],"first":4,"links":[{"capacity":10,"ends":[0,2],"name":"l1"},{"capacity":10,"ends":[0,3],"name":"l2"},{"capacity":10,"ends":[1,2],"name":"l3"},{"capacity":10,"ends":[1,3],"name":"l4"}],"name":"dc1","opening":{"network":{"lost":[]},"of":[0,0,1,2,3,4,3,4],"pending":0,"states":[{"fence":0,"high":null,"is":"up","known":"sure","level":5,"low":null,"real":[1,1,1,1],"seen":[1,1,1,1],"stamp":0,"target":[1,1,1,1],"untold":0,"works":5},{"fence":0,"high":null,"is":"up","known":"waiting","level":5,"low":null,"real":[1,1,1,1],"seen":[1,1,1,1],"stamp":3,"target":[1,1,1,0],"untold":0,"works":5},{"fence":0,"high":null,"is":"failed","known":"sure","level":5,"low":null,"real":[1,1,1,1],"seen":[1,1,1,1],"stamp":0,"target":[1,1,1,1],"untold":1,"works":0},{"fence":0,"high":null,"is":"up","known":"sure","level":1,"low":null,"open":1,"real":[1,1],"seen":[1,1],"stamp":0,"target":[1,1],"untold":0,"works":1},{"fence":0,"high":null,"is":"up","known":"sure","level":1,"low":null,"open":0,"real":[1,1],"seen":[1,1],"stamp":0,"target":[1,1],"untold":0,"works":1}],"sure":{"lost":[]},"version":1},"promises":[{"ends":[0,1],"need":10,"percent":50,"start":1}],"total":9}],"statesman":1}"#;
+
 /// A document of 16 groups of one switch each. The first group's journal has so many reports.
 fn reports(alloc: Global, count: u32) -> Result<String, AllocError> {
     let mut text = format!(in alloc; "statesman 1\n")?;
@@ -120,6 +149,11 @@ fn a_group_shows_as_many_entries_as_its_share_has_room_for(rt: HostRuntime) -> R
 #[test]
 fn an_untold_failure_is_told_by_a_later_report(rt: HostRuntime) -> Result<(), Fail> {
     shows(rt.alloc(), UNTOLD, 0, UNTOLD_DATA)
+}
+
+#[test]
+fn a_promise_is_lost_in_the_network_alone_and_comes_back(rt: HostRuntime) -> Result<(), Fail> {
+    shows(rt.alloc(), LOST, 4, LOST_DATA)
 }
 
 #[test]
