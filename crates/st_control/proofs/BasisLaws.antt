@@ -18,7 +18,7 @@ use Rattle.st_promise.specs.Same.{HasSameNetwork}
 use Rattle.st_promise.specs.ToFirst.{told_to}
 use Rattle.st_promise.proofs.SameLaws.{same_kept, same_first}
 use Rattle.st_net.specs.declared.promise.Promise.{Promise}
-use Rattle.st_control.specs.Checker.{Checker, standing_in}
+use Rattle.st_control.specs.Control.{ControlView, standing_in}
 use Rattle.st_control.specs.Verdict.{sure_without}
 use Rattle.st_control.specs.Basis.{JudgedView, IsJudged}
 use Rattle.st_control.proofs.CheckLemmas.{same_without}
@@ -49,5 +49,5 @@ pub known_none : (g : Group) (up : Entity → Bool) → AreKept g up []
 known_none g up i low marked = cc
 
 -- what is left is what the rows of the oldest proposal leave
-pub left_is : (k : Checker) (left changed : Marks) (rows : List Row) → is_in left ≡ sure_without k changed → is_in changed ≡ alters k.group (value_in k.store.target) rows → rows ≡ first_rows k.store.pending → is_in left ≡ without_altered k.group (sure_in k.group (standing_in k)) (value_in k.store.target) (first_rows k.store.pending)
+pub left_is : (k : ControlView) (left changed : Marks) (rows : List Row) → is_in left ≡ sure_without k changed → is_in changed ≡ alters k.group (value_in k.store.target) rows → rows ≡ first_rows k.store.pending → is_in left ≡ without_altered k.group (sure_in k.group (standing_in k)) (value_in k.store.target) (first_rows k.store.pending)
 left_is k left changed rows left_by altered first = left_by ∙ same_without k changed rows altered ∙ ap (without_altered k.group (sure_in k.group (standing_in k)) (value_in k.store.target)) first

@@ -23,7 +23,7 @@ use Rattle.st_event.specs.Proposals.{first_rows}
 use Rattle.st_store.specs.Changes.{value_at}
 use Rattle.st_store.specs.Store.{StoreView, Decides}
 use Rattle.st_net.specs.InOrder.{stamp_in}
-use Rattle.st_control.specs.Checker.{Checker, standing_in, Moves}
+use Rattle.st_control.specs.Control.{ControlView, standing_in, Moves}
 use Rattle.st_control.specs.Verdict.{IsFirst, IsLatest, verdict_in, row_refusal, sure_without, first_broken_without, AreJudgedIn, IsJudgedIn, decided_as}
 use Rattle.st_control.proofs.StampLaws.{stamped_is}
 
@@ -45,13 +45,13 @@ some_first None None c cause some = cc
 some_first None (Some x) c cause some = some
 some_first (Some x) b c cause some = some
 
-pub same_without : (k : Checker) (changed : Marks) (rows : List Row) → is_in changed ≡ alters k.group (value_in k.store.target) rows → sure_without k changed ≡ without_altered k.group (sure_in k.group (standing_in k)) (value_in k.store.target) rows
+pub same_without : (k : ControlView) (changed : Marks) (rows : List Row) → is_in changed ≡ alters k.group (value_in k.store.target) rows → sure_without k changed ≡ without_altered k.group (sure_in k.group (standing_in k)) (value_in k.store.target) rows
 same_without k changed rows is = ap (λ (f : Entity → Bool). λ (e : Entity). sure_in k.group (standing_in k) e && not (f e)) is
 
-pub verdict_barred : (k : Checker) (app : AppId) (rows : List Row) (cause : Cause) → Some cause ≡ row_refusal k app rows → Refused cause ≡ verdict_in k.group (standing_in k) app rows
+pub verdict_barred : (k : ControlView) (app : AppId) (rows : List Row) (cause : Cause) → Some cause ≡ row_refusal k app rows → Refused cause ≡ verdict_in k.group (standing_in k) app rows
 verdict_barred k app rows cause some = ap (λ (c : Option Cause). refusal_or_version c k.store.version) (sym (some_first (first_lack k.group (standing_in k).observed (target_with (value_in k.store.target) rows) rows) (first_locked (standing_in k).holder app rows) _ cause (sym some)))
 
-pub verdict_by : (k : Checker) (app : AppId) (rows : List Row) (changed : Marks) (broken : Option Broken) → None ≡ row_refusal k app rows → is_in changed ≡ alters k.group (value_in k.store.target) rows → broken ≡ first_broken_without k changed → refusal_or_version (option_map broken_cause broken) k.store.version ≡ verdict_in k.group (standing_in k) app rows
+pub verdict_by : (k : ControlView) (app : AppId) (rows : List Row) (changed : Marks) (broken : Option Broken) → None ≡ row_refusal k app rows → is_in changed ≡ alters k.group (value_in k.store.target) rows → broken ≡ first_broken_without k changed → refusal_or_version (option_map broken_cause broken) k.store.version ≡ verdict_in k.group (standing_in k) app rows
 verdict_by k app rows changed broken none is breaks =
     ap (λ (c : Option Cause). refusal_or_version c k.store.version)
     (ap (option_map broken_cause) breaks
@@ -59,14 +59,14 @@ verdict_by k app rows changed broken none is breaks =
     ∙ sym (none_first (first_lack k.group (standing_in k).observed (target_with (value_in k.store.target) rows) rows) (first_locked (standing_in k).holder app rows) _ (sym none)))
 
 -- what stands against a proposal by what stands against its rows
-pub judged_barred : (k : Checker) (p : Proposal) (rows : Weighed) (cause : Cause) → AreJudgedIn k p rows → rows.refusal ≡ Some cause → IsJudgedIn k p (record { refusal = Some cause; changed = rows.changed })
+pub judged_barred : (k : ControlView) (p : Proposal) (rows : Weighed) (cause : Cause) → AreJudgedIn k p rows → rows.refusal ≡ Some cause → IsJudgedIn k p (record { refusal = Some cause; changed = rows.changed })
 judged_barred k p rows cause are some = record {
   decision = verdict_barred k p.app p.rows cause (sym some ∙ are.first);
   marks = are.marks;
   altered = are.altered;
 }
 
-pub judged_by : (k : Checker) (p : Proposal) (rows : Weighed) (cause : Option Cause) → AreJudgedIn k p rows → rows.refusal ≡ None → cause ≡ option_map broken_cause (first_broken_without k rows.changed) → IsJudgedIn k p (record { refusal = cause; changed = rows.changed })
+pub judged_by : (k : ControlView) (p : Proposal) (rows : Weighed) (cause : Option Cause) → AreJudgedIn k p rows → rows.refusal ≡ None → cause ≡ option_map broken_cause (first_broken_without k rows.changed) → IsJudgedIn k p (record { refusal = cause; changed = rows.changed })
 judged_by k p rows cause are none is = record {
   decision = ap (λ (c : Option Cause). refusal_or_version c k.store.version) is ∙ verdict_by k p.app p.rows rows.changed (first_broken_without k rows.changed) (sym none ∙ are.first) are.altered refl;
   marks = are.marks;
@@ -74,7 +74,7 @@ judged_by k p rows cause are none is = record {
 }
 
 -- deciding the oldest proposal moves the checker: where it is refused
-pub refused_moves : (k : Checker) (new : StoreView) (p : Proposal) (n : ℕ) (cause : Cause) (judged : Weighed) → IsFirst k.store p → IsJudgedIn k p judged → judged.refusal ≡ Some cause → Decides k.store new n false → Moves k (record k { store = new }) n Check (decided_as k n (Refused cause))
+pub refused_moves : (k : ControlView) (new : StoreView) (p : Proposal) (n : ℕ) (cause : Cause) (judged : Weighed) → IsFirst k.store p → IsJudgedIn k p judged → judged.refusal ≡ Some cause → Decides k.store new n false → Moves k (record k { store = new }) n Check (decided_as k n (Refused cause))
 refused_moves k new p n cause judged first is some decides =
     let decision : verdict_in k.group (standing_in k) p.app p.rows ≡ Refused cause = sym is.decision ∙ ap (λ (c : Option Cause). refusal_or_version c k.store.version) some in
     record {
@@ -85,7 +85,7 @@ refused_moves k new p n cause judged first is some decides =
     }
 
 -- and where it is accepted
-pub accepted_moves : (k : Checker) (new : StoreView) (stamps : List ℕ) (p : Proposal) (n version : ℕ) (judged : Weighed) → IsFirst k.store p → IsJudgedIn k p judged → judged.refusal ≡ None → IsLatest k.store → Decides k.store new n true → version ≡ new.version → stamp_in k.group stamps ≡ (λ e. if is_in judged.changed e then n else stamp_in k.group k.stamps e) → Moves k (record k { store = new; stamps = stamps }) n Check (decided_as k n (Accepted version))
+pub accepted_moves : (k : ControlView) (new : StoreView) (stamps : List ℕ) (p : Proposal) (n version : ℕ) (judged : Weighed) → IsFirst k.store p → IsJudgedIn k p judged → judged.refusal ≡ None → IsLatest k.store → Decides k.store new n true → version ≡ new.version → stamp_in k.group stamps ≡ (λ e. if is_in judged.changed e then n else stamp_in k.group k.stamps e) → Moves k (record k { store = new; stamps = stamps }) n Check (decided_as k n (Accepted version))
 accepted_moves k new stamps p n version judged first is none latest decides counted stamped =
     let decision : verdict_in k.group (standing_in k) p.app p.rows ≡ Accepted version = sym is.decision ∙ ap (λ (c : Option Cause). refusal_or_version c k.store.version) none ∙ ap Accepted (sym (counted ∙ decides.version)) in
     let altered = stamped_is k.group judged.changed (value_in k.store.target) p.rows n k.stamps stamps is.altered stamped in

@@ -14,14 +14,14 @@ use Rattle.st_store.specs.Store.{StoreView, put_answer, store_put}
 use Rattle.st_event.specs.declared.event.Proposal.{Proposal}
 use Rattle.st_event.specs.declared.reply.Reply.{Reply}
 use Rattle.st_control.specs.declared.control.Weighed.{Weighed}
-use Rattle.st_control.specs.Checker.{Checker, Moves, with_runs, reply_of_put}
+use Rattle.st_control.specs.Control.{ControlView, Moves, with_runs, reply_of_put}
 use Rattle.st_control.specs.Inside.{FitsGroup}
 use Rattle.st_control.specs.Verdict.{IsJudgedIn}
 
-pub judged_with : (k : Checker) (n : ℕ) (p : Proposal) (w : Weighed) → IsJudgedIn k p w → IsJudgedIn (with_runs k n) p w
+pub judged_with : (k : ControlView) (n : ℕ) (p : Proposal) (w : Weighed) → IsJudgedIn k p w → IsJudgedIn (with_runs k n) p w
 judged_with k n p w judged = record { decision = judged.decision; marks = judged.marks; altered = judged.altered }
 
-pub moves_from : (k : Checker) (n : ℕ) (new : Checker) (entry : ℕ) (event : Event) (answer : Reply) → Moves (with_runs k n) new entry event answer → Moves k new entry event answer
+pub moves_from : (k : ControlView) (n : ℕ) (new : ControlView) (entry : ℕ) (event : Event) (answer : Reply) → Moves (with_runs k n) new entry event answer → Moves k new entry event answer
 moves_from k n new entry event answer moves = record { reply = moves.reply; standing = moves.standing; group = moves.group; versions = moves.versions }
 
 -- the first of proposals that fit fits
@@ -29,13 +29,13 @@ pub first_fits : (g : Group) (pending : List Proposal) (p : Proposal) (rest : Li
 first_fits g pending p rest fits is = let here : All (FitsGroup g) (p ∷ rest) = subst (λ (ps : List Proposal). All (FitsGroup g) ps) is fits in here 0 p (omega arith)
 
 -- a proposal that is put is answered as a Submit calls for
-put_at : (k : Checker) (app : AppId) (rows : List Row) (n : ℕ) (few : Bool) → nat_lt (length k.store.pending) MAX_PENDING ≡ few → (let put = if few then Ticket (k.store.tickets + 1) else Full (length k.store.pending) in Moves k (record k { store = store_put put k.store (record { app = app; rows = rows }) }) n (Submit app rows) (reply_of_put put))
+put_at : (k : ControlView) (app : AppId) (rows : List Row) (n : ℕ) (few : Bool) → nat_lt (length k.store.pending) MAX_PENDING ≡ few → (let put = if few then Ticket (k.store.tickets + 1) else Full (length k.store.pending) in Moves k (record k { store = store_put put k.store (record { app = app; rows = rows }) }) n (Submit app rows) (reply_of_put put))
 put_at k app rows n true is = record { reply = λ w. rw is refl; standing = λ w. refl; group = refl; versions = refl }
 put_at k app rows n false is = record { reply = λ w. rw is refl; standing = λ w. refl; group = refl; versions = refl }
 
-put_moves : (k : Checker) (new : StoreView) (app : AppId) (rows : List Row) (put : Put) (n : ℕ) → put ≡ put_answer k.store → new ≡ store_put put k.store (record { app = app; rows = rows }) → Moves k (record k { store = new }) n (Submit app rows) (reply_of_put put)
+put_moves : (k : ControlView) (new : StoreView) (app : AppId) (rows : List Row) (put : Put) (n : ℕ) → put ≡ put_answer k.store → new ≡ store_put put k.store (record { app = app; rows = rows }) → Moves k (record k { store = new }) n (Submit app rows) (reply_of_put put)
 put_moves k new app rows put n answer is = rw (is, answer) (put_at k app rows n (nat_lt (length k.store.pending) MAX_PENDING) refl)
 
-pub put_ok : {E : Type 0} (k : Checker) (new : StoreView) (app : AppId) (rows : List Row) (r : Result Put E) → IfOk r (λ put. put ≡ put_answer k.store) → IfOk r (λ put. new ≡ store_put put k.store (record { app = app; rows = rows })) → IfOk r (λ put. (n : ℕ) → Moves k (record k { store = new }) n (Submit app rows) (reply_of_put put))
+pub put_ok : {E : Type 0} (k : ControlView) (new : StoreView) (app : AppId) (rows : List Row) (r : Result Put E) → IfOk r (λ put. put ≡ put_answer k.store) → IfOk r (λ put. new ≡ store_put put k.store (record { app = app; rows = rows })) → IfOk r (λ put. (n : ℕ) → Moves k (record k { store = new }) n (Submit app rows) (reply_of_put put))
 put_ok k new app rows (Ok put) answer is = λ n. put_moves k new app rows put n answer is
 put_ok k new app rows (Err e) answer is = tt

@@ -11,7 +11,7 @@ use Rattle.st_event.specs.Standing.{sure_in}
 use Rattle.st_overlay.specs.Values.{value_in}
 use Rattle.st_promise.specs.Book.{AreNeedsOf, AreKept}
 use Rattle.st_promise.specs.ToFirst.{told_to}
-use Rattle.st_control.specs.Checker.{Checker, standing_in}
+use Rattle.st_control.specs.Control.{ControlView, standing_in}
 
 -- a group and what its promises need; a ticket; the sure entities, and those that the proposal leaves as they are; and which promises
 -- were known to hold while these are up
@@ -56,7 +56,7 @@ pub record IsJudgedOf (b : BasisView) (j : JudgedView) : Type 0 where
   pub after : j.after ≡ b.after
 
 -- what the oldest proposal is judged on, where the checker stands so
-pub record IsBasisOf (k : Checker) (b : BasisView) : Type 0 where
+pub record IsBasisOf (k : ControlView) (b : BasisView) : Type 0 where
   pub group : b.group ≡ k.group
   pub oldest : b.ticket ≡ length k.store.decided + 1
   pub given : b.ticket ≤ k.store.tickets

@@ -8,19 +8,19 @@ use Rattle.st_control.specs.declared.control.Begin.TheVariants.{Basis, Idle}
 use Rattle.st_control.specs.declared.control.Commit.{Commit}
 use Rattle.st_control.specs.declared.control.Commit.TheVariants.{Decided, Gone}
 use Rattle.st_control.specs.Basis.{IsBasisOf}
-use Rattle.st_control.specs.Checker.{Checker, Moves}
+use Rattle.st_control.specs.Control.{ControlView, Moves}
 
 -- a basis, or nothing waits
-abbrev pub Begins : Checker → Begin → Type 0
+abbrev pub Begins : ControlView → Begin → Type 0
 Begins k (Basis basis) = IsBasisOf k basis
 Begins k Idle = k.store.pending ≡ []
 
 -- the ticket was given, and each lower ticket is decided
-pub record MayCommit (k : Checker) (ticket : ℕ) : Type 0 where
+pub record MayCommit (k : ControlView) (ticket : ℕ) : Type 0 where
   pub given : ticket ≤ k.store.tickets
   pub lower : ticket ≤ length k.store.decided + 1
 
 -- the oldest proposal has the ticket and gets the verdict that is called for, whatever was judged; or that ticket was decided, by this entry
-abbrev pub Commits : Checker → Checker → ℕ → ℕ → Commit → Type 0
+abbrev pub Commits : ControlView → ControlView → ℕ → ℕ → Commit → Type 0
 Commits old new n ticket (Decided receipt) = (receipt.ticket ≡ ticket) × Moves old new n Check (decided_reply receipt)
 Commits old new n ticket (Gone entry) = (nth old.store.decided ticket ≡ Some entry) × (new ≡ old)

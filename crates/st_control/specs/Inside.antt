@@ -7,10 +7,10 @@ use Rattle.st_locks.specs.LockRows.{LocksOf}
 use Rattle.st_promise.specs.Book.{IsBookOf}
 use Rattle.st_store.specs.Store.{IsStoreOf}
 use Rattle.st_control.specs.declared.control.Control.TheInside.{Inside}
-use Rattle.st_control.specs.Checker.{Checker}
+use Rattle.st_control.specs.Control.{ControlView}
 use Rattle.st_net.specs.InOrder.{entity_count}
 
-abbrev pub checker_of : Inside → Checker
+abbrev pub checker_of : Inside → ControlView
 checker_of c = record {
   group = c.topo;
   book = c.book.of;
@@ -25,7 +25,7 @@ abbrev pub FitsGroup : Group → Proposal → Type 0
 FitsGroup g p = RowsFit g p.rows
 
 -- a value, a report, a lock and a stamp for each entity, and the book of the promises; rows that fit; and the group that is shared
-pub record IsConsistent (k : Checker) (shared : Group) : Type 0 where
+pub record IsConsistent (k : ControlView) (shared : Group) : Type 0 where
   pub store_of : IsStoreOf k.group k.store
   pub fits : All (FitsGroup k.group) k.store.pending
   pub lock_rows : LocksOf k.group k.locks

@@ -1,4 +1,4 @@
-pub mod Checker
+pub mod Control
 pub mod Verdict
 pub mod Inside
 pub mod Sure

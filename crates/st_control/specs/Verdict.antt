@@ -19,31 +19,31 @@ use Rattle.st_overlay.specs.Values.{value_in}
 use Rattle.st_store.specs.Changes.{value_at}
 use Rattle.st_store.specs.Store.{StoreView}
 use Rattle.st_control.specs.declared.control.Weighed.{Weighed}
-use Rattle.st_control.specs.Checker.{Checker, standing_in}
+use Rattle.st_control.specs.Control.{ControlView, standing_in}
 
 -- the verdict on an application's rows, where the group stands so
 abbrev pub verdict_in : Group → Standing → AppId → List Row → Verdict
 verdict_in g s app rows = judge g s.observed s.target s.holder (sure_in g s) (without_altered g (sure_in g s) s.target rows) s.version app rows
 
 -- the first steps of a verdict, which look at the rows alone: the first row that can't be set, or else the first whose entity is barred
-abbrev pub row_refusal : Checker → AppId → List Row → Option Cause
+abbrev pub row_refusal : ControlView → AppId → List Row → Option Cause
 row_refusal k app rows = cause_or (first_lack k.group (standing_in k).observed (target_with (value_in k.store.target) rows) rows) (first_locked (standing_in k).holder app rows)
 
 -- what stands against a proposal in its rows, and the entities that they alter
-pub record AreJudgedIn (k : Checker) (p : Proposal) (judged : Weighed) : Type 0 where
+pub record AreJudgedIn (k : ControlView) (p : Proposal) (judged : Weighed) : Type 0 where
   pub first : judged.refusal ≡ row_refusal k p.app p.rows
   pub marks : MarksOf k.group judged.changed
   pub altered : is_in judged.changed ≡ alters k.group (value_in k.store.target) p.rows
 
 -- its last step: the first promise that holds of the sure entities, and not without these
-abbrev pub sure_without : Checker → Marks → Entity → Bool
+abbrev pub sure_without : ControlView → Marks → Entity → Bool
 sure_without k changed = λ e. sure_in k.group (standing_in k) e && not (is_in changed e)
 
-abbrev pub first_broken_without : Checker → Marks → Option Broken
+abbrev pub first_broken_without : ControlView → Marks → Option Broken
 first_broken_without k changed = first_broken_of k.group (sure_in k.group (standing_in k)) (sure_without k changed)
 
 -- what stands against a proposal, which gives the verdict, and the entities that its rows alter
-pub record IsJudgedIn (k : Checker) (p : Proposal) (judged : Weighed) : Type 0 where
+pub record IsJudgedIn (k : ControlView) (p : Proposal) (judged : Weighed) : Type 0 where
   pub decision : refusal_or_version judged.refusal k.store.version ≡ verdict_in k.group (standing_in k) p.app p.rows
   pub marks : MarksOf k.group judged.changed
   pub altered : is_in judged.changed ≡ alters k.group (value_in k.store.target) p.rows
@@ -57,5 +57,5 @@ abbrev pub IsLatest : StoreView → Type 0
 IsLatest s = value_at s.versions s.version ≡ value_in s.target
 
 -- the first proposal's receipt
-abbrev pub decided_as : Checker → ℕ → Verdict → Reply
+abbrev pub decided_as : ControlView → ℕ → Verdict → Reply
 decided_as k n verdict = Decided (record { ticket = length k.store.decided + 1; entry = n; verdict = verdict })

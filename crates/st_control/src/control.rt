@@ -15,7 +15,7 @@ ghost use Rattle.st_event.specs.declared.reply.Reply.TheVariants.{Decided as dec
 ghost use Rattle.st_event.specs.Standing.{sure_in, settled_in};
 ghost use Rattle.st_locks.specs.LockRows.{LocksOf};
 ghost use Rattle.st_store.specs.Store.{IsStoreOf, proposal_of};
-ghost use Rattle.st_control.specs.Checker.{IsSameButRuns, Moves, Sends, Hears, OldChangesNothing, IsStart, standing_in, reply_of_put, reply_of_check, reply_of_grant, reply_of_release};
+ghost use Rattle.st_control.specs.Control.{IsSameButRuns, Moves, Sends, Hears, OldChangesNothing, IsStart, standing_in, reply_of_put, reply_of_check, reply_of_grant, reply_of_release};
 ghost use Rattle.st_control.specs.Verdict.{IsFirst, IsLatest, first_broken_without, sure_without, AreJudgedIn, IsJudgedIn, decided_as};
 ghost use Rattle.st_promise.specs.Book.{AreKept};
 ghost use Rattle.st_control.specs.Commits.{Begins, MayCommit, Commits};
@@ -27,6 +27,7 @@ use crate::send::{SendStep, governing_row, shows_other};
 use crate::settled::Shown;
 use crate::stamps::{opening_stamps, stamp_all};
 use crate::sure::{shown_set, take_out};
+use crate::twice::Twice;
 use st_event::{Cause, Receipt, Rows, Verdict};
 use st_locks::{Grant, LockTable, Release};
 use st_net::{AppId, Broken, Command, Entity, EntitySet, GroupTopo, Prio, Report};
@@ -48,20 +49,6 @@ pub enum Check {
     Idle,
 }
 
-/// The answer to a check, twice: one to hand out and one to enter in a journal.
-#[derive(Drop)]
-pub struct Checks {
-    pub told: Check,
-    pub kept: Check,
-}
-
-/// A verdict, twice.
-#[derive(Drop)]
-struct Verdicts {
-    told: Verdict,
-    kept: Verdict,
-}
-
 /// The answer to a begin.
 #[derive(Drop)]
 pub enum Begin {
@@ -78,13 +65,6 @@ pub enum Commit {
     Decided(Receipt),
     /// The entry of this number had decided it before.
     Gone { entry: u32 },
-}
-
-/// A receipt, twice: one to hand out and one to enter in a journal.
-#[derive(Drop)]
-pub struct Receipts {
-    pub told: Receipt,
-    pub kept: Receipt,
 }
 
 /// What stands against a proposal, as far as it was judged, and the entities that its rows alter.
@@ -160,9 +140,9 @@ pub struct Control {
 }
 
 impl Model for Control {
-    ghost use Rattle.st_control.specs.Checker.{Checker};
+    ghost use Rattle.st_control.specs.Control.{ControlView};
 
-    ghost Value = { Checker };
+    ghost Value = { ControlView };
 
     ghost use Rattle.std.specs.Arc.{arc_value};
     ghost use Rattle.st_control.specs.Inside.{checker_of, IsConsistent};
@@ -370,7 +350,7 @@ impl Control {
     }
 
     /// Decides the oldest proposal, of which this was judged, as entry number `entry`. At `Err` nothing has changed.
-    fn decide(&mut self, entry: u32, judged: Weighed) -> Result<Verdicts, AllocError>
+    fn decide(&mut self, entry: u32, judged: Weighed) -> Result<Twice<Verdict>, AllocError>
         requires pending { 0 < length self.old.store.pending }
         requires marks { MarksOf self.old.group judged.changed }
         requires latest { IsLatest self.old.store }
@@ -384,7 +364,7 @@ impl Control {
             Some(cause) => {
                 let kept = cause.copy(self.alloc)?;
                 let _version = self.store.decide(entry, false)?;
-                Ok(Verdicts {
+                Ok(Twice {
                     told: Verdict::Refused(cause),
                     kept: Verdict::Refused(kept),
                 })
@@ -393,7 +373,7 @@ impl Control {
                 let version = self.store.decide(entry, true)?;
                 // What follows cannot fail.
                 stamp_all(&self.topo, self.stamps.as_mut_slice(), &changed, entry);
-                Ok(Verdicts {
+                Ok(Twice {
                     told: Verdict::Accepted { version },
                     kept: Verdict::Accepted { version },
                 })
@@ -403,7 +383,7 @@ impl Control {
 
     /// Decides the oldest proposal that waits, as entry number `entry`, by how the checker stands now. What was judged away from it spares
     /// flows, and changes no verdict. At `Err` nothing has changed but the count of runs.
-    fn decide_oldest(&mut self, entry: u32, judged: Option<&Judged>) -> Result<Receipts, AllocError>
+    fn decide_oldest(&mut self, entry: u32, judged: Option<&Judged>) -> Result<Twice<Receipt>, AllocError>
         requires { 0 < length self.old.store.pending }
         ensures ok { IfOk result (λ receipts. Moves self.old self.new entry check_event (decided_reply receipts.told)) }
         ensures ticket { IfOk result (λ receipts. receipts.told.ticket ≡ length self.old.store.decided + 1) }
@@ -417,8 +397,8 @@ impl Control {
         let ticket = oldest.ticket;
         let rows = self.weigh_rows(oldest)?;
         let weighed = self.weigh(rows, judged)?;
-        let Verdicts { told, kept } = self.decide(entry, weighed)?;
-        Ok(Receipts {
+        let Twice { told, kept } = self.decide(entry, weighed)?;
+        Ok(Twice {
             told: Receipt {
                 ticket,
                 entry,
@@ -434,20 +414,20 @@ impl Control {
 
     /// Decides the oldest proposal that waits, as entry number `entry`, and gives the answer twice: a journal keeps one, and to copy
     /// it once the proposal is decided could fail. At `Err` nothing has changed but the count of runs.
-    pub fn check_twice(&mut self, entry: u32) -> Result<Checks, AllocError>
+    pub fn check_twice(&mut self, entry: u32) -> Result<Twice<Check>, AllocError>
         ensures ok { IfOk result (λ checks. Moves self.old self.new entry check_event (reply_of_check checks.told)) }
         ensures kept { IfOk result (λ checks. checks.kept ≡ checks.told) }
         ensures err { OnErr result (IsSameButRuns self.old self.new) }
         ensures runs { self.old.flows_run ≤ self.new.flows_run }
     {
         if self.store.oldest().is_none() {
-            return Ok(Checks {
+            return Ok(Twice {
                 told: Check::Idle,
                 kept: Check::Idle,
             });
         }
-        let Receipts { told, kept } = self.decide_oldest(entry, None)?;
-        Ok(Checks {
+        let Twice { told, kept } = self.decide_oldest(entry, None)?;
+        Ok(Twice {
             told: Check::Decided(told),
             kept: Check::Decided(kept),
         })
@@ -462,8 +442,8 @@ impl Control {
         Ok(self.check_twice(entry)?.told)
     }
 
-    /// What the oldest proposal that waits is judged on, in copies, so that it can be judged while the checker goes on. `Idle` comes
-    /// exactly where nothing waits.
+    /// What the oldest proposal that waits is judged on, in copies but for the group, which is shared, so that it can be judged while the
+    /// checker goes on. `Idle` comes exactly where nothing waits.
     pub fn begin_check(&self) -> Result<Begin, AllocError>
         ensures { IfOk result (Begins self.now) }
     {
@@ -498,7 +478,7 @@ impl Control {
 
     /// Decides the judged proposal, which is the oldest that waits, as entry number `entry`, and gives the receipt twice, as `check_twice`
     /// does. The verdict is that of how the checker stands now, whatever was judged. At `Err` nothing has changed but the count of runs.
-    pub fn commit_twice(&mut self, entry: u32, judged: &Judged) -> Result<Receipts, AllocError>
+    pub fn commit_twice(&mut self, entry: u32, judged: &Judged) -> Result<Twice<Receipt>, AllocError>
         requires oldest { judged.now.ticket ≡ length self.old.store.decided + 1 }
         requires given { judged.now.ticket ≤ self.old.store.tickets }
         ensures ok { IfOk result (λ receipts. Moves self.old self.new entry check_event (decided_reply receipts.told)) }

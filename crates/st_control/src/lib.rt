@@ -9,9 +9,11 @@ mod send;
 mod settled;
 mod stamps;
 mod sure;
+mod twice;
 
 pub use basis::{Basis, Judged, judge_basis};
-pub use control::{Begin, Check, Checks, Commit, Control, Receipts};
+pub use control::{Begin, Check, Commit, Control};
 pub use replies::{check_reply, grant_reply, keep_reply, put_reply, release_reply};
 pub use send::SendStep;
 pub use st_store::{Keep, Put};
+pub use twice::Twice;

@@ -2,7 +2,7 @@
 
 ghost use Rattle.std.specs.Prelude.{◌≡◌, IsTrue};
 ghost use Rattle.st_event.specs.Events.{is_without_side};
-ghost use Rattle.st_control.specs.Checker.{reply_of_put, reply_of_check, reply_of_grant, reply_of_keep, reply_of_release};
+ghost use Rattle.st_control.specs.Control.{reply_of_put, reply_of_check, reply_of_grant, reply_of_keep, reply_of_release};
 
 use crate::control::Check;
 use st_event::Reply;

@@ -31,8 +31,8 @@ use Rattle.st_token.proofs.RowLemmas.{same_flipped, free_last}
 use Rattle.st_token.specs.Words.{prio_word, assignment_word, value_word, variable_word}
 use Rattle.st_token.proofs.PrintedTokens.{each, row_of, name_word, number_is_word, prio_is_word, assignment_is_word, value_is_word, variable_is_word, literal, ranged, known_name_again, entity_again, number_again, within_again, prio_again, new_assignment_again, new_value_again, variable_again}
 use Rattle.st_grammar.specs.declared.keyword.Keyword.TheVariants as keywords
-use Rattle.st_grammar.specs.declared.keyword.CommandWord.{CommandWord}
-use Rattle.st_grammar.specs.declared.keyword.CommandWord.TheVariants as command_words
+use Rattle.st_grammar.specs.declared.keyword.ActWord.{ActWord}
+use Rattle.st_grammar.specs.declared.keyword.ActWord.TheVariants as act_words
 use Rattle.st_grammar.specs.declared.limits.TheConstants.{MAX_ACTS, MAX_ROUNDS}
 use Rattle.st_grammar.specs.declared.doc.Script.{Script}
 use Rattle.st_grammar.specs.Draft.{GroupDraft, Draft, groups_of, group_names, parts_of}
@@ -155,7 +155,7 @@ pub record Section : Type 0 where
 abbrev pub acting : Section → List Act → Draft
 acting s acts = record { begun = true; phase = 3; groups = s.groups.ended; group = s.groups.last; apps = s.apps; app = Some (record { name = s.name; acts = acts }); order = [] }
 
-command_taken : (s : Section) (acts : List Act) (word : List ℕ) (command : CommandWord) (args : Words) (act : Act) → is_comment word ≡ false → keyword_of word ≡ Some (keywords.Command command) → act_of (acting s acts) command args ≡ Ok act → nat_lt (length acts) MAX_ACTS ≡ true
+command_taken : (s : Section) (acts : List Act) (word : List ℕ) (command : ActWord) (args : Words) (act : Act) → is_comment word ≡ false → keyword_of word ≡ Some (keywords.Act command) → act_of (acting s acts) command args ≡ Ok act → nat_lt (length acts) MAX_ACTS ≡ true
     → tokens_line (acting s acts) (word ∷ args) ≡ Ok (acting s (acts ++ act ∷ []))
 unfolding keyword_line phased_line act_line act_added
 command_taken s acts word command args act plain known e room = rw (plain, known, e, room) refl
@@ -192,11 +192,11 @@ module _ (groups : List Parts) (sound : AllByRecursion IsSoundGroup groups) (new
   group_is_word n k = name_word (group_at groups n).name (named n k)
 
   -- what a command's line asks for, and its words
-  record Asked (command : CommandWord) (args : Words) (act : Act) : Type 0 where
+  record Asked (command : ActWord) (args : Words) (act : Act) : Type 0 where
     taken : act_of here command args ≡ Ok act
     words : AllByRecursion IsWord args
 
-  propose_asked : (n : ℕ) (rows : List Row) (k : GroupKnown here groups n) → RowsFit (group_of (group_at groups n)) rows → Asked command_words.Propose ((group_at groups n).name ∷ assignment_words groups n rows) (Propose n rows)
+  propose_asked : (n : ℕ) (rows : List Row) (k : GroupKnown here groups n) → RowsFit (group_of (group_at groups n)) rows → Asked act_words.Propose ((group_at groups n).name ∷ assignment_words groups n rows) (Propose n rows)
   unfolding propose_of
   propose_asked n [] k fit = absurd (let some = fit.some in omega arith)
   propose_asked n (row ∷ rows) k fit =
@@ -209,36 +209,36 @@ module _ (groups : List Parts) (sound : AllByRecursion IsSoundGroup groups) (new
         words = (group_is_word n k, rows_words (entity_named k.group) name (row ∷ rows) printable);
       }
 
-  await_asked : (n : ℕ) (k : GroupKnown here groups n) → Asked command_words.Await ((group_at groups n).name ∷ []) (Await n)
+  await_asked : (n : ℕ) (k : GroupKnown here groups n) → Asked act_words.Await ((group_at groups n).name ∷ []) (Await n)
   unfolding await_of
   await_asked n k = record { taken = rw (number_known n k) refl; words = (group_is_word n k, tt) }
 
-  settle_asked : (n rounds : ℕ) (k : GroupKnown here groups n) → 1 ≤ rounds → rounds ≤ MAX_ROUNDS → Asked command_words.Settle ((group_at groups n).name ∷ decimal rounds ∷ []) (Settle n rounds)
+  settle_asked : (n rounds : ℕ) (k : GroupKnown here groups n) → 1 ≤ rounds → rounds ≤ MAX_ROUNDS → Asked act_words.Settle ((group_at groups n).name ∷ decimal rounds ∷ []) (Settle n rounds)
   unfolding settle_of
   settle_asked n rounds k low high =
       let within : (nat_le 1 rounds && nat_le rounds MAX_ROUNDS) ≡ true = rw (at_most 1 rounds low, at_most rounds MAX_ROUNDS high) refl in
       let small : rounds < 2 ^ 32 = omega arith in
       record { taken = rw (number_known n k, within_again 1 MAX_ROUNDS rounds small within) refl; words = (group_is_word n k, (number_is_word rounds small, tt)) }
 
-  lock_asked : (n : ℕ) (e : Entity) (prio : Prio) (k : GroupKnown here groups n) → EntityKnown k.group (entity_word groups n e) e → Asked command_words.Lock ((group_at groups n).name ∷ entity_word groups n e ∷ prio_word prio ∷ []) (Lock n e prio)
+  lock_asked : (n : ℕ) (e : Entity) (prio : Prio) (k : GroupKnown here groups n) → EntityKnown k.group (entity_word groups n e) e → Asked act_words.Lock ((group_at groups n).name ∷ entity_word groups n e ∷ prio_word prio ∷ []) (Lock n e prio)
   unfolding lock_of
   lock_asked n e prio k at = record { taken = rw (entity_found n e k at, prio_again prio) refl; words = (group_is_word n k, (name_word (entity_word groups n e) at.spelled, (prio_is_word prio, tt))) }
 
-  unlock_asked : (n : ℕ) (e : Entity) (prio : Prio) (k : GroupKnown here groups n) → EntityKnown k.group (entity_word groups n e) e → Asked command_words.Unlock ((group_at groups n).name ∷ entity_word groups n e ∷ prio_word prio ∷ []) (Unlock n e prio)
+  unlock_asked : (n : ℕ) (e : Entity) (prio : Prio) (k : GroupKnown here groups n) → EntityKnown k.group (entity_word groups n e) e → Asked act_words.Unlock ((group_at groups n).name ∷ entity_word groups n e ∷ prio_word prio ∷ []) (Unlock n e prio)
   unfolding unlock_of
   unlock_asked n e prio k at = record { taken = rw (entity_found n e k at, prio_again prio) refl; words = (group_is_word n k, (name_word (entity_word groups n e) at.spelled, (prio_is_word prio, tt))) }
 
-  read_asked : (n : ℕ) (e : Entity) (v : Var) (k : GroupKnown here groups n) → EntityKnown k.group (entity_word groups n e) e → is_var_of e v ≡ true → Asked command_words.Read ((group_at groups n).name ∷ variable_word (entity_word groups n e) v ∷ []) (Read n e v)
+  read_asked : (n : ℕ) (e : Entity) (v : Var) (k : GroupKnown here groups n) → EntityKnown k.group (entity_word groups n e) e → is_var_of e v ≡ true → Asked act_words.Read ((group_at groups n).name ∷ variable_word (entity_word groups n e) v ∷ []) (Read n e v)
   unfolding read_of
   read_asked n e v k at is = record { taken = rw (found n k, variable_again (entity_named k.group) (entity_word groups n e) e v at.spelled at.found is) refl; words = (group_is_word n k, (variable_is_word (entity_word groups n e) v at.spelled, tt)) }
 
   readat_asked : (n version : ℕ) (e : Entity) (v : Var) (k : GroupKnown here groups n) → version < 2 ^ 32 → EntityKnown k.group (entity_word groups n e) e → is_var_of e v ≡ true
-      → Asked command_words.ReadAt ((group_at groups n).name ∷ decimal version ∷ variable_word (entity_word groups n e) v ∷ []) (ReadAt n version e v)
+      → Asked act_words.ReadAt ((group_at groups n).name ∷ decimal version ∷ variable_word (entity_word groups n e) v ∷ []) (ReadAt n version e v)
   unfolding readat_of
   readat_asked n version e v k small at is = record { taken = rw (found n k, number_again version small, variable_again (entity_named k.group) (entity_word groups n e) e v at.spelled at.found is) refl; words = (group_is_word n k, (number_is_word version small, (variable_is_word (entity_word groups n e) v at.spelled, tt))) }
 
   fail_asked : (n : ℕ) (e : Entity) (health : ℕ) (rows : List Row) (k : GroupKnown here groups n) → EntityKnown k.group (entity_word groups n e) e → IsChangeOf e health rows (group_of (group_at groups n))
-      → Asked command_words.Fail ((group_at groups n).name ∷ entity_word groups n e ∷ decimal health ∷ value_words rows) (Fail n e health rows)
+      → Asked act_words.Fail ((group_at groups n).name ∷ entity_word groups n e ∷ decimal health ∷ value_words rows) (Fail n e health rows)
   unfolding fail_of
   fail_asked n e health rows k at change =
       let own = own_values e (group_of (group_at groups n)) rows (recursion_from_All (IsOn e) rows change.own) (recursion_from_All (RowFits (group_of (group_at groups n))) rows change.each) in
@@ -249,42 +249,42 @@ module _ (groups : List Parts) (sound : AllByRecursion IsSoundGroup groups) (new
         words = (group_is_word n k, (name_word (entity_word groups n e) at.spelled, (number_is_word health within.1, values_words e rows own)));
       }
 
-  poll_asked : (n : ℕ) (e : Entity) (k : GroupKnown here groups n) → EntityKnown k.group (entity_word groups n e) e → Asked command_words.Poll ((group_at groups n).name ∷ entity_word groups n e ∷ []) (Poll n e)
+  poll_asked : (n : ℕ) (e : Entity) (k : GroupKnown here groups n) → EntityKnown k.group (entity_word groups n e) e → Asked act_words.Poll ((group_at groups n).name ∷ entity_word groups n e ∷ []) (Poll n e)
   unfolding poll_of
   poll_asked n e k at = record { taken = rw (entity_found n e k at) refl; words = (group_is_word n k, (name_word (entity_word groups n e) at.spelled, tt)) }
 
   -- a command's line
-  line_printed : (word : List ℕ) (command : CommandWord) (args : Words) (act : Act) → is_comment word ≡ false → keyword_of word ≡ Some (keywords.Command command) → IsWord word → nat_lt (length acts) MAX_ACTS ≡ true → Asked command args act
+  line_printed : (word : List ℕ) (command : ActWord) (args : Words) (act : Act) → is_comment word ≡ false → keyword_of word ≡ Some (keywords.Act command) → IsWord word → nat_lt (length acts) MAX_ACTS ≡ true → Asked command args act
       → Prints here ((word ∷ args) ∷ []) (acting s (acts ++ act ∷ []))
   line_printed word command args act plain is word_is room asked = prints_line here (word ∷ args) _ (command_taken s acts word command args act plain is asked.taken room) (word_is, asked.words)
 
   pub act_printed : (act : Act) → IsSoundAct groups act → nat_lt (length acts) MAX_ACTS ≡ true → Prints here (act_words groups act ∷ []) (acting s (acts ++ act ∷ []))
   act_printed (Propose n rows) fact room =
       let fit = group_fact groups n (λ g. RowsFit g rows) fact in
-      line_printed (codes "propose") command_words.Propose _ _ refl refl (literal (codes "propose") refl refl) room (propose_asked n rows (known n fit.0) fit.1)
-  act_printed (Await n) low room = line_printed (codes "await") command_words.Await _ _ refl refl (literal (codes "await") refl refl) room (await_asked n (known n low))
-  act_printed (Settle n rounds) fact room = line_printed (codes "settle") command_words.Settle _ _ refl refl (literal (codes "settle") refl refl) room (settle_asked n rounds (known n fact.0) fact.1 fact.2)
+      line_printed (codes "propose") act_words.Propose _ _ refl refl (literal (codes "propose") refl refl) room (propose_asked n rows (known n fit.0) fit.1)
+  act_printed (Await n) low room = line_printed (codes "await") act_words.Await _ _ refl refl (literal (codes "await") refl refl) room (await_asked n (known n low))
+  act_printed (Settle n rounds) fact room = line_printed (codes "settle") act_words.Settle _ _ refl refl (literal (codes "settle") refl refl) room (settle_asked n rounds (known n fact.0) fact.1 fact.2)
   act_printed (Lock n e prio) fact room =
       let in_group = group_fact groups n (λ g. IsEntityOf g e) fact in
       let k = known n in_group.0 in
-      line_printed (codes "lock") command_words.Lock _ _ refl refl (literal (codes "lock") refl refl) room (lock_asked n e prio k (entity_at n e k in_group.1))
+      line_printed (codes "lock") act_words.Lock _ _ refl refl (literal (codes "lock") refl refl) room (lock_asked n e prio k (entity_at n e k in_group.1))
   act_printed (Unlock n e prio) fact room =
       let in_group = group_fact groups n (λ g. IsEntityOf g e) fact in
       let k = known n in_group.0 in
-      line_printed (codes "unlock") command_words.Unlock _ _ refl refl (literal (codes "unlock") refl refl) room (unlock_asked n e prio k (entity_at n e k in_group.1))
+      line_printed (codes "unlock") act_words.Unlock _ _ refl refl (literal (codes "unlock") refl refl) room (unlock_asked n e prio k (entity_at n e k in_group.1))
   act_printed (Read n e v) fact room =
       let in_group = group_fact groups n (IsVariableOf e v) fact in
       let k = known n in_group.0 in
-      line_printed (codes "read") command_words.Read _ _ refl refl (literal (codes "read") refl refl) room (read_asked n e v k (entity_at n e k in_group.1.entity_in) in_group.1.variable)
+      line_printed (codes "read") act_words.Read _ _ refl refl (literal (codes "read") refl refl) room (read_asked n e v k (entity_at n e k in_group.1.entity_in) in_group.1.variable)
   act_printed (ReadAt n version e v) fact room =
       let in_group = group_fact groups n (IsVariableOf e v) fact.1 in
       let k = known n in_group.0 in
-      line_printed (codes "readat") command_words.ReadAt _ _ refl refl (literal (codes "readat") refl refl) room (readat_asked n version e v k fact.0 (entity_at n e k in_group.1.entity_in) in_group.1.variable)
+      line_printed (codes "readat") act_words.ReadAt _ _ refl refl (literal (codes "readat") refl refl) room (readat_asked n version e v k fact.0 (entity_at n e k in_group.1.entity_in) in_group.1.variable)
   act_printed (Fail n e health rows) fact room =
       let in_group = group_fact groups n (IsChangeOf e health rows) fact in
       let k = known n in_group.0 in
-      line_printed (codes "fail") command_words.Fail _ _ refl refl (literal (codes "fail") refl refl) room (fail_asked n e health rows k (entity_at n e k in_group.1.entity_in) in_group.1)
+      line_printed (codes "fail") act_words.Fail _ _ refl refl (literal (codes "fail") refl refl) room (fail_asked n e health rows k (entity_at n e k in_group.1.entity_in) in_group.1)
   act_printed (Poll n e) fact room =
       let in_group = group_fact groups n (λ g. IsEntityOf g e) fact in
       let k = known n in_group.0 in
-      line_printed (codes "poll") command_words.Poll _ _ refl refl (literal (codes "poll") refl refl) room (poll_asked n e k (entity_at n e k in_group.1))
+      line_printed (codes "poll") act_words.Poll _ _ refl refl (literal (codes "poll") refl refl) room (poll_asked n e k (entity_at n e k in_group.1))

@@ -8,7 +8,7 @@ ghost use Rattle.st_grammar.specs.Commands.{group_entity_in, propose_of, await_o
 use crate::reader::Reader;
 use st_draft::wire_kind_in;
 use st_event::{Act, Rows};
-use st_grammar::{CommandWord, MAX_ROUNDS, WireWord};
+use st_grammar::{ActWord, MAX_ROUNDS, WireWord};
 use st_net::{Entity, MAX_ROWS};
 use st_text::Token;
 use st_token::{
@@ -158,20 +158,20 @@ impl Reader {
     }
 
     /// What a command asks for.
-    pub fn act_of(&self, word: CommandWord, line: &[u8], tokens: &[Token]) -> Result<Act, LineError>
+    pub fn act_of(&self, word: ActWord, line: &[u8], tokens: &[Token]) -> Result<Act, LineError>
         requires { All (IsTokenOf line.now) tokens.now }
         ensures { Gives (λ act. act) result (act_of self.now word (map (token_in line.now) tokens.now)) }
     {
         match word {
-            CommandWord::Propose => self.propose_of(line, tokens),
-            CommandWord::Await => self.await_of(line, tokens),
-            CommandWord::Settle => self.settle_of(line, tokens),
-            CommandWord::Lock => self.lock_of(line, tokens),
-            CommandWord::Unlock => self.unlock_of(line, tokens),
-            CommandWord::Read => self.read_of(line, tokens),
-            CommandWord::ReadAt => self.readat_of(line, tokens),
-            CommandWord::Fail => self.fail_of(line, tokens),
-            CommandWord::Poll => self.poll_of(line, tokens),
+            ActWord::Propose => self.propose_of(line, tokens),
+            ActWord::Await => self.await_of(line, tokens),
+            ActWord::Settle => self.settle_of(line, tokens),
+            ActWord::Lock => self.lock_of(line, tokens),
+            ActWord::Unlock => self.unlock_of(line, tokens),
+            ActWord::Read => self.read_of(line, tokens),
+            ActWord::ReadAt => self.readat_of(line, tokens),
+            ActWord::Fail => self.fail_of(line, tokens),
+            ActWord::Poll => self.poll_of(line, tokens),
         }
     }
 

@@ -74,7 +74,7 @@ impl Reader {
             Keyword::Part(_) => self.group.is_some(),
             Keyword::Wire(_) => true,
             Keyword::App => true,
-            Keyword::Command(_) => self.app.is_some(),
+            Keyword::Act(_) => self.app.is_some(),
             Keyword::Order => true,
         }
     }
@@ -134,7 +134,7 @@ impl Reader {
             Keyword::Part(word) => self.part(word, line, tokens),
             Keyword::Wire(word) => self.wire(word, line, tokens),
             Keyword::App => self.app(line, tokens),
-            Keyword::Command(word) => self.act(word, line, tokens),
+            Keyword::Act(word) => self.act(word, line, tokens),
             Keyword::Order => self.order(line, tokens),
         }
     }

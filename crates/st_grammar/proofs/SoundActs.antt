@@ -30,8 +30,8 @@ use Rattle.st_token.proofs.PrintedTokens.{each}
 use Rattle.st_token.proofs.ReadTokens.{came_from, chose, chosen, was_some, place_below, number_range, number_bound, number_from_is, number_above_is, IsRowOf, assigned_range, var_known}
 use Rattle.st_token.proofs.RowLemmas.{apart_last}
 use Rattle.st_grammar.specs.declared.limits.TheConstants.{MAX_ROUNDS}
-use Rattle.st_grammar.specs.declared.keyword.CommandWord.{CommandWord}
-use Rattle.st_grammar.specs.declared.keyword.CommandWord.TheVariants as command_words
+use Rattle.st_grammar.specs.declared.keyword.ActWord.{ActWord}
+use Rattle.st_grammar.specs.declared.keyword.ActWord.TheVariants as act_words
 use Rattle.st_grammar.specs.declared.keyword.WireWord.{WireWord}
 use Rattle.st_grammar.specs.declared.keyword.WireWord.TheVariants as wire_words
 use Rattle.st_grammar.specs.Draft.{GroupDraft, Draft, IsEntityIn, MaySet, groups_of, group_names, parts_of}
@@ -254,16 +254,16 @@ fail_good d args act is =
       apart = read.apart;
     }) (entity_found d words.0.0 words.0.1 e.0 e.1))
 
-pub command_good : (d : Draft) (word : CommandWord) (args : List (List ℕ)) (act : Act) → act_of d word args ≡ Ok act → IsSoundAct (map parts_of (groups_of d)) act
-command_good d command_words.Propose args act is = propose_good d args act is
-command_good d command_words.Await args act is = await_good d args act is
-command_good d command_words.Settle args act is = settle_good d args act is
-command_good d command_words.Lock args act is = lock_good d args act is
-command_good d command_words.Unlock args act is = unlock_good d args act is
-command_good d command_words.Read args act is = read_good d args act is
-command_good d command_words.ReadAt args act is = readat_good d args act is
-command_good d command_words.Fail args act is = fail_good d args act is
-command_good d command_words.Poll args act is = poll_good d args act is
+pub command_good : (d : Draft) (word : ActWord) (args : List (List ℕ)) (act : Act) → act_of d word args ≡ Ok act → IsSoundAct (map parts_of (groups_of d)) act
+command_good d act_words.Propose args act is = propose_good d args act is
+command_good d act_words.Await args act is = await_good d args act is
+command_good d act_words.Settle args act is = settle_good d args act is
+command_good d act_words.Lock args act is = lock_good d args act is
+command_good d act_words.Unlock args act is = unlock_good d args act is
+command_good d act_words.Read args act is = read_good d args act is
+command_good d act_words.ReadAt args act is = readat_good d args act is
+command_good d act_words.Fail args act is = fail_good d args act is
+command_good d act_words.Poll args act is = poll_good d args act is
 
 -- wire lines
 pub wire_read : (d : Draft) (word : WireWord) (args : List (List ℕ)) (line : ℕ × WireLine) → wire_of d word args ≡ Ok line → IsSoundWire line.1

@@ -330,7 +330,7 @@ declared_good d next keywords.Group args p e s = let early = s.early (below_two 
 declared_good d next (keywords.Part word) args p e s = let early = s.early (below_two d.phase 1 p refl) in grown d next 1 (group_changed d next (λ g. part_line g word args) (part_good word args) early e s.sound) early
 declared_good d next (keywords.Wire word) args p e s = let early = s.early (below_two d.phase 2 p refl) in grown d next 2 (wire_good d next (wire_of d word args) (wire_read d word args) early e s.sound) early
 declared_good d next keywords.App args p e s = late next 3 refl (app_begun d next args e s.sound)
-declared_good d next (keywords.Command word) args p e s = late next 3 refl (act_line_good d next (act_of d word args) (command_good d word args) e s.sound)
+declared_good d next (keywords.Act word) args p e s = late next 3 refl (act_line_good d next (act_of d word args) (command_good d word args) e s.sound)
 declared_good d next keywords.Order args p e s = late next 4 refl (order_good d next args e s.sound)
 
 begun_good : (d : Draft) → IsSoundSoFar d → IsSoundSoFar (record d { begun = true })

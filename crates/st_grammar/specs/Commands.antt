@@ -15,8 +15,8 @@ use Rattle.st_token.specs.Variables.{rows_in, values_in, variable_in}
 use Rattle.st_token.specs.Counts.{one_of, two_of, three_of, four_of, one_and_some_of, three_and_more_of}
 use Rattle.st_grammar.specs.declared.keyword.WireWord.{WireWord}
 use Rattle.st_grammar.specs.declared.keyword.WireWord.TheVariants as wire_words
-use Rattle.st_grammar.specs.declared.keyword.CommandWord.{CommandWord}
-use Rattle.st_grammar.specs.declared.keyword.CommandWord.TheVariants as command_words
+use Rattle.st_grammar.specs.declared.keyword.ActWord.{ActWord}
+use Rattle.st_grammar.specs.declared.keyword.ActWord.TheVariants as act_words
 use Rattle.st_grammar.specs.declared.limits.TheConstants.{MAX_ROUNDS}
 use Rattle.st_grammar.specs.Draft.{GroupDraft, Draft, groups_of, group_names}
 use Rattle.st_grammar.specs.Spelling.{entity_named, wire_kind_in}
@@ -107,16 +107,16 @@ poll_of d args = do
   Ok (acts.Poll e.0 e.1)
 
 -- what the command of a word asks for
-abbrev pub act_of : Draft → CommandWord → List (List ℕ) → Result Act FaultKind
-act_of d command_words.Propose args = propose_of d args
-act_of d command_words.Await args = await_of d args
-act_of d command_words.Settle args = settle_of d args
-act_of d command_words.Lock args = lock_of d args
-act_of d command_words.Unlock args = unlock_of d args
-act_of d command_words.Read args = read_of d args
-act_of d command_words.ReadAt args = readat_of d args
-act_of d command_words.Fail args = fail_of d args
-act_of d command_words.Poll args = poll_of d args
+abbrev pub act_of : Draft → ActWord → List (List ℕ) → Result Act FaultKind
+act_of d act_words.Propose args = propose_of d args
+act_of d act_words.Await args = await_of d args
+act_of d act_words.Settle args = settle_of d args
+act_of d act_words.Lock args = lock_of d args
+act_of d act_words.Unlock args = unlock_of d args
+act_of d act_words.Read args = read_of d args
+act_of d act_words.ReadAt args = readat_of d args
+act_of d act_words.Fail args = fail_of d args
+act_of d act_words.Poll args = poll_of d args
 
 -- `drop NAME KIND NUMBER`, `repeat NAME KIND NUMBER NUMBER` and `hold NAME KIND NUMBER NUMBER`, each with the number of its group
 unfoldable pub drop_of : Draft → List (List ℕ) → Result (ℕ × WireLine) FaultKind

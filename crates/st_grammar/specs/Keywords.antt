@@ -6,8 +6,8 @@ use Rattle.st_grammar.specs.declared.keyword.PartWord.{PartWord}
 use Rattle.st_grammar.specs.declared.keyword.PartWord.TheVariants as part_words
 use Rattle.st_grammar.specs.declared.keyword.WireWord.{WireWord}
 use Rattle.st_grammar.specs.declared.keyword.WireWord.TheVariants as wire_words
-use Rattle.st_grammar.specs.declared.keyword.CommandWord.{CommandWord}
-use Rattle.st_grammar.specs.declared.keyword.CommandWord.TheVariants as command_words
+use Rattle.st_grammar.specs.declared.keyword.ActWord.{ActWord}
+use Rattle.st_grammar.specs.declared.keyword.ActWord.TheVariants as act_words
 
 -- the words of a group's section, of wire lines and of commands
 abbrev pub part_word_of : List ℕ → Option PartWord
@@ -24,17 +24,17 @@ wire_word_of word =
     if bytes_eq word (codes "repeat") then Some wire_words.Repeat else (
     if bytes_eq word (codes "hold") then Some wire_words.Hold else None))
 
-abbrev pub command_word_of : List ℕ → Option CommandWord
-command_word_of word =
-    if bytes_eq word (codes "propose") then Some command_words.Propose else (
-    if bytes_eq word (codes "await") then Some command_words.Await else (
-    if bytes_eq word (codes "settle") then Some command_words.Settle else (
-    if bytes_eq word (codes "lock") then Some command_words.Lock else (
-    if bytes_eq word (codes "unlock") then Some command_words.Unlock else (
-    if bytes_eq word (codes "read") then Some command_words.Read else (
-    if bytes_eq word (codes "readat") then Some command_words.ReadAt else (
-    if bytes_eq word (codes "fail") then Some command_words.Fail else (
-    if bytes_eq word (codes "poll") then Some command_words.Poll else None))))))))
+abbrev pub act_word_of : List ℕ → Option ActWord
+act_word_of word =
+    if bytes_eq word (codes "propose") then Some act_words.Propose else (
+    if bytes_eq word (codes "await") then Some act_words.Await else (
+    if bytes_eq word (codes "settle") then Some act_words.Settle else (
+    if bytes_eq word (codes "lock") then Some act_words.Lock else (
+    if bytes_eq word (codes "unlock") then Some act_words.Unlock else (
+    if bytes_eq word (codes "read") then Some act_words.Read else (
+    if bytes_eq word (codes "readat") then Some act_words.ReadAt else (
+    if bytes_eq word (codes "fail") then Some act_words.Fail else (
+    if bytes_eq word (codes "poll") then Some act_words.Poll else None))))))))
 
 -- the first choice, or else the second
 abbrev pub keyword_or : Option Keyword → Option Keyword → Option Keyword
@@ -47,7 +47,7 @@ keyword_of word =
     if bytes_eq word (codes "group") then Some keywords.Group else (
     if bytes_eq word (codes "app") then Some keywords.App else (
     if bytes_eq word (codes "order") then Some keywords.Order else
-    keyword_or (option_map keywords.Part (part_word_of word)) (keyword_or (option_map keywords.Wire (wire_word_of word)) (option_map keywords.Command (command_word_of word)))))
+    keyword_or (option_map keywords.Part (part_word_of word)) (keyword_or (option_map keywords.Wire (wire_word_of word)) (option_map keywords.Act (act_word_of word)))))
 
 -- the phase of a keyword's lines
 abbrev pub phase_of : Keyword → ℕ
@@ -55,5 +55,5 @@ phase_of keywords.Group = 1
 phase_of (keywords.Part word) = 1
 phase_of (keywords.Wire word) = 2
 phase_of keywords.App = 3
-phase_of (keywords.Command word) = 3
+phase_of (keywords.Act word) = 3
 phase_of keywords.Order = 4

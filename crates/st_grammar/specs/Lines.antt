@@ -76,7 +76,7 @@ has_section d keywords.Group = true
 has_section d (keywords.Part word) = is_some d.group
 has_section d (keywords.Wire word) = true
 has_section d keywords.App = true
-has_section d (keywords.Command word) = is_some d.app
+has_section d (keywords.Act word) = is_some d.app
 has_section d keywords.Order = true
 
 abbrev pub is_allowed : Draft → Keyword → Bool
@@ -109,7 +109,7 @@ declared_by d keywords.Group args = group_line d args
 declared_by d (keywords.Part word) args = into_group d (λ g. part_line g word args)
 declared_by d (keywords.Wire word) args = wire_line d (wire_of d word args)
 declared_by d keywords.App args = app_line d args
-declared_by d (keywords.Command word) args = act_line d (act_of d word args)
+declared_by d (keywords.Act word) args = act_line d (act_of d word args)
 declared_by d keywords.Order args = order_line d args
 
 unfoldable pub phased_line : Draft → Keyword → List (List ℕ) → Result Draft FaultKind

@@ -1,7 +1,7 @@
 //! The words that lines begin with, the sections that they need, and the phases in which they stand.
 
 ghost use Rattle.std.specs.Prelude.{◌≡◌};
-ghost use Rattle.st_grammar.specs.Keywords.{part_word_of, wire_word_of, command_word_of, keyword_of, phase_of};
+ghost use Rattle.st_grammar.specs.Keywords.{part_word_of, wire_word_of, act_word_of, keyword_of, phase_of};
 
 /// The first token of a line that declares something.
 #[derive(Clone, Copy, Debug, PartialEq, Eq)]
@@ -15,7 +15,7 @@ pub enum Keyword {
     /// Begins an application.
     App,
     /// A command of the application that is begun.
-    Command(CommandWord),
+    Act(ActWord),
     /// Applications in the order in which they begin.
     Order,
 }
@@ -40,7 +40,7 @@ pub enum WireWord {
 
 /// The commands of an application.
 #[derive(Clone, Copy, Debug, PartialEq, Eq)]
-pub enum CommandWord {
+pub enum ActWord {
     Propose,
     Await,
     Settle,
@@ -84,27 +84,27 @@ fn wire_word_of(word: &[u8]) -> Option<WireWord>
     }
 }
 
-fn command_word_of(word: &[u8]) -> Option<CommandWord>
-    ensures { result ≡ command_word_of word.now }
+fn act_word_of(word: &[u8]) -> Option<ActWord>
+    ensures { result ≡ act_word_of word.now }
 {
     if word == b"propose".as_slice() {
-        Some(CommandWord::Propose)
+        Some(ActWord::Propose)
     } else if word == b"await".as_slice() {
-        Some(CommandWord::Await)
+        Some(ActWord::Await)
     } else if word == b"settle".as_slice() {
-        Some(CommandWord::Settle)
+        Some(ActWord::Settle)
     } else if word == b"lock".as_slice() {
-        Some(CommandWord::Lock)
+        Some(ActWord::Lock)
     } else if word == b"unlock".as_slice() {
-        Some(CommandWord::Unlock)
+        Some(ActWord::Unlock)
     } else if word == b"read".as_slice() {
-        Some(CommandWord::Read)
+        Some(ActWord::Read)
     } else if word == b"readat".as_slice() {
-        Some(CommandWord::ReadAt)
+        Some(ActWord::ReadAt)
     } else if word == b"fail".as_slice() {
-        Some(CommandWord::Fail)
+        Some(ActWord::Fail)
     } else if word == b"poll".as_slice() {
-        Some(CommandWord::Poll)
+        Some(ActWord::Poll)
     } else {
         None
     }
@@ -129,8 +129,8 @@ pub fn keyword_of(word: &[u8]) -> Option<Keyword>
     if let Some(wire) = wire_word_of(word) {
         return Some(Keyword::Wire(wire));
     }
-    match command_word_of(word) {
-        Some(command) => Some(Keyword::Command(command)),
+    match act_word_of(word) {
+        Some(command) => Some(Keyword::Act(command)),
         None => None,
     }
 }
@@ -144,7 +144,7 @@ pub fn phase_of(keyword: Keyword) -> u32
         Keyword::Part(_) => 1,
         Keyword::Wire(_) => 2,
         Keyword::App => 3,
-        Keyword::Command(_) => 3,
+        Keyword::Act(_) => 3,
         Keyword::Order => 4,
     }
 }

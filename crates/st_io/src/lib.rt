@@ -6,7 +6,7 @@ pub mod adapted;
 mod held;
 pub mod memory;
 pub mod outside;
-mod plan;
+mod failing;
 pub mod reading;
 pub mod sure;
 mod unread;

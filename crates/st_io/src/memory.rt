@@ -6,7 +6,7 @@ ghost use Rattle.st_io.specs.Memory.{CountsCall, FailsNext, faults_of, taken_cou
 
 use crate::held::Held;
 use crate::outside::{ReadStep, Sink, Source, WriteStep};
-use crate::plan::FaultPlan;
+use crate::failing::FaultPlan;
 use crate::unread::Unread;
 use std::alloc::{AllocError, Global};
 use std::marker::Model;

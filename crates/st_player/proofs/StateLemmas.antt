@@ -20,7 +20,7 @@ use Rattle.st_event.specs.Proposals.{target}
 use Rattle.st_event.specs.Judge.{lack_at}
 use Rattle.st_event.specs.Replies.{reply, blocked_or_sent, governing, row_to}
 use Rattle.st_event.specs.Standing.{Standing, standing_of, wires_of, reply_in}
-use Rattle.st_control.specs.Checker.{Checker, Sends, standing_in, reply_of_send}
+use Rattle.st_control.specs.Control.{ControlView, Sends, standing_in, reply_of_send}
 use Rattle.st_control.specs.declared.send.SendStep.{SendStep}
 use Rattle.st_player.specs.declared.state.Knowledge.TheVariants as known
 use Rattle.st_player.specs.Inside.{carriage_in, last_fail, is_since}
@@ -28,7 +28,7 @@ use Rattle.st_player.specs.declared.state.Carriage.TheVariants.{Busy, Up, Off, F
 use Rattle.st_player.specs.States.{carriage_of, greatest, is_blocked, knowledge_of, works_of}
 
 -- what a checker would send an entity is what a Send calls for
-pub sends_reply : (g : Group) (past : List Entry) (e : Entity) (k : Checker) (step : SendStep) → k.group ≡ g → standing_in k ≡ standing_of g past → Sends k e step → reply_of_send (length (commands g past)) step ≡ reply g past (Send e)
+pub sends_reply : (g : Group) (past : List Entry) (e : Entity) (k : ControlView) (step : SendStep) → k.group ≡ g → standing_in k ≡ standing_of g past → Sends k e step → reply_of_send (length (commands g past)) step ≡ reply g past (Send e)
 sends_reply g past e k step group standing sends =
     sends.reply (wires_of g past) 0
     ∙ ap (λ (h : Group). reply_in h (standing_in k) (wires_of g past) 0 (Send e)) group

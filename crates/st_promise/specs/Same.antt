@@ -1,4 +1,5 @@
--- Two groups with the same network and the same promises, whatever their names and values: what is judged of the one holds of the other.
+-- Two groups with the same network and the same promises, whatever their names and what devices open with: what is judged of the one holds
+-- of the other.
 use Rattle.std.specs.Prelude.{◌≡◌, length}
 use Rattle.st_net.specs.Groups.{Group}
 

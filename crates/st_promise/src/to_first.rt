@@ -1,5 +1,6 @@
 //! The promises of a group judged in order, up to the first that a change breaks: a few at a time, and these by several threads. As in
-//! `judge_wide` no book is needed; but what lies behind a broken promise is left, and a promise that holds after is not judged before.
+//! `judge_wide` no book is needed; but a promise that holds after is not judged before, and of what lies behind a broken promise only
+//! what is judged together with it is judged.
 
 ghost use Rattle.std.specs.Prelude.{◌≡◌, ◌<◌, Bool, List, All, false, length, map, take, slice_index_or, IfOk, IfSome, OnOk};
 ghost use Rattle.std.specs.List.{AllZip};

@@ -20,7 +20,7 @@ use Rattle.st_event.specs.Services.{entry_after}
 use Rattle.st_wire.specs.declared.line.WireLine.{WireLine}
 use Rattle.st_board.proofs.Prefixes.{prefix_trans}
 use Rattle.st_world.specs.Acts.{proposed}
-use Rattle.st_world.specs.Rounds.{Run, run_from, enter, unsettled}
+use Rattle.st_world.specs.Rounds.{Course, run_from, enter, unsettled}
 use Rattle.st_world.specs.declared.world.rounds.Going.{Going}
 use Rattle.st_world.specs.declared.world.rounds.Going.TheVariants.{On, Full}
 use Rattle.st_service.specs.declared.work.Part.{Part}
@@ -92,10 +92,10 @@ none_added number act before was after now none a = record { entries = a.entries
 
 -- the events of a hold whose course makes none
 
-pub enters_only : (P : Event → Type 0) (course : List Entry → Run) (going : Going) (number : ℕ) (mid before : List Made) (was : List ℕ) (after : List Made) (now : List ℕ) → Only P (past_in mid) (course (past_in mid)) → Enters course going number mid before was after now → AddsEach (λ e. P e.event) before was after now
+pub enters_only : (P : Event → Type 0) (course : List Entry → Course) (going : Going) (number : ℕ) (mid before : List Made) (was : List ℕ) (after : List Made) (now : List ℕ) → Only P (past_in mid) (course (past_in mid)) → Enters course going number mid before was after now → AddsEach (λ e. P e.event) before was after now
 enters_only P course going number mid before was after now o e =
     let run = course (past_in mid) in
-    let is : run.past ≡ reverse e.entries ++ past_in mid = ap (λ (r : Run). r.past) e.run ∙ (ap past_in e.puts.1 ∙ past_more mid number e.entries) in
+    let is : run.past ≡ reverse e.entries ++ past_in mid = ap (λ (r : Course). r.past) e.run ∙ (ap past_in e.puts.1 ∙ past_more mid number e.entries) in
     record { entries = e.entries; each = only_made P (past_in mid) run e.entries is o; adds = adds_puts number e.entries mid before was after now e.puts }
 
 pub each_then : (P : Entry → Type 0) (a : List Made) (was : List ℕ) (b : List Made) (mid : List ℕ) (c : List Made) (now : List ℕ) → AddsEach P a was b mid → AddsEach P b mid c now → AddsEach P a was c now
@@ -209,7 +209,7 @@ propose_entries number n rows g mid before was after now legal e =
 
 -- each command
 
-enters_mid : (course : List Entry → Run) (number : ℕ) (mid before : List Made) (was : List ℕ) (after : List Made) (now : List ℕ) → Enters course On number mid before was after now → IsPrefix mid after
+enters_mid : (course : List Entry → Course) (number : ℕ) (mid before : List Made) (was : List ℕ) (after : List Made) (now : List ℕ) → Enters course On number mid before was after now → IsPrefix mid after
 enters_mid course number mid before was after now e = (_, sym e.puts.1)
 
 pub command_adds : (act : Act) (g : Group) (lines : List WireLine) (number : ℕ) (before : List Made) (was : List ℕ) (after : List Made) (now : List ℕ) → IsLegal g (past_in after) → ActEnters act g lines number before was after now → CommandAdds number act before was after now

@@ -12,7 +12,7 @@ use Rattle.st_event.specs.declared.event.Event.TheVariants.{Submit, Check, Lock,
 use Rattle.st_event.specs.declared.journal.Entry.{Entry}
 use Rattle.st_wire.specs.declared.line.WireLine.{WireLine}
 use Rattle.st_board.proofs.Prefixes.{prefix_get, prefix_length, prefix_shorter, prefix_trans}
-use Rattle.st_world.specs.Rounds.{Run, run_from, poll}
+use Rattle.st_world.specs.Rounds.{Course, run_from, poll}
 use Rattle.st_world.specs.World.{IsBeginning}
 use Rattle.st_service.specs.Made.{Made, past_in}
 use Rattle.st_run.specs.Stands.{Stand}
@@ -115,7 +115,7 @@ beginning_trans : (xs ys zs : List Entry) → IsBeginning xs ys → IsBeginning 
 beginning_trans xs ys zs p q = (q.0 ++ p.0, q.1 ∙ (ap (λ (l : List Entry). q.0 ++ l) p.1 ∙ sym (append_assoc q.0 p.0 xs)))
 
 -- what stands in a journal stands in a longer one
-pub stand_longer : (course : List Entry → Run) (k : ℕ) (from past longer : List Entry) → IsBeginning past longer → Stand course k from past
+pub stand_longer : (course : List Entry → Course) (k : ℕ) (from past longer : List Entry) → IsBeginning past longer → Stand course k from past
     → Stand course k from longer
 stand_longer course zero from past longer p s = beginning_trans from past longer s p
 stand_longer course (suc k) from past longer p s = (s.0, s.1, s.2, s.3, beginning_trans s.1 past longer s.4 p)

@@ -14,27 +14,27 @@ use Rattle.st_event.specs.Services.{entry_after}
 use Rattle.st_wire.specs.declared.line.WireKind.TheVariants.{Command as command_kind, Report as report_kind}
 use Rattle.st_wire.specs.declared.line.WireLine.{WireLine}
 use Rattle.st_wire.specs.Deliveries.{deliveries}
-use Rattle.st_world.specs.Rounds.{Run, run_from, enter, enter_all, arrivals_of, newest_arrivals, enter_told, update_turn, poll, turn}
+use Rattle.st_world.specs.Rounds.{Course, run_from, enter, enter_all, arrivals_of, newest_arrivals, enter_told, update_turn, poll, turn}
 use Rattle.st_net.proofs.Tests.{less_is}
 use Rattle.st_world.proofs.RunLaws.{entered}
 use Rattle.st_run.proofs.DidLaws.{Each, each_append}
 
 -- an event that stopped nothing was entered
-pub record WasEntered (g : Group) (run : Run) (event : Event) (new : List Entry) : Type 0 where
+pub record WasEntered (g : Group) (run : Course) (event : Event) (new : List Entry) : Type 0 where
   pub went : run.stopped ≡ false
   pub room : length run.past < MAX_ENTRIES
   pub is : new ≡ entry_after g run.past event ∷ run.past
 
-went_on : (g : Group) (run : Run) (event : Event) (new : List Entry) (stopped room : Bool) → run.stopped ≡ stopped → nat_lt (length run.past) MAX_ENTRIES ≡ room → entered run (entry_after g run.past event) stopped room ≡ record { past = new; stopped = false } → WasEntered g run event new
-went_on g run event new true room is fits e = let no : run.stopped ≡ false = ap (λ (r : Run). r.stopped) e in let both : true ≡ false = sym is ∙ no in absurd (cc both)
-went_on g run event new false true is fits e = record { went = is; room = less_is (length run.past) MAX_ENTRIES fits; is = sym (ap (λ (r : Run). r.past) e) }
-went_on g run event new false false is fits e = let no : true ≡ false = ap (λ (r : Run). r.stopped) e in absurd (cc no)
+went_on : (g : Group) (run : Course) (event : Event) (new : List Entry) (stopped room : Bool) → run.stopped ≡ stopped → nat_lt (length run.past) MAX_ENTRIES ≡ room → entered run (entry_after g run.past event) stopped room ≡ record { past = new; stopped = false } → WasEntered g run event new
+went_on g run event new true room is fits e = let no : run.stopped ≡ false = ap (λ (r : Course). r.stopped) e in let both : true ≡ false = sym is ∙ no in absurd (cc both)
+went_on g run event new false true is fits e = record { went = is; room = less_is (length run.past) MAX_ENTRIES fits; is = sym (ap (λ (r : Course). r.past) e) }
+went_on g run event new false false is fits e = let no : true ≡ false = ap (λ (r : Course). r.stopped) e in absurd (cc no)
 
-pub was_entered : (g : Group) (run : Run) (event : Event) (new : List Entry) → enter g run event ≡ record { past = new; stopped = false } → WasEntered g run event new
+pub was_entered : (g : Group) (run : Course) (event : Event) (new : List Entry) → enter g run event ≡ record { past = new; stopped = false } → WasEntered g run event new
 was_entered g run event new e = went_on g run event new run.stopped (nat_lt (length run.past) MAX_ENTRIES) refl refl e
 
 -- a run added entries whose events have a property
-pub record Only (P : Event → Type 0) (past : List Entry) (run : Run) : Type 0 where
+pub record Only (P : Event → Type 0) (past : List Entry) (run : Course) : Type 0 where
   pub more : List Entry
   pub all : run.past ≡ more ++ past
   pub each : Each (λ e. P e.event) more
@@ -42,15 +42,15 @@ pub record Only (P : Event → Type 0) (past : List Entry) (run : Run) : Type 0 
 pub only_none : (P : Event → Type 0) (past : List Entry) → Only P past (run_from past)
 only_none P past = record { more = []; all = refl; each = tt }
 
-only_entered : (P : Event → Type 0) (past : List Entry) (run : Run) (entry : Entry) (stopped room : Bool) → P entry.event → Only P past run → Only P past (entered run entry stopped room)
+only_entered : (P : Event → Type 0) (past : List Entry) (run : Course) (entry : Entry) (stopped room : Bool) → P entry.event → Only P past run → Only P past (entered run entry stopped room)
 only_entered P past run entry true room p o = o
 only_entered P past run entry false true p o = record { more = entry ∷ o.more; all = ap (λ es. entry ∷ es) o.all; each = (p, o.each) }
 only_entered P past run entry false false p o = record { more = o.more; all = o.all; each = o.each }
 
-pub only_enter : (P : Event → Type 0) (g : Group) (past : List Entry) (run : Run) (event : Event) → P event → Only P past run → Only P past (enter g run event)
+pub only_enter : (P : Event → Type 0) (g : Group) (past : List Entry) (run : Course) (event : Event) → P event → Only P past run → Only P past (enter g run event)
 only_enter P g past run event p o = only_entered P past run (entry_after g run.past event) run.stopped (nat_lt (length run.past) MAX_ENTRIES) p o
 
-only_all : (P : Event → Type 0) (g : Group) (past : List Entry) (run : Run) (events : List Event) → Each P events → Only P past run → Only P past (enter_all g run events)
+only_all : (P : Event → Type 0) (g : Group) (past : List Entry) (run : Course) (events : List Event) → Each P events → Only P past run → Only P past (enter_all g run events)
 only_all P g past run [] p o = o
 only_all P g past run (event ∷ events) p o = only_all P g past (enter g run event) events p.1 (only_enter P g past run event p.0 o)
 
@@ -75,18 +75,18 @@ each_newest : (P : Event → Type 0) (lines : List WireLine) (past : List Entry)
 each_newest P lines [] t = tt
 each_newest P lines (entry ∷ past) t = each_arrival P lines entry.reply t
 
-only_told : (P : Event → Type 0) (g : Group) (lines : List WireLine) (past : List Entry) (run : Run) (event : Event) → OfTurns P → P event → Only P past run → Only P past (enter_told g lines run event)
+only_told : (P : Event → Type 0) (g : Group) (lines : List WireLine) (past : List Entry) (run : Course) (event : Event) → OfTurns P → P event → Only P past run → Only P past (enter_told g lines run event)
 only_told P g lines past run event t p o =
     let next = enter g run event in
     only_all P g past next (newest_arrivals lines next.past) (each_newest P lines next.past t) (only_enter P g past run event p o)
 
-pub only_poll : (P : Event → Type 0) (g : Group) (lines : List WireLine) (past : List Entry) (run : Run) (e : Entity) → OfTurns P → Only P past run → Only P past (poll g lines run e)
+pub only_poll : (P : Event → Type 0) (g : Group) (lines : List WireLine) (past : List Entry) (run : Course) (e : Entity) → OfTurns P → Only P past run → Only P past (poll g lines run e)
 only_poll P g lines past run e t o = only_told P g lines past run (make_report e) t (t.report e) o
 
-pub only_update : (P : Event → Type 0) (g : Group) (lines : List WireLine) (past : List Entry) (run : Run) (e : Entity) → OfTurns P → Only P past run → Only P past (update_turn g lines run e)
+pub only_update : (P : Event → Type 0) (g : Group) (lines : List WireLine) (past : List Entry) (run : Course) (e : Entity) → OfTurns P → Only P past run → Only P past (update_turn g lines run e)
 only_update P g lines past run e t o = only_enter P g past (enter_told g lines run (Send e)) (Finish e) (t.finish e) (only_told P g lines past run (Send e) t (t.send e) o)
 
-pub only_turn : (P : Event → Type 0) (g : Group) (lines : List WireLine) (past : List Entry) (run : Run) (e : Entity) → OfTurns P → Only P past run → Only P past (turn g lines run e)
+pub only_turn : (P : Event → Type 0) (g : Group) (lines : List WireLine) (past : List Entry) (run : Course) (e : Entity) → OfTurns P → Only P past run → Only P past (turn g lines run e)
 only_turn P g lines past run e t o = only_poll P g lines past (update_turn g lines run e) e t (only_update P g lines past run e t o)
 
 -- what each item of a list has, each of its reverse has
@@ -95,7 +95,7 @@ each_reverse P [] e = tt
 each_reverse P (x ∷ xs) e = subst (Each P) (sym (reverse-append (x ∷ []) xs)) (each_append P (reverse xs) (x ∷ []) (each_reverse P xs e.1) (e.0, tt))
 
 -- entries that a run added to a journal, the oldest first
-pub only_made : (P : Event → Type 0) (past : List Entry) (run : Run) (es : List Entry) → run.past ≡ reverse es ++ past → Only P past run → Each (λ e. P e.event) es
+pub only_made : (P : Event → Type 0) (past : List Entry) (run : Course) (es : List Entry) → run.past ≡ reverse es ++ past → Only P past run → Each (λ e. P e.event) es
 only_made P past run es is o =
     let same : reverse es ≡ o.more = append_cancel_right (reverse es) o.more past (sym is ∙ o.all) in
     subst (Each (λ e. P e.event)) (ap reverse (sym same) ∙ reverse-reverse es) (each_reverse (λ e. P e.event) o.more o.each)

@@ -21,7 +21,7 @@ use Rattle.st_wire.specs.declared.line.WireLine.{WireLine}
 use Rattle.st_wire.specs.Deliveries.{deliveries}
 use Rattle.st_board.proofs.Prefixes.{prefix_length, prefix_self, prefix_trans}
 use Rattle.st_world.specs.Acts.{course_of}
-use Rattle.st_world.specs.Rounds.{Run, run_from, enter, enter_all, arrivals_of, newest_arrivals, poll}
+use Rattle.st_world.specs.Rounds.{Course, run_from, enter, enter_all, arrivals_of, newest_arrivals, poll}
 use Rattle.st_world.specs.declared.world.rounds.Going.TheVariants.{On}
 use Rattle.st_service.specs.Acts.{ActEnters}
 use Rattle.st_run.specs.CarriedLaws.{history_of}
@@ -61,15 +61,15 @@ quiet_newest : (lines : List WireLine) (past : List Entry) → Each NoReport (ne
 quiet_newest lines [] = tt
 quiet_newest lines (entry ∷ past) = quiet_arrivals lines entry.reply
 
-all_quiet : (g : Group) (past : List Entry) (run : Run) (events : List Event) → Each NoReport events → Only NoReport past run
+all_quiet : (g : Group) (past : List Entry) (run : Course) (events : List Event) → Each NoReport events → Only NoReport past run
     → Only NoReport past (enter_all g run events)
 all_quiet g past run [] q o = o
 all_quiet g past run (event ∷ events) q o = all_quiet g past (enter g run event) events q.1 (only_enter NoReport g past run event q.0 o)
 
 -- events of which none met a full journal
-all_went : (g : Group) (run : Run) (events : List Event) (new : List Entry) → enter_all g run events ≡ record { past = new; stopped = false }
+all_went : (g : Group) (run : Course) (events : List Event) (new : List Entry) → enter_all g run events ≡ record { past = new; stopped = false }
     → run.stopped ≡ false
-all_went g run [] new e = ap (λ (r : Run). r.stopped) e
+all_went g run [] new e = ap (λ (r : Course). r.stopped) e
 all_went g run (event ∷ events) new e =
     let next = enter g run event in
     let went = all_went g next events new e in
@@ -92,7 +92,7 @@ was_polled g lines past new e entries went is =
     let entry = entry_after g past (make_report e) in
     let o : Only NoReport next.past run = all_quiet g next.past next events (quiet_newest lines next.past) (record { more = []; all = refl; each = tt }) in
     let all : reverse entries ++ past ≡ (o.more ++ entry ∷ []) ++ past =
-    sym is ∙ (sym (ap (λ (r : Run). r.past) went) ∙ (o.all ∙ (ap (λ (l : List Entry). o.more ++ l) one.is ∙ sym (append_assoc o.more (entry ∷ []) past)))) in
+    sym is ∙ (sym (ap (λ (r : Course). r.past) went) ∙ (o.all ∙ (ap (λ (l : List Entry). o.more ++ l) one.is ∙ sym (append_assoc o.more (entry ∷ []) past)))) in
     let back : reverse entries ≡ o.more ++ entry ∷ [] = append_cancel_right (reverse entries) (o.more ++ entry ∷ []) past all in
     record {
       heard = reverse o.more;

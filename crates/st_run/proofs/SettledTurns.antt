@@ -14,7 +14,7 @@ use Rattle.st_event.specs.Observed.{is_settled}
 use Rattle.st_wire.specs.declared.line.WireLine.{WireLine}
 use Rattle.st_board.proofs.Prefixes.{prefix_trans}
 use Rattle.st_world.specs.World.{IsBeginning}
-use Rattle.st_world.specs.Rounds.{Run, run_from, turn, unsettled}
+use Rattle.st_world.specs.Rounds.{Course, run_from, turn, unsettled}
 use Rattle.st_run.specs.CarriedOn.{IsSettledIn, WasSettled}
 use Rattle.st_service.specs.declared.work.Part.TheVariants.{Whole}
 use Rattle.st_service.specs.Lines.{tagged}
@@ -55,12 +55,12 @@ entity_in g (Link j) low =
     is_at (entities_of g) (count + j) (Link j) (Link j) lt (ap Link (sym i) ∙ link_at g (count + j) count (Link j) refl (omega arith) lt)
 
 -- turns that stand in a journal stand in one that goes on
-pub stand_later : (course : List Entry → Run) (k : ℕ) (from past later : List Entry) → IsBeginning past later → Stand course k from past → Stand course k from later
+pub stand_later : (course : List Entry → Course) (k : ℕ) (from past later : List Entry) → IsBeginning past later → Stand course k from past → Stand course k from later
 stand_later course zero from past later b s = begins_then from past later s b
 stand_later course (suc k) from past later b s = (s.0, s.1, s.2, s.3, begins_then s.1 past later s.4 b)
 
 -- what turns are of an entity
-abbrev turn_of : Group → List WireLine → Entity → List Entry → Run
+abbrev turn_of : Group → List WireLine → Entity → List Entry → Course
 turn_of g lines e past = turn g lines (run_from past) e
 
 turns_go : (g : Group) (lines : List WireLine) (number : ℕ) (es : List Entity) (before : List Made) (was : List ℕ) (after : List Made) (now : List ℕ) → Turns Whole g lines number es before was after now → IsPrefix before after

@@ -21,7 +21,7 @@ use Rattle.st_event.specs.Services.{entry_after}
 use Rattle.st_wire.specs.declared.line.WireKind.TheVariants.{Command}
 use Rattle.st_wire.specs.declared.line.WireLine.TheVariants.{Drop}
 use Rattle.st_wire.specs.declared.line.WireLine.{WireLine}
-use Rattle.st_world.specs.Rounds.{Run, run_from, enter, enter_all, newest_arrivals, poll, turn}
+use Rattle.st_world.specs.Rounds.{Course, run_from, enter, enter_all, newest_arrivals, poll, turn}
 use Rattle.st_world.specs.World.{IsBeginning}
 use Rattle.st_run.specs.CarriedOn.{FailsAsAsked, HasTurns, PollsAll, WasSettled, is_poll_of}
 use Rattle.st_run.specs.Failures.{IsFailureBy}
@@ -52,7 +52,7 @@ within : (kind : Event → Bool) (past whole : List Entry) → IsBeginning past 
 within kind past whole b = subst (λ w. counted kind past ≤ counted kind w) (sym b.1) (begun kind b.0 past)
 
 -- runs that each have an entry of a kind: a journal has at least as many
-all_counted : (course : List Entry → Run) (kind : Event → Bool) → ((before after : List Entry) → course before ≡ record { past = after; stopped = false } → suc (counted kind before) ≤ counted kind after) → (k : ℕ) (from past : List Entry) → Stand course k from past → k + counted kind from ≤ counted kind past
+all_counted : (course : List Entry → Course) (kind : Event → Bool) → ((before after : List Entry) → course before ≡ record { past = after; stopped = false } → suc (counted kind before) ≤ counted kind after) → (k : ℕ) (from past : List Entry) → Stand course k from past → k + counted kind from ≤ counted kind past
 all_counted course kind adds zero from past stand = let all = within kind from past stand in omega (arith, all)
 all_counted course kind adds (suc k) from past stand =
     let rest = all_counted course kind adds k from stand.0 stand.2 in
@@ -61,18 +61,18 @@ all_counted course kind adds (suc k) from past stand =
     omega (arith, rest, one, last)
 
 -- a run after an event: it was stopped before, it met a full journal, or it has one entry more
-abbrev entered : Run → Event → Bool → Bool → Run
+abbrev entered : Course → Event → Bool → Bool → Course
 entered run event stopped room = if stopped then run else (if room then record { past = entry_after small run.past event ∷ run.past; stopped = false } else record { past = run.past; stopped = true })
 
-more_by : (kind : Event → Bool) (run : Run) (event : Event) (stopped room : Bool) → counted kind run.past ≤ counted kind (entered run event stopped room).past
+more_by : (kind : Event → Bool) (run : Course) (event : Event) (stopped room : Bool) → counted kind run.past ≤ counted kind (entered run event stopped room).past
 more_by kind run event true room = omega arith
 more_by kind run event false true = omega arith
 more_by kind run event false false = omega arith
 
-more : (kind : Event → Bool) (run : Run) (event : Event) → counted kind run.past ≤ counted kind (enter small run event).past
+more : (kind : Event → Bool) (run : Course) (event : Event) → counted kind run.past ≤ counted kind (enter small run event).past
 more kind run event = more_by kind run event run.stopped (nat_lt (length run.past) MAX_ENTRIES)
 
-more_all : (kind : Event → Bool) (run : Run) (events : List Event) → counted kind run.past ≤ counted kind (enter_all small run events).past
+more_all : (kind : Event → Bool) (run : Course) (events : List Event) → counted kind run.past ≤ counted kind (enter_all small run events).past
 more_all kind run [] = omega arith
 more_all kind run (event ∷ events) = let one = more kind run event in let rest = more_all kind (enter small run event) events in omega (arith, one, rest)
 
@@ -84,52 +84,52 @@ still past (event ∷ events) = still past events
 -- a turn has a Send
 sends_by : (lines : List WireLine) (before after : List Entry) (room : Bool) → nat_lt (length before) MAX_ENTRIES ≡ room → turn small lines (run_from before) a1 ≡ record { past = after; stopped = false } → suc (counted is_send before) ≤ counted is_send after
 sends_by lines before after true is run =
-    let first : Run = record { past = entry_after small before (Send a1) ∷ before; stopped = false } in
+    let first : Course = record { past = entry_after small before (Send a1) ∷ before; stopped = false } in
     let here : enter small (run_from before) (Send a1) ≡ first = ap (entered (run_from before) (Send a1) false) is in
     let told = newest_arrivals lines first.past in
     let third = enter_all small first told in
     let fourth = enter small third (Finish a1) in
     let fifth = enter small fourth (Report a1) in
-    let whole : poll small lines (enter small third (Finish a1)) a1 ≡ record { past = after; stopped = false } = ap (λ (r : Run). poll small lines (enter small (enter_all small r (newest_arrivals lines r.past)) (Finish a1)) a1) (sym here) ∙ run in
+    let whole : poll small lines (enter small third (Finish a1)) a1 ≡ record { past = after; stopped = false } = ap (λ (r : Course). poll small lines (enter small (enter_all small r (newest_arrivals lines r.past)) (Finish a1)) a1) (sym here) ∙ run in
     let a = more_all is_send first told in
     let b = more is_send third (Finish a1) in
     let c = more is_send fourth (Report a1) in
     let d = more_all is_send fifth (newest_arrivals lines fifth.past) in
-    let e : counted is_send (poll small lines fourth a1).past ≡ counted is_send after = ap (λ (r : Run). counted is_send r.past) whole in
+    let e : counted is_send (poll small lines fourth a1).past ≡ counted is_send after = ap (λ (r : Course). counted is_send r.past) whole in
     omega (arith, a, b, c, d, e)
 sends_by lines before after false is run =
-    let full : Run = record { past = before; stopped = true } in
+    let full : Course = record { past = before; stopped = true } in
     let here : enter small (run_from before) (Send a1) ≡ full = ap (entered (run_from before) (Send a1) false) is in
     let stays : enter_all small full (newest_arrivals lines before) ≡ full = still before (newest_arrivals lines before) in
     let flat : full ≡ record { past = after; stopped = false } =
-    sym stays ∙ sym (ap (λ (r : Run). poll small lines (enter small r (Finish a1)) a1) stays) ∙ sym (ap (λ (r : Run). poll small lines (enter small (enter_all small r (newest_arrivals lines r.past)) (Finish a1)) a1) here) ∙ run in
-    absurd (cc (ap (λ (r : Run). r.stopped) flat))
+    sym stays ∙ sym (ap (λ (r : Course). poll small lines (enter small r (Finish a1)) a1) stays) ∙ sym (ap (λ (r : Course). poll small lines (enter small (enter_all small r (newest_arrivals lines r.past)) (Finish a1)) a1) here) ∙ run in
+    absurd (cc (ap (λ (r : Course). r.stopped) flat))
 
 -- a poll has a Hear
 hears_by : (before after : List Entry) (room more_room : Bool) → nat_lt (length before) MAX_ENTRIES ≡ room → nat_lt (suc (length before)) MAX_ENTRIES ≡ more_room → poll small [] (run_from before) a1 ≡ record { past = after; stopped = false } → suc (counted is_hear before) ≤ counted is_hear after
 hears_by before after true true is more_is run =
     let report = entry_after small before (Report a1) in
-    let first : Run = record { past = report ∷ before; stopped = false } in
+    let first : Course = record { past = report ∷ before; stopped = false } in
     let number = length (reports small before) + 1 in
     let here : enter small (run_from before) (Report a1) ≡ first = ap (entered (run_from before) (Report a1) false) is in
     let heard : enter small first (Hear number) ≡ record { past = entry_after small first.past (Hear number) ∷ first.past; stopped = false } = ap (entered first (Hear number) false) more_is in
-    let whole : enter small first (Hear number) ≡ record { past = after; stopped = false } = sym (ap (λ (r : Run). enter_all small r (newest_arrivals [] r.past)) here) ∙ run in
+    let whole : enter small first (Hear number) ≡ record { past = after; stopped = false } = sym (ap (λ (r : Course). enter_all small r (newest_arrivals [] r.past)) here) ∙ run in
     let one : counted is_hear (entry_after small first.past (Hear number) ∷ first.past) ≡ 1 + (0 + counted is_hear before) = refl in
-    let same : counted is_hear (entry_after small first.past (Hear number) ∷ first.past) ≡ counted is_hear after = ap (λ (r : Run). counted is_hear r.past) (sym heard ∙ whole) in
+    let same : counted is_hear (entry_after small first.past (Hear number) ∷ first.past) ≡ counted is_hear after = ap (λ (r : Course). counted is_hear r.past) (sym heard ∙ whole) in
     omega (arith, one, same)
 hears_by before after true false is more_is run =
     let report = entry_after small before (Report a1) in
-    let first : Run = record { past = report ∷ before; stopped = false } in
+    let first : Course = record { past = report ∷ before; stopped = false } in
     let number = length (reports small before) + 1 in
     let here : enter small (run_from before) (Report a1) ≡ first = ap (entered (run_from before) (Report a1) false) is in
     let full : enter small first (Hear number) ≡ record { past = first.past; stopped = true } = ap (entered first (Hear number) false) more_is in
-    let whole : enter small first (Hear number) ≡ record { past = after; stopped = false } = sym (ap (λ (r : Run). enter_all small r (newest_arrivals [] r.past)) here) ∙ run in
-    absurd (cc (ap (λ (r : Run). r.stopped) (sym full ∙ whole)))
+    let whole : enter small first (Hear number) ≡ record { past = after; stopped = false } = sym (ap (λ (r : Course). enter_all small r (newest_arrivals [] r.past)) here) ∙ run in
+    absurd (cc (ap (λ (r : Course). r.stopped) (sym full ∙ whole)))
 hears_by before after false more_room is more_is run =
-    let full : Run = record { past = before; stopped = true } in
+    let full : Course = record { past = before; stopped = true } in
     let here : enter small (run_from before) (Report a1) ≡ full = ap (entered (run_from before) (Report a1) false) is in
-    let flat : full ≡ record { past = after; stopped = false } = sym (still before (newest_arrivals [] before)) ∙ sym (ap (λ (r : Run). enter_all small r (newest_arrivals [] r.past)) here) ∙ run in
-    absurd (cc (ap (λ (r : Run). r.stopped) flat))
+    let flat : full ≡ record { past = after; stopped = false } = sym (still before (newest_arrivals [] before)) ∙ sym (ap (λ (r : Course). enter_all small r (newest_arrivals [] r.past)) here) ∙ run in
+    absurd (cc (ap (λ (r : Course). r.stopped) flat))
 
 turns_are_sent : (lines : List WireLine) (k : ℕ) (from past : List Entry) → Stand (λ before. turn small lines (run_from before) a1) k from past → k + counted is_send from ≤ counted is_send past
 turns_are_sent lines k from past stand = all_counted (λ before. turn small lines (run_from before) a1) is_send (λ before after run. sends_by lines before after (nat_lt (length before) MAX_ENTRIES) refl run) k from past stand

@@ -1,12 +1,12 @@
 -- Turns that stand in a journal, and lists that were laid into one another. A journal stands here with its newest entry first.
 use Rattle.std.specs.Prelude.{ℕ, zero, suc, ◌≡◌, false, List, [], ◌∷◌, ◌++◌, All}
 use Rattle.st_event.specs.declared.journal.Entry.{Entry}
-use Rattle.st_world.specs.Rounds.{Run}
+use Rattle.st_world.specs.Rounds.{Course}
 use Rattle.st_world.specs.World.{IsBeginning}
 
 -- at least k runs of a course stand in a journal behind its beginning `from`, apart from each other: each as consecutive entries, and each the one
 -- that the journal before it calls for
-abbrev pub Stand : (List Entry → Run) → ℕ → List Entry → List Entry → Type 0
+abbrev pub Stand : (List Entry → Course) → ℕ → List Entry → List Entry → Type 0
 Stand course zero from past = IsBeginning from past
 Stand course (suc k) from past =
     (before : List Entry) × (after : List Entry) × Stand course k from before × (course before ≡ record { past = after; stopped = false }) × IsBeginning after past

@@ -11,7 +11,7 @@ use Rattle.std.proofs.lemmas.Grind.{get_or-set_at}
 use Rattle.st_grammar.specs.declared.doc.Script.{Script}
 use Rattle.st_grammar.specs.declared.limits.TheConstants.{MAX_ACTS}
 use Rattle.st_serial.specs.declared.schedule.Place.{Place}
-use Rattle.st_serial.specs.Schedule.{times, act_count, place_at, ordered, round, rounds, schedule, IsFront, IsPlaceIn}
+use Rattle.st_serial.specs.Schedule.{times, act_count, place_at, ordered, lap, laps, schedule, IsTally, IsPlaceIn}
 
 -- an application's count of commands
 pub count_at : (apps : List Script) (i : ℕ) (x : Script) → i < length apps → x ≡ slice_index_or apps i x → act_count apps i ≡ length x.acts
@@ -41,42 +41,42 @@ same_by i n is = grind (arith, nat_tests)
 other_by : (i n : ℕ) → (i == n) ≡ false → i ≢ n
 other_by i n is same = grind (arith, nat_tests)
 
-counts_by : (front before : List ℕ) (i app done : ℕ) (b : Bool) → (i == app) ≡ b → app < length front → done ≡ times app before → slice_index_or front i 0 ≡ times i before → slice_index_or (set front app (done + 1)) i 0 ≡ (if b then times i before + 1 else times i before)
-counts_by front before i app done true is low at count =
+counts_by : (tally before : List ℕ) (i app done : ℕ) (b : Bool) → (i == app) ≡ b → app < length tally → done ≡ times app before → slice_index_or tally i 0 ≡ times i before → slice_index_or (set tally app (done + 1)) i 0 ≡ (if b then times i before + 1 else times i before)
+counts_by tally before i app done true is low at count =
     let same = same_by i app is in
-    get_or-set_at front app i (done + 1) 0 same low ∙ ap (λ n. n + 1) (at ∙ ap (λ m. times m before) (sym same))
-counts_by front before i app done false is low at count = get_or-set_other front app i (done + 1) 0 (other_by i app is) ∙ count
+    get_or-set_at tally app i (done + 1) 0 same low ∙ ap (λ n. n + 1) (at ∙ ap (λ m. times m before) (sym same))
+counts_by tally before i app done false is low at count = get_or-set_other tally app i (done + 1) 0 (other_by i app is) ∙ count
 
 -- one name more is counted
-pub front_next : (apps : List Script) (before front : List ℕ) (app done : ℕ) → IsFront apps before front → app < length apps → done ≡ times app before → IsFront apps (app ∷ before) (set front app (done + 1))
-front_next apps before front app done is low at =
-    let within : app < length front = omega (arith, is.one_each, low) in
+pub tally_next : (apps : List Script) (before tally : List ℕ) (app done : ℕ) → IsTally apps before tally → app < length apps → done ≡ times app before → IsTally apps (app ∷ before) (set tally app (done + 1))
+tally_next apps before tally app done is low at =
+    let within : app < length tally = omega (arith, is.one_each, low) in
     record {
-      one_each = length-set front app (done + 1) ∙ is.one_each;
-      counts = λ i few. counts_by front before i app done (i == app) refl within at (is.counts i few);
+      one_each = length-set tally app (done + 1) ∙ is.one_each;
+      counts = λ i few. counts_by tally before i app done (i == app) refl within at (is.counts i few);
     }
 
--- what a read of the front gives
-pub done_is : (apps : List Script) (before front : List ℕ) (app done : ℕ) → IsFront apps before front → app < length apps → done ≡ slice_index_or front app done → done ≡ times app before
-done_is apps before front app done is low at =
-    let within : app < length front = omega (arith, is.one_each, low) in
-    at ∙ get_or_default front app done 0 within ∙ is.counts app low
+-- what a read of the tally gives
+pub done_is : (apps : List Script) (before tally : List ℕ) (app done : ℕ) → IsTally apps before tally → app < length apps → done ≡ slice_index_or tally app done → done ≡ times app before
+done_is apps before tally app done is low at =
+    let within : app < length tally = omega (arith, is.one_each, low) in
+    at ∙ get_or_default tally app done 0 within ∙ is.counts app low
 
 -- a place is added
 pub ordered_next : (apps : List Script) (old new more : List Place) (before : List ℕ) (app done : ℕ) → old ≡ new ++ ordered apps before → done ≡ times app before → more ≡ old ++ place_at apps app done → more ≡ new ++ ordered apps (app ∷ before)
 ordered_next apps old new more before app done was at adds =
     adds ∙ ap (λ ps. ps ++ place_at apps app done) was ∙ ap (λ n. new ++ ordered apps before ++ place_at apps app n) at ∙ append_assoc new (ordered apps before) (place_at apps app (times app before))
 
-pub round_next : (apps : List Script) (start old more : List Place) (order : List ℕ) (k i done : ℕ) → old ≡ start ++ round apps order k i → done ≡ times i order → more ≡ old ++ place_at apps i (done + k) → more ≡ start ++ round apps order k (i + 1)
-round_next apps start old more order k i done was at adds =
+pub lap_next : (apps : List Script) (start old more : List Place) (order : List ℕ) (k i done : ℕ) → old ≡ start ++ lap apps order k i → done ≡ times i order → more ≡ old ++ place_at apps i (done + k) → more ≡ start ++ lap apps order k (i + 1)
+lap_next apps start old more order k i done was at adds =
     let one : i + 1 ≡ suc i = omega arith in
-    adds ∙ ap (λ ps. ps ++ place_at apps i (done + k)) was ∙ ap (λ n. start ++ round apps order k i ++ place_at apps i (n + k)) at ∙ append_assoc start (round apps order k i) (place_at apps i (times i order + k)) ∙ ap (λ n. start ++ round apps order k n) (sym one)
+    adds ∙ ap (λ ps. ps ++ place_at apps i (done + k)) was ∙ ap (λ n. start ++ lap apps order k i ++ place_at apps i (n + k)) at ∙ append_assoc start (lap apps order k i) (place_at apps i (times i order + k)) ∙ ap (λ n. start ++ lap apps order k n) (sym one)
 
-pub rounds_next : (apps : List Script) (start old more : List Place) (order : List ℕ) (k : ℕ) → old ≡ start ++ rounds apps order k → more ≡ old ++ round apps order k (length apps) → more ≡ start ++ rounds apps order (k + 1)
-unfolding rounds
-rounds_next apps start old more order k was adds =
+pub laps_next : (apps : List Script) (start old more : List Place) (order : List ℕ) (k : ℕ) → old ≡ start ++ laps apps order k → more ≡ old ++ lap apps order k (length apps) → more ≡ start ++ laps apps order (k + 1)
+unfolding laps
+laps_next apps start old more order k was adds =
     let one : k + 1 ≡ suc k = omega arith in
-    adds ∙ ap (λ ps. ps ++ round apps order k (length apps)) was ∙ append_assoc start (rounds apps order k) (round apps order k (length apps)) ∙ ap (λ n. start ++ rounds apps order n) (sym one)
+    adds ∙ ap (λ ps. ps ++ lap apps order k (length apps)) was ∙ append_assoc start (laps apps order k) (lap apps order k (length apps)) ∙ ap (λ n. start ++ laps apps order n) (sym one)
 
 -- no command is added where there are not so many
 pub none_at : (apps : List Script) (i k : ℕ) (x : Script) → i < length apps → x ≡ slice_index_or apps i x → length x.acts ≤ k → place_at apps i k ≡ []
@@ -120,35 +120,35 @@ ordered_within : (apps : List Script) (order : List ℕ) → All (IsPlaceIn apps
 ordered_within apps [] = λ k d low. absurd (omega arith)
 ordered_within apps (i ∷ before) = All-append (IsPlaceIn apps) (ordered apps before) (place_at apps i (times i before)) (ordered_within apps before) (place_within apps i (times i before))
 
-round_within : (apps : List Script) (order : List ℕ) (k n : ℕ) → All (IsPlaceIn apps) (round apps order k n)
-round_within apps order k zero = λ i d low. absurd (omega arith)
-round_within apps order k (suc n) = All-append (IsPlaceIn apps) (round apps order k n) (place_at apps n (times n order + k)) (round_within apps order k n) (place_within apps n (times n order + k))
+lap_within : (apps : List Script) (order : List ℕ) (k n : ℕ) → All (IsPlaceIn apps) (lap apps order k n)
+lap_within apps order k zero = λ i d low. absurd (omega arith)
+lap_within apps order k (suc n) = All-append (IsPlaceIn apps) (lap apps order k n) (place_at apps n (times n order + k)) (lap_within apps order k n) (place_within apps n (times n order + k))
 
-rounds_within : (apps : List Script) (order : List ℕ) (n : ℕ) → All (IsPlaceIn apps) (rounds apps order n)
-unfolding rounds
-rounds_within apps order zero = λ i d low. absurd (omega arith)
-rounds_within apps order (suc n) = All-append (IsPlaceIn apps) (rounds apps order n) (round apps order n (length apps)) (rounds_within apps order n) (round_within apps order n (length apps))
+laps_within : (apps : List Script) (order : List ℕ) (n : ℕ) → All (IsPlaceIn apps) (laps apps order n)
+unfolding laps
+laps_within apps order zero = λ i d low. absurd (omega arith)
+laps_within apps order (suc n) = All-append (IsPlaceIn apps) (laps apps order n) (lap apps order n (length apps)) (laps_within apps order n) (lap_within apps order n (length apps))
 
 pub schedule_within : (apps : List Script) (order : List ℕ) → All (IsPlaceIn apps) (schedule apps order)
-schedule_within apps order = All-append (IsPlaceIn apps) (ordered apps (reverse order)) (rounds apps (reverse order) MAX_ACTS) (ordered_within apps (reverse order)) (rounds_within apps (reverse order) MAX_ACTS)
+schedule_within apps order = All-append (IsPlaceIn apps) (ordered apps (reverse order)) (laps apps (reverse order) MAX_ACTS) (ordered_within apps (reverse order)) (laps_within apps (reverse order) MAX_ACTS)
 
--- the front of an order is short where the order is
-pub front_short : (apps : List Script) (order front : List ℕ) (most : ℕ) → IsFront apps order front → length order < most → All (λ done. done < most) front
-front_short apps order front most is few k d low =
+-- the tally of an order is short where the order is
+pub tally_short : (apps : List Script) (order tally : List ℕ) (most : ℕ) → IsTally apps order tally → length order < most → All (λ done. done < most) tally
+tally_short apps order tally most is few k d low =
     let within : k < length apps = omega (arith, is.one_each, low) in
-    let at : slice_index_or front k d ≡ times k order = get_or_default front k d 0 low ∙ is.counts k within in
+    let at : slice_index_or tally k d ≡ times k order = get_or_default tally k d 0 low ∙ is.counts k within in
     let short = times_few k order in
     omega (arith, at, short, few)
 
 -- nothing was named yet
-pub front_start : (apps : List Script) (front : List ℕ) → length front ≡ length apps → ((k : ℕ) → k < length front → slice_index_or front k 0 ≡ 0) → IsFront apps [] front
-front_start apps front each zeros = record { one_each = each; counts = λ i low. zeros i (omega (arith, each, low)) }
+pub tally_start : (apps : List Script) (tally : List ℕ) → length tally ≡ length apps → ((k : ℕ) → k < length tally → slice_index_or tally k 0 ≡ 0) → IsTally apps [] tally
+tally_start apps tally each zeros = record { one_each = each; counts = λ i low. zeros i (omega (arith, each, low)) }
 
--- before the first round none is added
-pub rounds_start : (apps : List Script) (order : List ℕ) (places : List Place) → places ≡ places ++ rounds apps order 0
-unfolding rounds
-rounds_start apps order places = sym (append-nil places)
+-- before the first lap none is added
+pub laps_start : (apps : List Script) (order : List ℕ) (places : List Place) → places ≡ places ++ laps apps order 0
+unfolding laps
+laps_start apps order places = sym (append-nil places)
 
 -- what a slice of the whole list became is the whole list
-pub whole_front : (n : ℕ) (front rest : List ℕ) → n ≡ length front → take n (front ++ rest) ≡ front
-whole_front n front rest is = ap (λ m. take m (front ++ rest)) is ∙ take-append_seam front rest
+pub whole_tally : (n : ℕ) (tally rest : List ℕ) → n ≡ length tally → take n (tally ++ rest) ≡ tally
+whole_tally n tally rest is = ap (λ m. take m (tally ++ rest)) is ∙ take-append_seam tally rest

@@ -22,7 +22,7 @@ use Rattle.st_event.specs.Observed.{is_settled}
 use Rattle.st_event.specs.Proposals.{pending}
 use Rattle.st_event.specs.Services.{entry_after}
 use Rattle.st_wire.specs.declared.line.WireLine.{WireLine}
-use Rattle.st_world.specs.Rounds.{Run, run_from, enter, enter_all, enter_told, newest_arrivals, turn, turns, unsettled, update_turn}
+use Rattle.st_world.specs.Rounds.{Course, run_from, enter, enter_all, enter_told, newest_arrivals, turn, turns, unsettled, update_turn}
 use Rattle.st_world.specs.Acts.{act_course, all_checked, checked_while, course_of, failed_vals, has_one_of, is_none_left, is_something, rounds_done, with_room}
 use Rattle.st_world.proofs.RunLaws.{entered}
 use Rattle.st_world.proofs.TurnLaws.{enter-length, poll-length, proposed-length, turn-length, while-length}
@@ -42,7 +42,7 @@ none_more k n = omega arith
 one_more : (k n before now later : ℕ) → now ≤ before + k → later ≤ now + k * n → later ≤ before + k * suc n
 one_more k n before now later first rest = omega (arith, mul-suc k n, first, rest)
 
-turns-length : (g : Group) (lines : List WireLine) (run : Run) (es : List Entity) → length (turns g lines run es).past ≤ length run.past + turn_most lines * length es
+turns-length : (g : Group) (lines : List WireLine) (run : Course) (es : List Entity) → length (turns g lines run es).past ≤ length run.past + turn_most lines * length es
 turns-length g lines run [] = none_more (turn_most lines) (length run.past)
 turns-length g lines run (e ∷ es) =
     let next = turn g lines run e in
@@ -53,7 +53,7 @@ unsettled_few g past =
     let both = length-filter_both (λ (e : Entity). not (is_settled g past e)) (λ e. not (not (is_settled g past e))) (λ e. refl) (entities_of g) in
     omega (arith, both, entities_count g)
 
-round-within : (g : Group) (lines : List WireLine) (run : Run) → length (turns g lines run (unsettled g run.past)).past ≤ length run.past + round_most g lines
+round-within : (g : Group) (lines : List WireLine) (run : Course) → length (turns g lines run (unsettled g run.past)).past ≤ length run.past + round_most g lines
 round-within g lines run =
     let made = turns-length g lines run (unsettled g run.past) in
     let few = mul-le-mul_left (turn_most lines) (unsettled_few g run.past) in
@@ -62,23 +62,23 @@ round-within g lines run =
     within : (before now added most : ℕ) → now ≤ before + added → added ≤ most → now ≤ before + most
     within before now added most made few = omega (arith, made, few)
 
-rounds-within : (g : Group) (lines : List WireLine) (n : ℕ) (run : Run) → length (rounds_done g lines n run).past ≤ length run.past + round_most g lines * n
+rounds-within : (g : Group) (lines : List WireLine) (n : ℕ) (run : Course) → length (rounds_done g lines n run).past ≤ length run.past + round_most g lines * n
 unfolding rounds_done
 rounds-within g lines zero run = none_more (round_most g lines) (length run.past)
 rounds-within g lines (suc n) run =
     let next = turns g lines run (unsettled g run.past) in
     let more = one_more (round_most g lines) n (length run.past) in
-    by_test (λ (r : Run). length r.past ≤ length run.past + round_most g lines * suc n) (is_none_left (unsettled g run.past)) run (rounds_done g lines n next)
+    by_test (λ (r : Course). length r.past ≤ length run.past + round_most g lines * suc n) (is_none_left (unsettled g run.past)) run (rounds_done g lines n next)
     (omega arith)
     (more (length next.past) (length (rounds_done g lines n next).past) (round-within g lines run) (rounds-within g lines n next))
 
-settle-within : (g : Group) (lines : List WireLine) (n : ℕ) (run : Run) → length (rounds_done g lines n run).past ≤ length run.past + round_most g lines * (n + 1)
+settle-within : (g : Group) (lines : List WireLine) (n : ℕ) (run : Course) → length (rounds_done g lines n run).past ≤ length run.past + round_most g lines * (n + 1)
 settle-within g lines n run = looser (round_most g lines) n (length run.past) (length (rounds_done g lines n run).past) (rounds-within g lines n run)
   where
     looser : (k n before now : ℕ) → now ≤ before + k * n → now ≤ before + k * (n + 1)
     looser k n before now few = let one : n + 1 ≡ suc n = omega arith in let last = ap (λ (m : ℕ). k * m) one in omega (arith, few, last, mul-suc k n)
 
-course-within : (app : AppId) (act : Act) (g : Group) (lines : List WireLine) (run : Run) → length (course_of app act g lines run).past ≤ length run.past + share act g lines
+course-within : (app : AppId) (act : Act) (g : Group) (lines : List WireLine) (run : Course) → length (course_of app act g lines run).past ≤ length run.past + share act g lines
 course-within app (Propose n rows) g lines run = let few = proposed-length g run app rows in omega (arith, few)
 course-within app (Await n) g lines run = while-length g (has_one_of app) MAX_PENDING run
 course-within app (Settle n rounds) g lines run = settle-within g lines rounds run
@@ -94,29 +94,29 @@ act-within app act h lines = course-within app act h.group lines (run_from h.pas
 
 -- what each event keeps, a command keeps
 
-module _ (g : Group) (P : Run → Type 0) (keeps : (run : Run) (event : Event) → P run → P (enter g run event)) where
-  all-keep : (run : Run) (events : List Event) → P run → P (enter_all g run events)
+module _ (g : Group) (P : Course → Type 0) (keeps : (run : Course) (event : Event) → P run → P (enter g run event)) where
+  all-keep : (run : Course) (events : List Event) → P run → P (enter_all g run events)
   all-keep run [] is = is
   all-keep run (event ∷ events) is = all-keep (enter g run event) events (keeps run event is)
 
-  told-keeps : (lines : List WireLine) (run : Run) (event : Event) → P run → P (enter_told g lines run event)
+  told-keeps : (lines : List WireLine) (run : Course) (event : Event) → P run → P (enter_told g lines run event)
   told-keeps lines run event is = let next = enter g run event in all-keep next (newest_arrivals lines next.past) (keeps run event is)
 
-  turn-keeps : (lines : List WireLine) (run : Run) (e : Entity) → P run → P (turn g lines run e)
+  turn-keeps : (lines : List WireLine) (run : Course) (e : Entity) → P run → P (turn g lines run e)
   turn-keeps lines run e is = told-keeps lines (update_turn g lines run e) (make_report e) (keeps (enter_told g lines run (Send e)) (Finish e) (told-keeps lines run (Send e) is))
 
-  turns-keep : (lines : List WireLine) (run : Run) (es : List Entity) → P run → P (turns g lines run es)
+  turns-keep : (lines : List WireLine) (run : Course) (es : List Entity) → P run → P (turns g lines run es)
   turns-keep lines run [] is = is
   turns-keep lines run (e ∷ es) is = turns-keep lines (turn g lines run e) es (turn-keeps lines run e is)
 
-  while-keeps : (waits : List Proposal → Bool) (n : ℕ) (run : Run) → P run → P (checked_while g waits n run)
+  while-keeps : (waits : List Proposal → Bool) (n : ℕ) (run : Course) → P run → P (checked_while g waits n run)
   unfolding checked_while
   while-keeps waits zero run is = is
   while-keeps waits (suc n) run is =
       let next = enter g run Check in
       by_test P (waits (pending run.past)) (checked_while g waits n next) run (while-keeps waits n next (keeps run Check is)) is
 
-  rounds-keep : (lines : List WireLine) (n : ℕ) (run : Run) → P run → P (rounds_done g lines n run)
+  rounds-keep : (lines : List WireLine) (n : ℕ) (run : Course) → P run → P (rounds_done g lines n run)
   unfolding rounds_done
   rounds-keep lines zero run is = is
   rounds-keep lines (suc n) run is =
@@ -124,7 +124,7 @@ module _ (g : Group) (P : Run → Type 0) (keeps : (run : Run) (event : Event) �
       let next = turns g lines run es in
       by_test P (is_none_left es) run (rounds_done g lines n next) is (rounds-keep lines n next (turns-keep lines run es is))
 
-  course-keeps : (app : AppId) (act : Act) (lines : List WireLine) (run : Run) → P run → P (course_of app act g lines run)
+  course-keeps : (app : AppId) (act : Act) (lines : List WireLine) (run : Course) → P run → P (course_of app act g lines run)
   course-keeps app (Propose n rows) lines run is = keeps (with_room g run) (Submit app rows) (by_test P (length (pending run.past) == MAX_PENDING) (enter g run Check) run (keeps run Check is) is)
   course-keeps app (Await n) lines run is = while-keeps (has_one_of app) MAX_PENDING run is
   course-keeps app (Settle n rounds) lines run is = rounds-keep lines rounds run is
@@ -136,18 +136,18 @@ module _ (g : Group) (P : Run → Type 0) (keeps : (run : Run) (event : Event) �
   course-keeps app (ReadAt n version entity var) lines run is = is
 
 -- a run that has stopped has a full journal
-abbrev pub IsFullAtStop : Run → Type 0
+abbrev pub IsFullAtStop : Course → Type 0
 IsFullAtStop run = run.stopped ≡ true → MAX_ENTRIES ≤ length run.past
 
 full_by : (n : ℕ) → nat_lt n MAX_ENTRIES ≡ false → MAX_ENTRIES ≤ n
 full_by n is = grind (arith, nat_tests)
 
-entered-full : (run : Run) (entry : Entry) (stopped room : Bool) → nat_lt (length run.past) MAX_ENTRIES ≡ room → IsFullAtStop run → IsFullAtStop (entered run entry stopped room)
+entered-full : (run : Course) (entry : Entry) (stopped room : Bool) → nat_lt (length run.past) MAX_ENTRIES ≡ room → IsFullAtStop run → IsFullAtStop (entered run entry stopped room)
 entered-full run entry true room is full = full
 entered-full run entry false true is full = λ stops. cc
 entered-full run entry false false is full = λ stops. full_by (length run.past) is
 
-enter-full : (g : Group) (run : Run) (event : Event) → IsFullAtStop run → IsFullAtStop (enter g run event)
+enter-full : (g : Group) (run : Course) (event : Event) → IsFullAtStop run → IsFullAtStop (enter g run event)
 enter-full g run event full = entered-full run (entry_after g run.past event) run.stopped (nat_lt (length run.past) MAX_ENTRIES) refl full
 
 starts-full : (past : List Entry) → IsFullAtStop (run_from past)
@@ -171,7 +171,7 @@ unfolding checked_while
 no_checks g = refl
 
 pub checks-within : (g : Group) (past : List Entry) (most : ℕ) → length past ≤ most → length (all_checked g (run_from past)).past ≤ with_checks most
-checks-within g [] zero few = let none = ap (λ (r : Run). length r.past) (no_checks g) in omega (arith, none)
-checks-within g [] (suc most) few = let none = ap (λ (r : Run). length r.past) (no_checks g) in omega (arith, none)
+checks-within g [] zero few = let none = ap (λ (r : Course). length r.past) (no_checks g) in omega (arith, none)
+checks-within g [] (suc most) few = let none = ap (λ (r : Course). length r.past) (no_checks g) in omega (arith, none)
 checks-within g (entry ∷ past) zero few = absurd (omega (arith, few))
 checks-within g (entry ∷ past) (suc most) few = let made = while-length g is_something MAX_PENDING (run_from (entry ∷ past)) in omega (arith, made, few)

@@ -8,7 +8,7 @@ use Rattle.st_event.specs.declared.act.Act.{Act}
 use Rattle.st_grammar.specs.declared.doc.Script.{Script}
 use Rattle.st_grammar.specs.declared.limits.TheConstants.{MAX_ACTS}
 use Rattle.st_serial.specs.declared.schedule.Place.{Place}
-use Rattle.st_serial.specs.Schedule.{times, act_count, place_at, ordered, round, rounds, schedule}
+use Rattle.st_serial.specs.Schedule.{times, act_count, place_at, ordered, lap, laps, schedule}
 use Rattle.st_serial.specs.Serial.{act_in, act_of}
 use Rattle.st_serial.proofs.Lists.{by_test}
 
@@ -67,29 +67,29 @@ module _ (f : Act → ℕ) (apps : List Script) where
   all_upto t zero = 0
   all_upto t (suc n) = all_upto t n + upto n (t n)
 
-  -- how many commands of an application are done after an order and so many rounds
+  -- how many commands of an application are done after an order and so many laps
   abbrev done : List ℕ → ℕ → ℕ → ℕ
   done order k i = times i order + k
 
-  -- rounds
+  -- laps
 
-  round_within : (order : List ℕ) (k n : ℕ) → sum_by place_weight (round apps order k n) + all_upto (done order k) n ≤ all_upto (done order (suc k)) n
-  round_within order k zero = omega arith
-  round_within order k (suc n) =
+  lap_within : (order : List ℕ) (k n : ℕ) → sum_by place_weight (lap apps order k n) + all_upto (done order k) n ≤ all_upto (done order (suc k)) n
+  lap_within order k zero = omega arith
+  lap_within order k (suc n) =
       let t = times n order + k in
-      let both = sum_by-append place_weight (round apps order k n) (place_at apps n t) in
-      let before = round_within order k n in
+      let both = sum_by-append place_weight (lap apps order k n) (place_at apps n t) in
+      let before = lap_within order k n in
       let here = place_within n t in
       let longer : times n order + suc k ≡ suc t = omega arith in
       let next = ap (upto n) longer ∙ upto_next n t in
       omega (arith, both, before, here, next)
 
-  rounds_within : (order : List ℕ) (k : ℕ) → sum_by place_weight (rounds apps order k) + all_upto (done order 0) (length apps) ≤ all_upto (done order k) (length apps)
-  unfolding rounds
-  rounds_within order zero = omega arith
-  rounds_within order (suc k) =
-      let both = sum_by-append place_weight (rounds apps order k) (round apps order k (length apps)) in
-      omega (arith, both, rounds_within order k, round_within order k (length apps))
+  laps_within : (order : List ℕ) (k : ℕ) → sum_by place_weight (laps apps order k) + all_upto (done order 0) (length apps) ≤ all_upto (done order k) (length apps)
+  unfolding laps
+  laps_within order zero = omega arith
+  laps_within order (suc k) =
+      let both = sum_by-append place_weight (laps apps order k) (lap apps order k (length apps)) in
+      omega (arith, both, laps_within order k, lap_within order k (length apps))
 
   -- the order
 
@@ -153,9 +153,9 @@ module _ (f : Act → ℕ) (apps : List Script) where
   pub schedule_within : (order : List ℕ) → sum_by place_weight (schedule apps order) ≤ sum_by script_weight apps
   schedule_within order =
       let names = reverse order in
-      let both = sum_by-append place_weight (ordered apps names) (rounds apps names MAX_ACTS) in
+      let both = sum_by-append place_weight (ordered apps names) (laps apps names MAX_ACTS) in
       let first = ordered_within names in
-      let last = rounds_within names MAX_ACTS in
+      let last = laps_within names MAX_ACTS in
       let all = all_within (done names MAX_ACTS) (length apps) in
       let most = sum_by-take-le script_weight apps (length apps) in
       omega (arith, both, first, last, all, most)

@@ -11,7 +11,7 @@ use Rattle.st_event.specs.declared.journal.Entry.{Entry}
 use Rattle.st_wire.specs.declared.line.WireLine.{WireLine}
 use Rattle.st_world.specs.declared.world.rounds.Going.{Going}
 use Rattle.st_world.specs.World.{WorldView}
-use Rattle.st_world.specs.Rounds.{Run as Course, run_from, is_full, Goes, HasSamePlant}
+use Rattle.st_world.specs.Rounds.{Course, run_from, is_full, Goes, HasSamePlant}
 use Rattle.st_world.specs.Acts.{ActFits, act_course, all_checked, group_number, seen_by}
 use Rattle.st_serial.specs.Serial.{GroupState, FitsIn, act_done, checks_in, course_in, groups_in, logged, state_at, state_of, states_of}
 use Rattle.st_serial.proofs.Runs.{decide_full, decide_next, decided_from, fits_group, group_in, other_done, read_done, run_of}

@@ -26,19 +26,19 @@ abbrev pub ordered : List Script → List ℕ → List Place
 ordered apps [] = []
 ordered apps (i ∷ before) = ordered apps before ++ place_at apps i (times i before)
 
--- in round k each of the first n applications does its k-th command behind those that the order let it do
-abbrev pub round : List Script → List ℕ → ℕ → ℕ → List Place
-round apps order k zero = []
-round apps order k (suc i) = round apps order k i ++ place_at apps i (times i order + k)
+-- in lap k each of the first n applications does its k-th command behind those that the order let it do
+abbrev pub lap : List Script → List ℕ → ℕ → ℕ → List Place
+lap apps order k zero = []
+lap apps order k (suc i) = lap apps order k i ++ place_at apps i (times i order + k)
 
--- the first so many rounds, one after another
-unfoldable pub rounds : List Script → List ℕ → ℕ → List Place
-rounds apps order zero = []
-rounds apps order (suc k) = rounds apps order k ++ round apps order k (length apps)
+-- the first so many laps, one after another
+unfoldable pub laps : List Script → List ℕ → ℕ → List Place
+laps apps order zero = []
+laps apps order (suc k) = laps apps order k ++ lap apps order k (length apps)
 
--- first the commands that the order asks for, and then rounds until none is left: no application has more than MAX_ACTS commands
+-- first the commands that the order asks for, and then laps until none is left: no application has more than MAX_ACTS commands
 abbrev pub schedule : List Script → List ℕ → List Place
-schedule apps order = ordered apps (reverse order) ++ rounds apps (reverse order) MAX_ACTS
+schedule apps order = ordered apps (reverse order) ++ laps apps (reverse order) MAX_ACTS
 
 abbrev pub HasFewActs : Script → Type 0
 HasFewActs app = length app.acts ≤ MAX_ACTS
@@ -49,6 +49,6 @@ pub record IsPlaceIn (apps : List Script) (place : Place) : Type 0 where
   pub act : place.act < act_count apps place.app
 
 -- how often each application's name has stood in an order
-pub record IsFront (apps : List Script) (order : List ℕ) (front : List ℕ) : Type 0 where
-  pub one_each : length front ≡ length apps
-  pub counts : (i : ℕ) → i < length apps → slice_index_or front i 0 ≡ times i order
+pub record IsTally (apps : List Script) (order : List ℕ) (tally : List ℕ) : Type 0 where
+  pub one_each : length tally ≡ length apps
+  pub counts : (i : ℕ) → i < length apps → slice_index_or tally i 0 ≡ times i order

@@ -18,7 +18,7 @@ use Rattle.st_serial.specs.declared.schedule.Place.{Place}
 use Rattle.st_serial.specs.Schedule.{schedule}
 use Rattle.st_wire.specs.declared.line.WireLine.{WireLine}
 use Rattle.st_world.specs.World.{WorldView}
-use Rattle.st_world.specs.Rounds.{Run as Course, run_from}
+use Rattle.st_world.specs.Rounds.{Course, run_from}
 use Rattle.st_world.specs.Acts.{ActFits, act_course, all_checked, group_number, seen_by}
 
 -- a group while scripts run: it with its journal, and the lines of its loss plan

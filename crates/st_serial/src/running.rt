@@ -25,14 +25,14 @@ pub fn topo_of(alloc: Global, parts: &Parts) -> Result<GroupTopo, AllocError>
     }
 }
 
-/// The plan of these wire lines.
-fn plan_of(alloc: Global, lines: &[WireLine]) -> Result<LossPlan, AllocError>
-    ensures { IfOk result (λ plan. plan ≡ lines.now) }
+/// The losses of these wire lines.
+fn losses_of(alloc: Global, lines: &[WireLine]) -> Result<LossPlan, AllocError>
+    ensures { IfOk result (λ losses. losses ≡ lines.now) }
 {
     Ok(LossPlan::from_lines(alloc, lines.to_vec(alloc)?))
 }
 
-/// The worlds of a document's groups at their opening, in order, each with the plan of its wire lines.
+/// The worlds of a document's groups at their opening, in order, each with the losses of its wire lines.
 pub fn open_worlds(
     alloc: Global,
     groups: &[Parts],
@@ -44,8 +44,8 @@ pub fn open_worlds(
 {
     let mut sites = Vec::new(alloc);
     for (i, parts) in groups.iter().enumerate() {
-        let plan = plan_of(alloc, wires[i].as_slice())?;
-        sites.push(World::start(alloc, topo_of(alloc, parts)?, plan)?)?;
+        let losses = losses_of(alloc, wires[i].as_slice())?;
+        sites.push(World::start(alloc, topo_of(alloc, parts)?, losses)?)?;
     }
     Ok(sites)
 }

@@ -1,9 +1,9 @@
 //! The order in which the commands of a document's applications are done, on one thread: first as the document's order asks
-//! for them, and then round after round.
+//! for them, and then lap after lap.
 
 ghost use Rattle.std.specs.Prelude.{◌≡◌, ◌+◌, ◌<◌, ◌≤◌, ◌^◌, ◌++◌, [], ℕ, List, All, IfOk, OnOk, length, reverse, slice_index_or};
 ghost use Rattle.st_grammar.specs.declared.limits.TheConstants.{MAX_ACTS};
-ghost use Rattle.st_serial.specs.Schedule.{place_at, ordered as ordered_lem, round as round_lem, rounds as rounds_lem, schedule as schedule_lem, times, IsFront, IsPlaceIn, HasFewActs};
+ghost use Rattle.st_serial.specs.Schedule.{place_at, ordered as ordered_lem, lap as lap_lem, laps as laps_lem, schedule as schedule_lem, times, IsTally, IsPlaceIn, HasFewActs};
 
 use st_grammar::{MAX_ACTS, Script};
 use std::alloc::{AllocError, Global};
@@ -30,54 +30,54 @@ fn add_place(places: &mut Vec<Place>, apps: &[Script], app: u32, k: usize) -> Re
 /// Adds the places of the commands that an order lets applications do, and counts how often it names each.
 fn add_ordered(
     places: &mut Vec<Place>,
-    front: &mut [usize],
+    tally: &mut [usize],
     apps: &[Script],
     order: &[u32],
 ) -> Result<(), AllocError>
-    requires front { IsFront apps.now [] front.old }
+    requires tally { IsTally apps.now [] tally.old }
     requires few { All HasFewActs apps.now }
     requires order { All (λ i. i < length apps.now) order.now }
     ensures places { OnOk result (places.new.items ≡ places.old.items ++ ordered_lem apps.now (reverse order.now)) }
-    ensures front { OnOk result (IsFront apps.now (reverse order.now) front.new) }
+    ensures tally { OnOk result (IsTally apps.now (reverse order.now) tally.new) }
 {
     for &app in order {
-        let done = front[app as usize];
+        let done = tally[app as usize];
         add_place(places, apps, app, done)?;
-        front[app as usize] = done + 1;
+        tally[app as usize] = done + 1;
     }
     Ok(())
 }
 
-/// Adds the places of one round: of each application's next command, which is number `k` behind those that the order let it do.
-fn add_round(
+/// Adds the places of one lap: of each application's next command, which is number `k` behind those that the order let it do.
+fn add_lap(
     places: &mut Vec<Place>,
-    front: &[usize],
+    tally: &[usize],
     apps: &[Script],
     k: usize,
 ) -> Result<(), AllocError>
     requires few_apps { length apps.now < 2 ^ 32 }
     requires few { All HasFewActs apps.now }
     requires within { k < MAX_ACTS }
-    requires short { All (λ done. done < 2 ^ 63) front.now }
-    requires front { length front.now ≡ length apps.now }
-    ensures { (order : List ℕ) → IsFront apps.now order front.now → OnOk result (places.new.items ≡ places.old.items ++ round_lem apps.now order k (length apps.now)) }
+    requires short { All (λ done. done < 2 ^ 63) tally.now }
+    requires tally { length tally.now ≡ length apps.now }
+    ensures { (order : List ℕ) → IsTally apps.now order tally.now → OnOk result (places.new.items ≡ places.old.items ++ lap_lem apps.now order k (length apps.now)) }
 {
-    for (app, done) in front.iter().enumerate() {
+    for (app, done) in tally.iter().enumerate() {
         add_place(places, apps, app as u32, *done + k)?;
     }
     Ok(())
 }
 
-/// Adds the places of all rounds.
-fn add_rounds(places: &mut Vec<Place>, front: &[usize], apps: &[Script]) -> Result<(), AllocError>
+/// Adds the places of all laps.
+fn add_laps(places: &mut Vec<Place>, tally: &[usize], apps: &[Script]) -> Result<(), AllocError>
     requires few_apps { length apps.now < 2 ^ 32 }
     requires few { All HasFewActs apps.now }
-    requires short { All (λ done. done < 2 ^ 63) front.now }
-    requires front { length front.now ≡ length apps.now }
-    ensures { (order : List ℕ) → IsFront apps.now order front.now → OnOk result (places.new.items ≡ places.old.items ++ rounds_lem apps.now order MAX_ACTS) }
+    requires short { All (λ done. done < 2 ^ 63) tally.now }
+    requires tally { length tally.now ≡ length apps.now }
+    ensures { (order : List ℕ) → IsTally apps.now order tally.now → OnOk result (places.new.items ≡ places.old.items ++ laps_lem apps.now order MAX_ACTS) }
 {
     for k in 0..MAX_ACTS {
-        add_round(places, front, apps, k)?;
+        add_lap(places, tally, apps, k)?;
     }
     Ok(())
 }
@@ -91,8 +91,8 @@ pub fn schedule(alloc: Global, apps: &[Script], order: &[u32]) -> Result<Vec<Pla
     ensures within { IfOk result (λ places. All (IsPlaceIn apps.now) places.items) }
 {
     let mut places = Vec::new(alloc);
-    let mut front = vec![in alloc; 0; apps.len()]?;
-    add_ordered(&mut places, front.as_mut_slice(), apps, order)?;
-    add_rounds(&mut places, front.as_slice(), apps)?;
+    let mut tally = vec![in alloc; 0; apps.len()]?;
+    add_ordered(&mut places, tally.as_mut_slice(), apps, order)?;
+    add_laps(&mut places, tally.as_slice(), apps)?;
     Ok(places)
 }

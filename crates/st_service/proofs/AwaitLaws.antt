@@ -18,7 +18,7 @@ use Rattle.st_event.specs.Replies.{check_reply}
 use Rattle.st_event.specs.Services.{entry_after}
 use Rattle.st_event.proofs.LawLemmas.{few_wait}
 use Rattle.st_event.proofs.Standings.{length-deciders}
-use Rattle.st_world.specs.Rounds.{Run, run_from, enter, is_full}
+use Rattle.st_world.specs.Rounds.{Course, run_from, enter, is_full}
 use Rattle.st_world.specs.World.{IsBeginning}
 use Rattle.st_world.specs.declared.world.rounds.Going.{Going}
 use Rattle.st_world.specs.declared.world.rounds.Going.TheVariants.{On}
@@ -102,8 +102,8 @@ is_pending-at ticket n is = grind (arith, is, nat_tests)
 
 -- a check that had room
 pub entered_one : (past after : List Entry) (entry : Entry) (room : Bool) → entered (run_from past) entry false room ≡ record { past = after; stopped = false } → after ≡ entry ∷ past
-entered_one past after entry true is = sym (ap (λ (r : Run). r.past) is)
-entered_one past after entry false is = let stopped : true ≡ false = ap (λ (r : Run). r.stopped) is in absurd (cc stopped)
+entered_one past after entry true is = sym (ap (λ (r : Course). r.past) is)
+entered_one past after entry false is = let stopped : true ≡ false = ap (λ (r : Course). r.stopped) is in absurd (cc stopped)
 
 -- each check that was made leaves a ticket fewer before this one
 pub fewer_left : (g : Group) (ticket number k : ℕ) (mid : List Made) (was : List ℕ) (after : List Made) (now : List ℕ) → WentOn g ticket number mid was after now

@@ -14,7 +14,7 @@ use Rattle.st_event.specs.declared.event.Event.TheVariants.{Check}
 use Rattle.st_event.specs.Observed.{is_settled}
 use Rattle.st_event.specs.Services.{entry_after}
 use Rattle.st_wire.specs.declared.line.WireLine.{WireLine}
-use Rattle.st_world.specs.Rounds.{Run, run_from, unsettled}
+use Rattle.st_world.specs.Rounds.{Course, run_from, unsettled}
 use Rattle.st_world.specs.declared.world.rounds.Going.{Going}
 use Rattle.st_world.specs.declared.world.rounds.Going.TheVariants.{On, Full}
 use Rattle.st_board.proofs.Prefixes.{prefix_self, prefix_trans, prefix_length}
@@ -80,7 +80,7 @@ pub same_mine : (before after : List Made) (was now : List ℕ) → Grows 0 befo
 same_mine before after was now g = g.1.1 ∙ (ap (λ l. was ++ l) (no_more g.1.0 (omega (arith, g.1.2))) ∙ append-nil was)
 
 -- what was entered, for one that had seen less
-enters_from : (course : List Entry → Run) (going : Going) (p : ℕ) (mid before at : List Made) (was got : List ℕ) (after : List Made) (now : List ℕ) → IsPrefix before at → got ≡ was → Enters course going p mid at got after now → Enters course going p mid before was after now
+enters_from : (course : List Entry → Course) (going : Going) (p : ℕ) (mid before at : List Made) (was got : List ℕ) (after : List Made) (now : List ℕ) → IsPrefix before at → got ≡ was → Enters course going p mid at got after now → Enters course going p mid before was after now
 enters_from course going p mid before at was got after now seen same e = record {
   entries = e.entries;
   puts = (prefix_trans before at mid seen e.puts.0, e.puts.1, e.puts.2 ∙ ap (λ l. l ++ numbers (length mid) (length e.entries)) same);

@@ -26,7 +26,7 @@ use Rattle.st_wire.specs.declared.line.WireLine.{WireLine}
 use Rattle.st_wire.specs.Deliveries.{deliveries}
 use Rattle.st_wire.proofs.DeliveryLaws.{few_deliveries}
 use Rattle.st_world.specs.World.{IsBeginning}
-use Rattle.st_world.specs.Rounds.{Run, run_from, enter, enter_all, arrivals_of, newest_arrivals, enter_told, update_turn, poll, turn}
+use Rattle.st_world.specs.Rounds.{Course, run_from, enter, enter_all, arrivals_of, newest_arrivals, enter_told, update_turn, poll, turn}
 use Rattle.st_world.specs.Acts.{course_of, with_room, proposed}
 use Rattle.st_world.proofs.RunLaws.{entered}
 use Rattle.st_service.specs.declared.work.Part.{Part}
@@ -51,7 +51,7 @@ is_quiet true (e ∷ f ∷ es) = not (is_check e.event) && is_quiet true (f ∷ 
 
 -- a run added entries to a journal: at most so many, none another's request, and a check at the most as the first, if it may make one; and it stopped
 -- at a full journal alone
-pub record Ran (d : Bool) (number most : ℕ) (past : List Entry) (run : Run) : Type 0 where
+pub record Ran (d : Bool) (number most : ℕ) (past : List Entry) (run : Course) : Type 0 where
   pub more : List Entry
   pub all : run.past ≡ more ++ past
   pub own : all_own number more ≡ true
@@ -77,7 +77,7 @@ quiet_more e (f ∷ es) other all = rw other all
 own_more : (number : ℕ) (e : Entry) (es : List Entry) → is_own number (asker e.event) ≡ true → all_own number es ≡ true → all_own number (e ∷ es) ≡ true
 own_more number e es own all = rw own all
 
-entered-ran : (number most : ℕ) (past : List Entry) (run : Run) (entry : Entry) (stopped room : Bool) → IsPlain number entry.event → run.stopped ≡ stopped → nat_lt (length run.past) MAX_ENTRIES ≡ room → Ran false number most past run → Ran false number (most + 1) past (entered run entry stopped room)
+entered-ran : (number most : ℕ) (past : List Entry) (run : Course) (entry : Entry) (stopped room : Bool) → IsPlain number entry.event → run.stopped ≡ stopped → nat_lt (length run.past) MAX_ENTRIES ≡ room → Ran false number most past run → Ran false number (most + 1) past (entered run entry stopped room)
 entered-ran number most past run entry true room plain is fits r = record { more = r.more; all = r.all; own = r.own; quiet = r.quiet; few = omega (arith, r.few); full = r.full }
 entered-ran number most past run entry false true plain is fits r = record {
   more = entry ∷ r.more;
@@ -89,7 +89,7 @@ entered-ran number most past run entry false true plain is fits r = record {
 }
 entered-ran number most past run entry false false plain is fits r = record { more = r.more; all = r.all; own = r.own; quiet = r.quiet; few = omega (arith, r.few); full = λ e. not_below (length run.past) MAX_ENTRIES fits }
 
-pub enter-ran : (g : Group) (number most : ℕ) (past : List Entry) (run : Run) (event : Event) → IsPlain number event → Ran false number most past run → Ran false number (most + 1) past (enter g run event)
+pub enter-ran : (g : Group) (number most : ℕ) (past : List Entry) (run : Course) (event : Event) → IsPlain number event → Ran false number most past run → Ran false number (most + 1) past (enter g run event)
 enter-ran g number most past run event plain r = entered-ran number most past run (entry_after g run.past event) run.stopped (nat_lt (length run.past) MAX_ENTRIES) plain refl refl r
 
 -- events that are all plain
@@ -97,13 +97,13 @@ abbrev AllPlain : ℕ → List Event → Type 0
 AllPlain number [] = Unit {0}
 AllPlain number (e ∷ es) = IsPlain number e × AllPlain number es
 
-enter_all-ran : (g : Group) (number most : ℕ) (past : List Entry) (run : Run) (events : List Event) → AllPlain number events → Ran false number most past run → Ran false number (most + length events) past (enter_all g run events)
+enter_all-ran : (g : Group) (number most : ℕ) (past : List Entry) (run : Course) (events : List Event) → AllPlain number events → Ran false number most past run → Ran false number (most + length events) past (enter_all g run events)
 enter_all-ran g number most past run [] plain r = let e : most + 0 ≡ most = omega arith in rw e r
 enter_all-ran g number most past run (event ∷ events) plain r =
     let e : most + suc (length events) ≡ (most + 1) + length events = omega arith in
     rw e (enter_all-ran g number (most + 1) past (enter g run event) events plain.1 (enter-ran g number most past run event plain.0 r))
 
-more_room : (d : Bool) (number few most : ℕ) (past : List Entry) (run : Run) → few ≤ most → Ran d number few past run → Ran d number most past run
+more_room : (d : Bool) (number few most : ℕ) (past : List Entry) (run : Course) → few ≤ most → Ran d number few past run → Ran d number most past run
 more_room d number few most past run le r = record { more = r.more; all = r.all; own = r.own; quiet = r.quiet; few = omega (arith, le, r.few); full = r.full }
 
 plain_deliver : (number : ℕ) (ns : List ℕ) → AllPlain number (map Deliver ns)
@@ -132,7 +132,7 @@ few_newest : (lines : List WireLine) (past : List Entry) → length (newest_arri
 few_newest lines [] = omega arith
 few_newest lines (entry ∷ past) = few_arrivals lines entry.reply
 
-enter_told-ran : (g : Group) (lines : List WireLine) (number most : ℕ) (past : List Entry) (run : Run) (event : Event) → IsPlain number event → Ran false number most past run → Ran false number (most + (2 + length lines)) past (enter_told g lines run event)
+enter_told-ran : (g : Group) (lines : List WireLine) (number most : ℕ) (past : List Entry) (run : Course) (event : Event) → IsPlain number event → Ran false number most past run → Ran false number (most + (2 + length lines)) past (enter_told g lines run event)
 enter_told-ran g lines number most past run event plain r =
     let next = enter g run event in
     let f = few_newest lines next.past in
@@ -148,14 +148,14 @@ plain_finish number e = record { check = refl; own = refl }
 plain_report : (number : ℕ) (e : Entity) → IsPlain number (make_report e)
 plain_report number e = record { check = refl; own = refl }
 
-update-ran : (g : Group) (lines : List WireLine) (number most : ℕ) (past : List Entry) (run : Run) (e : Entity) → Ran false number most past run → Ran false number (most + (3 + length lines)) past (update_turn g lines run e)
+update-ran : (g : Group) (lines : List WireLine) (number most : ℕ) (past : List Entry) (run : Course) (e : Entity) → Ran false number most past run → Ran false number (most + (3 + length lines)) past (update_turn g lines run e)
 update-ran g lines number most past run e r = more_room false number ((most + (2 + length lines)) + 1) (most + (3 + length lines)) past (update_turn g lines run e) (omega arith)
     (enter-ran g number (most + (2 + length lines)) past (enter_told g lines run (Send e)) (Finish e) (plain_finish number e) (enter_told-ran g lines number most past run (Send e) (plain_send number e) r))
 
-poll-ran : (g : Group) (lines : List WireLine) (number most : ℕ) (past : List Entry) (run : Run) (e : Entity) → Ran false number most past run → Ran false number (most + (2 + length lines)) past (poll g lines run e)
+poll-ran : (g : Group) (lines : List WireLine) (number most : ℕ) (past : List Entry) (run : Course) (e : Entity) → Ran false number most past run → Ran false number (most + (2 + length lines)) past (poll g lines run e)
 poll-ran g lines number most past run e r = enter_told-ran g lines number most past run (make_report e) (plain_report number e) r
 
-turn-ran : (g : Group) (lines : List WireLine) (number most : ℕ) (past : List Entry) (run : Run) (e : Entity) → Ran false number most past run → Ran false number (most + (5 + 2 * length lines)) past (turn g lines run e)
+turn-ran : (g : Group) (lines : List WireLine) (number most : ℕ) (past : List Entry) (run : Course) (e : Entity) → Ran false number most past run → Ran false number (most + (5 + 2 * length lines)) past (turn g lines run e)
 turn-ran g lines number most past run e r = more_room false number ((most + (3 + length lines)) + (2 + length lines)) (most + (5 + 2 * length lines)) past (turn g lines run e) (omega arith)
     (poll-ran g lines number (most + (3 + length lines)) past (update_turn g lines run e) e (update-ran g lines number most past run e r))
 
@@ -177,7 +177,7 @@ quiet_then : (e : Entry) (es : List Entry) → is_check e.event ≡ false → is
 quiet_then e [] other all = refl
 quiet_then e (f ∷ es) other all = rw other all
 
-then-ran : (number most : ℕ) (past : List Entry) (run : Run) (entry : Entry) (stopped room : Bool) → IsPlain number entry.event → nat_lt (length run.past) MAX_ENTRIES ≡ room → Ran true number most past run → Ran true number (most + 1) past (entered run entry stopped room)
+then-ran : (number most : ℕ) (past : List Entry) (run : Course) (entry : Entry) (stopped room : Bool) → IsPlain number entry.event → nat_lt (length run.past) MAX_ENTRIES ≡ room → Ran true number most past run → Ran true number (most + 1) past (entered run entry stopped room)
 then-ran number most past run entry true room plain fits r = record { more = r.more; all = r.all; own = r.own; quiet = r.quiet; few = omega (arith, r.few); full = r.full }
 then-ran number most past run entry false true plain fits r = record {
   more = entry ∷ r.more;
@@ -261,7 +261,7 @@ pub record Went (d : Bool) (number most : ℕ) (past new : List Entry) : Type 0 
   pub quiet : is_quiet d more ≡ true
   pub few : length more ≤ most
 
-pub ran_part : (d : Bool) (number most : ℕ) (past new : List Entry) (run : Run) → IsBeginning past new → IsBeginning new run.past → Ran d number most past run → Went d number most past new
+pub ran_part : (d : Bool) (number most : ℕ) (past new : List Entry) (run : Course) → IsBeginning past new → IsBeginning new run.past → Ran d number most past run → Went d number most past new
 ran_part d number most past new run began part r =
     let whole : r.more ++ past ≡ (part.0 ++ began.0) ++ past = sym r.all ∙ (part.1 ∙ (ap (λ es. part.0 ++ es) began.1 ∙ sym (append_assoc part.0 began.0 past))) in
     let is : r.more ≡ part.0 ++ began.0 = append_cancel_right r.more (part.0 ++ began.0) past whole in

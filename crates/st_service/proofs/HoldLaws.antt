@@ -7,7 +7,7 @@ use Rattle.st_net.proofs.Tests.{both}
 use Rattle.st_event.specs.declared.journal.Entry.{Entry}
 use Rattle.st_event.specs.declared.journal.TheConstants.{MAX_ENTRIES}
 use Rattle.st_world.specs.World.{IsBeginning}
-use Rattle.st_world.specs.Rounds.{Run, is_full}
+use Rattle.st_world.specs.Rounds.{Course, is_full}
 use Rattle.st_world.specs.declared.world.rounds.Going.{Going}
 use Rattle.st_board.proofs.Prefixes.{prefix_trans, prefix_length}
 use Rattle.st_service.specs.Asked.{asker, is_own, all_own}
@@ -101,7 +101,7 @@ held number most from old new es mid before was got after now kept a at since sa
     }
 
 -- a hold whose course was entered, or met a full journal, by its answer
-pub enters_all : {E : Type 0} (r : Result Going E) (course : List Entry → Run) (number most : ℕ) (old new es : List Entry) (mid before : List Made) (was : List ℕ) (after : List Made) (now : List ℕ)
+pub enters_all : {E : Type 0} (r : Result Going E) (course : List Entry → Course) (number most : ℕ) (old new es : List Entry) (mid before : List Made) (was : List ℕ) (after : List Made) (now : List ℕ)
     → IfOk r (λ s. course old ≡ record { past = new; stopped = is_full s }) → IfOk r (λ s. is_full s ≡ true → length new ≡ MAX_ENTRIES)
     → Taken number most old new es → past_in mid ≡ old → Puts number es mid before was after now → IfOk r (λ s. Enters course s number mid before was after now)
 enters_all (Err error) course number most old new es mid before was after now run limit t kept p = tt
@@ -115,7 +115,7 @@ enters_all (Ok going) course number most old new es mid before was after now run
     }
 
 -- a hold of whose course a part was entered
-pub enters_part : (course : List Entry → Run) (number most : ℕ) (old new es : List Entry) (mid before : List Made) (was : List ℕ) (after : List Made) (now : List ℕ) → IsBeginning new (course old).past
+pub enters_part : (course : List Entry → Course) (number most : ℕ) (old new es : List Entry) (mid before : List Made) (was : List ℕ) (after : List Made) (now : List ℕ) → IsBeginning new (course old).past
     → Taken number most old new es → past_in mid ≡ old → Puts number es mid before was after now → EntersPart course number mid before was after now
 enters_part course number most old new es mid before was after now part t kept p =
     let past : past_in after ≡ new = line_goes number most old new es mid after t kept p.1 in

@@ -22,7 +22,7 @@ use Rattle.st_control.specs.declared.control.Begin.{Begin}
 use Rattle.st_control.specs.declared.control.Begin.TheVariants.{Basis, Idle}
 use Rattle.st_control.specs.Basis.{BasisView, JudgedView, IsJudgedOf}
 use Rattle.st_world.specs.Commits.{Begins, Commits, IsBasisAt, MayCommit}
-use Rattle.st_world.specs.Rounds.{Run, run_from, enter, is_full}
+use Rattle.st_world.specs.Rounds.{Course, run_from, enter, is_full}
 use Rattle.st_world.specs.declared.world.commits.Committed.{Committed}
 use Rattle.st_world.specs.declared.world.commits.Committed.TheVariants.{Did, Gone, JournalFull}
 use Rattle.st_world.specs.declared.world.rounds.Going.{Going}
@@ -60,15 +60,15 @@ nth_within xs (suc k) x e = within_at xs k x (suc k == 0) e
 still : (g : Group) (ticket : ℕ) (past after : List Entry) (stopped : Bool) → is_decided ticket past ≡ true → check_course ticket g past ≡ record { past = after; stopped = stopped } → after ≡ past
 still g ticket past after stopped is run =
     let kept : run_from past ≡ record { past = after; stopped = stopped } = sym (ap (λ b. if b then run_from past else enter g (run_from past) Check) is) ∙ run in
-    sym (ap (λ (r : Run). r.past) kept)
+    sym (ap (λ (r : Course). r.past) kept)
 
 -- and so did one that met a full journal
 entered_full : (past after : List Entry) (entry : Entry) (room : Bool) → entered (run_from past) entry false room ≡ record { past = after; stopped = true } → after ≡ past
-entered_full past after entry true is = let stopped : false ≡ true = ap (λ (r : Run). r.stopped) is in absurd (cc stopped)
-entered_full past after entry false is = sym (ap (λ (r : Run). r.past) is)
+entered_full past after entry true is = let stopped : false ≡ true = ap (λ (r : Course). r.stopped) is in absurd (cc stopped)
+entered_full past after entry false is = sym (ap (λ (r : Course). r.past) is)
 
 full_still : (g : Group) (past after : List Entry) (over : Bool) → (if over then run_from past else enter g (run_from past) Check) ≡ record { past = after; stopped = true } → after ≡ past
-full_still g past after true is = let stopped : false ≡ true = ap (λ (r : Run). r.stopped) is in absurd (cc stopped)
+full_still g past after true is = let stopped : false ≡ true = ap (λ (r : Course). r.stopped) is in absurd (cc stopped)
 full_still g past after false is = entered_full past after (entry_after g past Check) (nat_lt (length past) MAX_ENTRIES) is
 
 -- where nothing was entered, the front goes on, and the list is what it was
@@ -87,7 +87,7 @@ committed_gone g ticket number entry going mid before was after now e is at =
 
 -- one that met a full journal, which only a ticket that is pending does
 full_waits : (g : Group) (past after : List Entry) (over : Bool) → (if over then run_from past else enter g (run_from past) Check) ≡ record { past = after; stopped = true } → over ≡ false
-full_waits g past after true is = let stopped : false ≡ true = ap (λ (r : Run). r.stopped) is in absurd (cc stopped)
+full_waits g past after true is = let stopped : false ≡ true = ap (λ (r : Course). r.stopped) is in absurd (cc stopped)
 full_waits g past after false is = refl
 
 pub committed_full : (g : Group) (ticket number entries : ℕ) (mid before : List Made) (was : List ℕ) (after : List Made) (now : List ℕ)
@@ -265,7 +265,7 @@ commits_on (Ok (Gone entry)) None told g ticket number mid before was after now 
 commits_on (Ok (JournalFull entries)) None told g ticket number mid before was after now is at over e may since = absurd is
 
 -- the journal has the entries that it had
-pub entered_since : (course : List Entry → Run) (going : Going) (number from : ℕ) (mid before : List Made) (was : List ℕ) (after : List Made) (now : List ℕ) (old new : List Entry)
+pub entered_since : (course : List Entry → Course) (going : Going) (number from : ℕ) (mid before : List Made) (was : List ℕ) (after : List Made) (now : List ℕ) (old new : List Entry)
     → Enters course going number mid before was after now → past_in mid ≡ old → past_in after ≡ new → from ≡ length old → from ≤ length new
 entered_since course going number from mid before was after now old new e kept journal at =
     omega (arith, at, ap length kept, length_past mid, ap length journal, length_past after, ap length e.puts.1, length-append mid (tagged number e.entries))

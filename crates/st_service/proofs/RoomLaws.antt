@@ -12,7 +12,7 @@ use Rattle.st_event.specs.Legal.{IsLegal}
 use Rattle.st_event.specs.Proposals.{overlays, overlay_in, with_overlay, pending, first_rows}
 use Rattle.st_event.proofs.Accepting.{legal_within, next_fits}
 use Rattle.st_world.specs.World.{WorldView, IsBeginning}
-use Rattle.st_world.specs.Rounds.{Run, is_full, IsPartOf}
+use Rattle.st_world.specs.Rounds.{Course, is_full, IsPartOf}
 use Rattle.st_world.specs.declared.world.rounds.Going.{Going}
 use Rattle.st_world.proofs.RunLaws.{beginning-self}
 use Rattle.std.specs.Borrow.{Bor}
@@ -27,14 +27,14 @@ use Rattle.st_service.specs.Works.{WorkFits, course_at, decides}
 use Rattle.st_service.proofs.CourseLaws.{Went, work-ran, ran_part, went_adds}
 
 -- the course of a work from where a world stands
-abbrev pub course_in : ℕ → Work → WorldView → Run
+abbrev pub course_in : ℕ → Work → WorldView → Course
 course_in number work w = course_at number work w.history.group w.lines w.history.past
 
 -- a part of it was entered, whatever was answered
 pub went_part : {E : Type 0} (r : Result Going E) (number : ℕ) (work : Work) (old new : WorldView)
     → IfOk r (λ going. course_in number work old ≡ record { past = new.history.past; stopped = is_full going }) → OnErr r (IsPartOf old new (course_in number work old))
     → WorkFits work old.history.group → IsBeginning new.history.past (course_in number work old).past
-went_part (Ok going) number work old new ok err fits = subst (λ (run : Run). IsBeginning new.history.past run.past) (sym ok) (beginning-self new.history.past)
+went_part (Ok going) number work old new ok err fits = subst (λ (run : Course). IsBeginning new.history.past run.past) (sym ok) (beginning-self new.history.past)
 went_part (Err e) number work old new ok err fits = err.part
 
 pub work_went : {E : Type 0} (r : Result Going E) (number : ℕ) (work : Work) (old new : WorldView)
@@ -43,7 +43,7 @@ pub work_went : {E : Type 0} (r : Result Going E) (number : ℕ) (work : Work) (
 work_went (Ok going) number work old new ok err fits =
     let ran = work-ran work number old.history.group old.lines old.history.past fits in
     ran_part (decides work) number (work_share work old.history.group old.lines) old.history.past new.history.past (course_in number work old)
-    (ran.more, ap (λ (run : Run). run.past) (sym ok) ∙ ran.all) (subst (λ (run : Run). IsBeginning new.history.past run.past) (sym ok) (beginning-self new.history.past)) ran
+    (ran.more, ap (λ (run : Course). run.past) (sym ok) ∙ ran.all) (subst (λ (run : Course). IsBeginning new.history.past run.past) (sym ok) (beginning-self new.history.past)) ran
 work_went (Err e) number work old new ok err fits =
     ran_part (decides work) number (work_share work old.history.group old.lines) old.history.past new.history.past (course_in number work old)
     err.began err.part (work-ran work number old.history.group old.lines old.history.past fits)
@@ -101,7 +101,7 @@ pub work_full : {E : Type 0} (r : Result Going E) (number : ℕ) (work : Work) (
 work_full (Ok going) number work old new ok fits legal =
     let ran = work-ran work number old.history.group old.lines old.history.past fits in
     let within = legal_within new.history.group new.history.past legal in
-    λ e. let full = ran.full (ap (λ (run : Run). run.stopped) ok ∙ e) in omega (arith, within, full, ap (λ (run : Run). length run.past) ok)
+    λ e. let full = ran.full (ap (λ (run : Course). run.stopped) ok ∙ e) in omega (arith, within, full, ap (λ (run : Course). length run.past) ok)
 work_full (Err e) number work old new ok fits legal = tt
 
 -- what begins a legal journal is legal

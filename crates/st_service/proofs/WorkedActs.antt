@@ -24,7 +24,7 @@ use Rattle.st_wire.specs.declared.line.WireLine.{WireLine}
 use Rattle.st_wire.specs.declared.line.WireLine.TheVariants.{Drop}
 use Rattle.st_control.specs.Basis.{JudgedView}
 use Rattle.st_world.specs.Acts.{ActFits, course_of}
-use Rattle.st_world.specs.Rounds.{Run, run_from}
+use Rattle.st_world.specs.Rounds.{Course, run_from}
 use Rattle.st_world.specs.declared.world.rounds.Going.TheVariants.{On}
 use Rattle.st_board.proofs.Prefixes.{prefix_length, prefix_whole}
 use Rattle.st_service.specs.declared.acts.Acted.TheVariants.{Done, JournalFull}
@@ -227,20 +227,20 @@ enters_read_at : ActEnters (ReadAt 0 1 a1 Firmware) small [] 0 proposed (0 ∷ [
 enters_read_at = ((made 1 (entry_after small (past_in proposed) Check) ∷ [], refl), refl)
 
 -- where no place was added, the course had nothing to enter
-unlisted : (course : List Entry → Run) (mid before after : List Made) (was : List ℕ) → Enters course On 0 mid before was after was → (course (past_in after)).past ≡ past_in after
+unlisted : (course : List Entry → Course) (mid before after : List Made) (was : List ℕ) → Enters course On 0 mid before was after was → (course (past_in after)).past ≡ past_in after
 unlisted course mid before after was e =
     let places : length was ≡ length was + length (numbers (length mid) (length e.entries)) = ap length e.puts.2 ∙ length-append was (numbers (length mid) (length e.entries)) in
     let count : length after ≡ length mid + length (tagged 0 e.entries) = ap length e.puts.1 ∙ length-append mid (tagged 0 e.entries) in
     let numbered = length_numbers (length mid) (length e.entries) in
     let tags = length_tagged 0 e.entries in
     let same : mid ≡ after = prefix_whole mid after (tagged 0 e.entries, sym e.puts.1) (omega (arith, places, count, numbered, tags)) in
-    ap (λ (f : List Made). (course (past_in f)).past) (sym same) ∙ ap (λ (run : Run). run.past) e.run
+    ap (λ (f : List Made). (course (past_in f)).past) (sym same) ∙ ap (λ (run : Course). run.past) e.run
 
 -- so an act of one hold enters something: it is not done where the pass has all that it had
 abbrev Idles : Act → Type 0
 Idles act = ActEnters act small [] 0 decided (0 ∷ []) decided (0 ∷ [])
 
-abbrev course_by : Act → List Entry → Run
+abbrev course_by : Act → List Entry → Course
 course_by act past = course_of (app 0) act small [] (run_from past)
 
 pub not_an_idle_lock : Idles (Lock 0 a1 Low) → ⊥

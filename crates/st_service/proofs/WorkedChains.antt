@@ -8,7 +8,7 @@ use Rattle.st_event.specs.declared.journal.TheConstants.{MAX_ENTRIES}
 use Rattle.st_event.specs.declared.reply.Reply.TheVariants.{Sent, Begun, Done, Reported, Taken}
 use Rattle.st_event.specs.Proposals.{deciders}
 use Rattle.st_event.specs.Services.{entry_after}
-use Rattle.st_world.specs.Rounds.{Run, run_from, turn, unsettled}
+use Rattle.st_world.specs.Rounds.{Course, run_from, turn, unsettled}
 use Rattle.st_world.specs.declared.world.rounds.Going.TheVariants.{On, Full}
 use Rattle.st_world.specs.declared.world.rounds.Rounded.TheVariants.{Did, JournalFull}
 use Rattle.st_board.proofs.Prefixes.{prefix_trans, prefix_length, prefix_shorter, prefix_whole}
@@ -105,7 +105,7 @@ stood_still before was now t =
     let n : length t.1 ≡ length t.0 + length (tagged 0 t.3.entries) = ap length t.3.puts.1 ∙ length-append t.0 (tagged 0 t.3.entries) in
     let mid : before ≡ t.0 = prefix_whole before t.0 t.3.puts.0 (omega (arith, p, q, n)) in
     let next : t.1 ≡ before = prefix_whole t.1 before t.4.0 (omega (arith, p, q, n)) in
-    ap (λ (f : List Made). (turn small [] (run_from (past_in f)) a1).past) mid ∙ (ap (λ (run : Run). run.past) t.3.run ∙ ap past_in next)
+    ap (λ (f : List Made). (turn small [] (run_from (past_in f)) a1).past) mid ∙ (ap (λ (run : Course). run.past) t.3.run ∙ ap past_in next)
 
 -- a turn enters something
 pub not_an_empty_turn : (was now : List ℕ) → Turns Whole small [] 0 (a1 ∷ []) decided was decided now → ⊥

@@ -9,7 +9,7 @@ use Rattle.st_event.specs.declared.event.Event.TheVariants.{Check, Unlock}
 use Rattle.st_event.specs.declared.journal.Entry.{Entry}
 use Rattle.st_event.specs.declared.journal.TheConstants.{MAX_ENTRIES}
 use Rattle.st_board.specs.Published.{Published}
-use Rattle.st_world.specs.Rounds.{Run, run_from, enter_all}
+use Rattle.st_world.specs.Rounds.{Course, run_from, enter_all}
 use Rattle.st_world.specs.declared.world.rounds.Going.TheVariants.{On, Full}
 use Rattle.st_board.proofs.Prefixes.{prefix_self}
 use Rattle.st_service.specs.Kept.{AllWithin, Grows, Kept}
@@ -62,14 +62,14 @@ not_forgotten p = absurd (cc (p.2))
 -- Courses
 
 -- an unlock and a check, wherever the journal stands
-abbrev course : List Entry → Run
+abbrev course : List Entry → Course
 course past = enter_all small (run_from past) (Unlock (app 0) a1 Low ∷ Check ∷ [])
 
 pub enters_two : Enters course On 0 mid seen (0 ∷ []) after (0 ∷ 2 ∷ 3 ∷ [])
 enters_two = record { entries = both; puts = puts_two; run = refl; full = λ e. absurd (cc e) }
 
 -- behind a full journal nothing is entered
-abbrev stopped : List Entry → Run
+abbrev stopped : List Entry → Course
 stopped past = record { past = past; stopped = true }
 
 pub enters_none : (front : List Made) (was : List ℕ) → length front ≡ MAX_ENTRIES → Enters stopped Full 0 front front was front was
@@ -90,11 +90,11 @@ not_unlisted_course e = absurd (omega (arith, as_many e.entries mid seen after (
 
 -- only a part of the course was entered, and that is no course
 pub not_a_part : Enters course On 0 mid seen (0 ∷ []) (mid ++ made 0 (unlock 0) ∷ []) (0 ∷ 2 ∷ []) → ⊥
-not_a_part e = absurd (omega (arith, ap (λ (run : Run). length run.past) e.run))
+not_a_part e = absurd (omega (arith, ap (λ (run : Course). length run.past) e.run))
 
 -- it goes on, and is told as full
 pub not_told_full : Enters course Full 0 mid seen (0 ∷ []) after (0 ∷ 2 ∷ 3 ∷ []) → ⊥
-not_told_full e = absurd (cc (ap (λ (run : Run). run.stopped) e.run))
+not_told_full e = absurd (cc (ap (λ (run : Course). run.stopped) e.run))
 
 -- it stopped before the journal was full
 pub not_full_early : Enters stopped Full 0 seen seen (0 ∷ []) seen (0 ∷ []) → ⊥

@@ -152,7 +152,7 @@ fn promise_count(groups: &[Parts]) -> u64
 }
 
 /// How many commands applications have together.
-fn command_count(apps: &[Script]) -> u64
+fn act_count(apps: &[Script]) -> u64
     requires { sum_by (λ script. length script.acts) apps.now < 2 ^ 64 }
     ensures { result ≡ sum_by (λ script. length script.acts) apps.now }
 {
@@ -177,7 +177,7 @@ pub fn check_text(alloc: Global, doc: &Doc) -> Result<Text, AllocError>
     print_count(b"links", link_count(groups), &mut out)?;
     print_count(b"promises", promise_count(groups), &mut out)?;
     print_count(b"apps", apps.len() as u64, &mut out)?;
-    print_count(b"commands", command_count(apps), &mut out)?;
+    print_count(b"commands", act_count(apps), &mut out)?;
     out.word(b"\n")?;
     Ok(out)
 }

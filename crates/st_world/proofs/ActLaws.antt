@@ -16,67 +16,67 @@ use Rattle.st_world.specs.declared.world.rounds.Going.TheVariants.{On, Full}
 use Rattle.st_world.specs.declared.world.rounds.Rounded.{Rounded}
 use Rattle.st_world.specs.declared.world.rounds.Rounded.TheVariants.{Did, JournalFull}
 use Rattle.st_world.specs.World.{WorldView, IsBeginning}
-use Rattle.st_world.specs.Rounds.{Run, run_from, run_at, enter, turns, unsettled, round, Rounds, Goes, HasSamePlant, IsPartOf}
+use Rattle.st_world.specs.Rounds.{Course, run_from, run_at, enter, turns, unsettled, round, Rounds, Goes, HasSamePlant, IsPartOf}
 use Rattle.st_world.specs.Acts.{checked_while, is_something, is_none_left, proposed, rounds_done, with_room}
 use Rattle.st_world.proofs.RunLaws.{beginning-self, beginning-more, enter-grows, enter-stopped, turns-grows, turns-stopped, round-grows}
 use Rattle.st_world.proofs.RoundLaws.{IsOnWay, part_goes, part_parts, stops_there}
 
 -- at the start all of a run is left
-pub way_start : (w : WorldView) (whole : Run) → IsOnWay w w whole whole
+pub way_start : (w : WorldView) (whole : Course) → IsOnWay w w whole whole
 way_start w whole = record { began = beginning-self w.history.past; plant = record { group = refl; lines = refl }; ends = refl }
 
 -- where nothing is left the world has gone through all of the run
-goes_none : (old now : WorldView) (whole left : Run) → IsOnWay old now whole left → left ≡ run_from now.history.past → Goes now whole On
+goes_none : (old now : WorldView) (whole left : Course) → IsOnWay old now whole left → left ≡ run_from now.history.past → Goes now whole On
 goes_none old now whole left way none = sym none ∙ way.ends
 
 -- of two runs that a test chooses between, each goes on from the same beginning
-by_test-grows : (past : List Entry) (b : Bool) (first second : Run) → IsBeginning past first.past → IsBeginning past second.past → IsBeginning past (if b then first else second).past
+by_test-grows : (past : List Entry) (b : Bool) (first second : Course) → IsBeginning past first.past → IsBeginning past second.past → IsBeginning past (if b then first else second).past
 by_test-grows past true first second one two = one
 by_test-grows past false first second one two = two
 
 -- proposals
 
-pub with_room-grows : (g : Group) (run : Run) → IsBeginning run.past (with_room g run).past
+pub with_room-grows : (g : Group) (run : Course) → IsBeginning run.past (with_room g run).past
 with_room-grows g run = by_test-grows run.past (length (pending run.past) == MAX_PENDING) (enter g run Check) run (enter-grows g run Check) (beginning-self run.past)
 
-pub proposed-grows : (g : Group) (run : Run) (app : AppId) (rows : List Row) → IsBeginning run.past (proposed g run app rows).past
+pub proposed-grows : (g : Group) (run : Course) (app : AppId) (rows : List Row) → IsBeginning run.past (proposed g run app rows).past
 proposed-grows g run app rows =
     let room = with_room g run in
     beginning-more run.past room.past (proposed g run app rows).past (with_room-grows g run) (enter-grows g room (Submit app rows))
 
 -- the proposal that follows the check that makes room
-abbrev pub submitting : AppId → List Row → Group → List WireLine → Run → Run
+abbrev pub submitting : AppId → List Row → Group → List WireLine → Course → Course
 submitting app rows g lines run = enter g run (Submit app rows)
 
 -- checks
 
 -- where what is pending does not pass no check is made
-while_none : (g : Group) (waits : List Proposal → Bool) (n : ℕ) (run : Run) → waits (pending run.past) ≡ false → checked_while g waits n run ≡ run
+while_none : (g : Group) (waits : List Proposal → Bool) (n : ℕ) (run : Course) → waits (pending run.past) ≡ false → checked_while g waits n run ≡ run
 unfolding checked_while
 while_none g waits zero run none = refl
 while_none g waits (suc n) run none = rw none refl
 
 -- else one check is made first
-while_one : (g : Group) (waits : List Proposal → Bool) (n : ℕ) (run : Run) → waits (pending run.past) ≡ true → checked_while g waits (suc n) run ≡ checked_while g waits n (enter g run Check)
+while_one : (g : Group) (waits : List Proposal → Bool) (n : ℕ) (run : Course) → waits (pending run.past) ≡ true → checked_while g waits (suc n) run ≡ checked_while g waits n (enter g run Check)
 unfolding checked_while
 while_one g waits n run some = rw some refl
 
-while_zero : (g : Group) (waits : List Proposal → Bool) (run : Run) → checked_while g waits 0 run ≡ run
+while_zero : (g : Group) (waits : List Proposal → Bool) (run : Course) → checked_while g waits 0 run ≡ run
 unfolding checked_while
 while_zero g waits run = refl
 
-by_waiting : (g : Group) (waits : List Proposal → Bool) (n : ℕ) (run : Run) (b : Bool) → checked_while g waits n (enter g run Check) ≡ run → (if b then checked_while g waits n (enter g run Check) else run) ≡ run
+by_waiting : (g : Group) (waits : List Proposal → Bool) (n : ℕ) (run : Course) (b : Bool) → checked_while g waits n (enter g run Check) ≡ run → (if b then checked_while g waits n (enter g run Check) else run) ≡ run
 by_waiting g waits n run true rest = rest
 by_waiting g waits n run false rest = refl
 
 -- a run that has stopped stays as it is
-pub while-stopped : (g : Group) (waits : List Proposal → Bool) (n : ℕ) (run : Run) → run.stopped ≡ true → checked_while g waits n run ≡ run
+pub while-stopped : (g : Group) (waits : List Proposal → Bool) (n : ℕ) (run : Course) → run.stopped ≡ true → checked_while g waits n run ≡ run
 unfolding checked_while
 while-stopped g waits zero run stopped = refl
 while-stopped g waits (suc n) run stopped =
     by_waiting g waits n run (waits (pending run.past)) (ap (checked_while g waits n) (enter-stopped g run Check stopped) ∙ while-stopped g waits n run stopped)
 
-pub while-grows : (g : Group) (waits : List Proposal → Bool) (n : ℕ) (run : Run) → IsBeginning run.past (checked_while g waits n run).past
+pub while-grows : (g : Group) (waits : List Proposal → Bool) (n : ℕ) (run : Course) → IsBeginning run.past (checked_while g waits n run).past
 unfolding checked_while
 while-grows g waits zero run = beginning-self run.past
 while-grows g waits (suc n) run =
@@ -86,7 +86,7 @@ while-grows g waits (suc n) run =
     (beginning-self run.past)
 
 -- so many checks, from where a world stands
-abbrev pub checks_from : (List Proposal → Bool) → ℕ → WorldView → Run
+abbrev pub checks_from : (List Proposal → Bool) → ℕ → WorldView → Course
 checks_from waits n w = checked_while w.history.group waits n (run_from w.history.past)
 
 -- on the way of all checks, the others are left once so many were made
@@ -110,10 +110,10 @@ checks_all waits old now made all way =
     (ap (λ (n : ℕ). checks_from waits n now) none_left ∙ while_zero now.history.group waits (run_from now.history.past))
 
 -- the check that is made now, and those behind it
-abbrev check_now : WorldView → Run
+abbrev check_now : WorldView → Course
 check_now w = enter w.history.group (run_from w.history.past) Check
 
-abbrev checks_behind : (List Proposal → Bool) → ℕ → Group → List WireLine → Run → Run
+abbrev checks_behind : (List Proposal → Bool) → ℕ → Group → List WireLine → Course → Course
 checks_behind waits made g lines run = checked_while g waits (MAX_PENDING - (made + 1)) run
 
 first_check : (waits : List Proposal → Bool) (now : WorldView) (made : ℕ) → made < MAX_PENDING → waits (pending now.history.past) ≡ true → checks_from waits (MAX_PENDING - made) now ≡ checks_behind waits made now.history.group now.lines (check_now now)
@@ -150,35 +150,35 @@ something_waits (p ∷ ps) some = refl
 
 -- rounds
 
-none_settles : (g : Group) (lines : List WireLine) (n : ℕ) (run : Run) (b : Bool) → is_none_left (unsettled g run.past) ≡ b → b ≡ true → rounds_done g lines n run ≡ run
+none_settles : (g : Group) (lines : List WireLine) (n : ℕ) (run : Course) (b : Bool) → is_none_left (unsettled g run.past) ≡ b → b ≡ true → rounds_done g lines n run ≡ run
 unfolding rounds_done
 none_settles g lines zero run b is none = refl
 none_settles g lines (suc n) run b is none = rw (is, none) refl
 
 -- where every entity is settled no round is done
-rounds_none : (g : Group) (lines : List WireLine) (n : ℕ) (run : Run) → length (unsettled g run.past) ≡ 0 → rounds_done g lines n run ≡ run
+rounds_none : (g : Group) (lines : List WireLine) (n : ℕ) (run : Course) → length (unsettled g run.past) ≡ 0 → rounds_done g lines n run ≡ run
 rounds_none g lines n run none = none_settles g lines n run (is_none_left (unsettled g run.past)) refl (no_entity (unsettled g run.past) none)
   where
     no_entity : (es : List Entity) → length es ≡ 0 → is_none_left es ≡ true
     no_entity [] none = refl
     no_entity (e ∷ es) none = absurd (omega arith)
 
-rounds_zero : (g : Group) (lines : List WireLine) (run : Run) → rounds_done g lines 0 run ≡ run
+rounds_zero : (g : Group) (lines : List WireLine) (run : Course) → rounds_done g lines 0 run ≡ run
 unfolding rounds_done
 rounds_zero g lines run = refl
 
-by_left : (g : Group) (lines : List WireLine) (n : ℕ) (run : Run) (b : Bool) → rounds_done g lines n (turns g lines run (unsettled g run.past)) ≡ run → (if b then run else rounds_done g lines n (turns g lines run (unsettled g run.past))) ≡ run
+by_left : (g : Group) (lines : List WireLine) (n : ℕ) (run : Course) (b : Bool) → rounds_done g lines n (turns g lines run (unsettled g run.past)) ≡ run → (if b then run else rounds_done g lines n (turns g lines run (unsettled g run.past))) ≡ run
 by_left g lines n run true rest = refl
 by_left g lines n run false rest = rest
 
 -- a run that has stopped stays as it is
-pub rounds-stopped : (g : Group) (lines : List WireLine) (n : ℕ) (run : Run) → run.stopped ≡ true → rounds_done g lines n run ≡ run
+pub rounds-stopped : (g : Group) (lines : List WireLine) (n : ℕ) (run : Course) → run.stopped ≡ true → rounds_done g lines n run ≡ run
 unfolding rounds_done
 rounds-stopped g lines zero run stopped = refl
 rounds-stopped g lines (suc n) run stopped =
     by_left g lines n run (is_none_left (unsettled g run.past)) (ap (rounds_done g lines n) (turns-stopped g lines run (unsettled g run.past) stopped) ∙ rounds-stopped g lines n run stopped)
 
-pub rounds-grows : (g : Group) (lines : List WireLine) (n : ℕ) (run : Run) → IsBeginning run.past (rounds_done g lines n run).past
+pub rounds-grows : (g : Group) (lines : List WireLine) (n : ℕ) (run : Course) → IsBeginning run.past (rounds_done g lines n run).past
 unfolding rounds_done
 rounds-grows g lines zero run = beginning-self run.past
 rounds-grows g lines (suc n) run =
@@ -188,7 +188,7 @@ rounds-grows g lines (suc n) run =
     (beginning-self run.past)
     (beginning-more run.past next.past (rounds_done g lines n next).past (turns-grows g lines run es) (rounds-grows g lines n next))
 
-by_entities : (g : Group) (lines : List WireLine) (n : ℕ) (run : Run) (es : List Entity) → unsettled g run.past ≡ es → rounds_done g lines (suc n) run ≡ rounds_done g lines n (turns g lines run es)
+by_entities : (g : Group) (lines : List WireLine) (n : ℕ) (run : Course) (es : List Entity) → unsettled g run.past ≡ es → rounds_done g lines (suc n) run ≡ rounds_done g lines n (turns g lines run es)
 unfolding rounds_done
 by_entities g lines n run [] none = rw none (sym (none_settles g lines n run true (ap is_none_left none) refl))
 by_entities g lines n run (e ∷ es) some = rw some refl
@@ -198,7 +198,7 @@ rounds_one : (g : Group) (lines : List WireLine) (n : ℕ) (past : List Entry) �
 rounds_one g lines n past = by_entities g lines n (run_from past) (unsettled g past) refl
 
 -- so many rounds, from where a world stands
-abbrev pub rounds_from : ℕ → WorldView → Run
+abbrev pub rounds_from : ℕ → WorldView → Course
 rounds_from n w = rounds_done w.history.group w.lines n (run_from w.history.past)
 
 -- on the way of all rounds, the others are left once so many were done
@@ -224,10 +224,10 @@ rounds_all rounds old now made all way =
     (ap (λ (n : ℕ). rounds_from n now) none_left ∙ rounds_zero now.history.group now.lines (run_from now.history.past))
 
 -- the round that is done now, and those behind it
-abbrev round_now : WorldView → Run
+abbrev round_now : WorldView → Course
 round_now w = round w.history.group w.lines w.history.past
 
-abbrev rounds_behind : ℕ → ℕ → Group → List WireLine → Run → Run
+abbrev rounds_behind : ℕ → ℕ → Group → List WireLine → Course → Course
 rounds_behind rounds made g lines run = rounds_done g lines (rounds - (made + 1)) run
 
 first_round : (rounds : ℕ) (now : WorldView) (made : ℕ) → made < rounds → rounds_from (rounds - made) now ≡ rounds_behind rounds made now.history.group now.lines (round_now now)

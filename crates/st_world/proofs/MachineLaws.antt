@@ -27,12 +27,12 @@ use Rattle.st_wire.specs.Messages.{Messages, HasCommand, HasReport, HasSameMessa
 use Rattle.st_wire.specs.declared.wire.Took.TheVariants.{Got}
 use Rattle.st_store.specs.declared.reports.Keep.{Keep}
 use Rattle.st_control.specs.declared.send.SendStep.TheVariants.{Command as step_command, Settled, Blocked}
-use Rattle.st_control.specs.Checker.{Checker, standing_in, IsStart, Moves, Sends, Hears, reply_of_keep}
+use Rattle.st_control.specs.Control.{ControlView, standing_in, IsStart, Moves, Sends, Hears, reply_of_keep}
 use Rattle.st_world.specs.Plant.{IsPlantOf, agent_in, agent_set, opening_agent}
 use Rattle.st_world.specs.Machine.{MachineView, IsMachine, IsOpening, Answers, wires_in}
 
 -- a checker with these agents and these messages
-abbrev pub machine_of : Checker → List AgentState → Messages → MachineView
+abbrev pub machine_of : ControlView → List AgentState → Messages → MachineView
 machine_of k agents messages = record { checker = k; agents = agents; messages = messages }
 
 -- a message that is got is the one of its number
@@ -56,7 +56,7 @@ all_nth P xs n x all is = by_zero (n == 0) is
     by_zero false found = all_found P xs (pred n) x all found
 
 -- the agents and the messages are of the checker's group, which stays
-pub same_group : (k new : Checker) (agents : List AgentState) (messages : Messages) → new.group ≡ k.group → IsMachine (machine_of k agents messages) → IsMachine (machine_of new agents messages)
+pub same_group : (k new : ControlView) (agents : List AgentState) (messages : Messages) → new.group ≡ k.group → IsMachine (machine_of k agents messages) → IsMachine (machine_of new agents messages)
 same_group k new agents messages same is = record {
   plant = subst (λ (g : Group). IsPlantOf g agents) (sym same) is.plant;
   commands = subst (λ (g : Group). All (λ (c : Command). IsEntityOf g c.entity) messages.commands) (sym same) is.commands;
@@ -64,7 +64,7 @@ same_group k new agents messages same is = record {
 }
 
 -- an event at which the network stays is the checker's alone
-pub checker_answers : (k new : Checker) (agents : List AgentState) (messages : Messages) (n : ℕ) (event : Event) (reply : Reply) → wires_after k.group (standing_in k) (wires_in (machine_of k agents messages)) event reply ≡ wires_in (machine_of k agents messages) → Moves k new n event reply → Answers (machine_of k agents messages) (machine_of new agents messages) n event reply
+pub checker_answers : (k new : ControlView) (agents : List AgentState) (messages : Messages) (n : ℕ) (event : Event) (reply : Reply) → wires_after k.group (standing_in k) (wires_in (machine_of k agents messages)) event reply ≡ wires_in (machine_of k agents messages) → Moves k new n event reply → Answers (machine_of k agents messages) (machine_of new agents messages) n event reply
 checker_answers k new agents messages n event reply stays moves = record {
   answer = moves.reply (wires_in (machine_of k agents messages));
   standing = moves.standing (wires_in (machine_of k agents messages));
@@ -74,7 +74,7 @@ checker_answers k new agents messages n event reply stays moves = record {
 }
 
 -- a command is sent
-pub send_answers : (k : Checker) (agents : List AgentState) (messages new : Messages) (n : ℕ) (e : Entity) (command : Command) (number : ℕ) → Sends k e (step_command command) → number ≡ length messages.commands + 1 → HasCommand messages new command → Answers (machine_of k agents messages) (machine_of k agents new) n (Send e) (Sent number)
+pub send_answers : (k : ControlView) (agents : List AgentState) (messages new : Messages) (n : ℕ) (e : Entity) (command : Command) (number : ℕ) → Sends k e (step_command command) → number ≡ length messages.commands + 1 → HasCommand messages new command → Answers (machine_of k agents messages) (machine_of k agents new) n (Send e) (Sent number)
 send_answers k agents messages new n e command number sends numbered has = record {
   answer = ap Sent numbered ∙ sends.reply (wires_in (machine_of k agents messages)) n;
   standing = refl;
@@ -84,7 +84,7 @@ send_answers k agents messages new n e command number sends numbered has = recor
 }
 
 -- a command that is sent is one of the entity that it is sent to
-pub send_machine : (k : Checker) (agents : List AgentState) (messages new : Messages) (e : Entity) (command : Command) → IsEntityOf k.group e → Sends k e (step_command command) → HasCommand messages new command → IsMachine (machine_of k agents messages) → IsMachine (machine_of k agents new)
+pub send_machine : (k : ControlView) (agents : List AgentState) (messages new : Messages) (e : Entity) (command : Command) → IsEntityOf k.group e → Sends k e (step_command command) → HasCommand messages new command → IsMachine (machine_of k agents messages) → IsMachine (machine_of k agents new)
 send_machine k agents messages new e command here sends has is = record {
   plant = is.plant;
   commands = rw has.commands (All-push (λ (c : Command). IsEntityOf k.group c.entity) messages.commands command is.commands (rw (sends.command command refl) here));
@@ -92,7 +92,7 @@ send_machine k agents messages new e command here sends has is = record {
 }
 
 -- nothing is sent: the entity is settled
-pub settled_answers : (k : Checker) (agents : List AgentState) (messages : Messages) (n : ℕ) (e : Entity) → Sends k e Settled → Answers (machine_of k agents messages) (machine_of k agents messages) n (Send e) settled_reply
+pub settled_answers : (k : ControlView) (agents : List AgentState) (messages : Messages) (n : ℕ) (e : Entity) → Sends k e Settled → Answers (machine_of k agents messages) (machine_of k agents messages) n (Send e) settled_reply
 settled_answers k agents messages n e sends = record {
   answer = sends.reply (wires_in (machine_of k agents messages)) n;
   standing = refl;
@@ -102,7 +102,7 @@ settled_answers k agents messages n e sends = record {
 }
 
 -- nothing is sent: a row of the target can't be set now
-pub blocked_answers : (k : Checker) (agents : List AgentState) (messages : Messages) (n : ℕ) (e : Entity) (row : Row) → Sends k e (Blocked row) → Answers (machine_of k agents messages) (machine_of k agents messages) n (Send e) (blocked_reply row)
+pub blocked_answers : (k : ControlView) (agents : List AgentState) (messages : Messages) (n : ℕ) (e : Entity) (row : Row) → Sends k e (Blocked row) → Answers (machine_of k agents messages) (machine_of k agents messages) n (Send e) (blocked_reply row)
 blocked_answers k agents messages n e row sends = record {
   answer = sends.reply (wires_in (machine_of k agents messages)) n;
   standing = refl;
@@ -127,7 +127,7 @@ told_one true c a = refl
 told_one false c a = refl
 
 -- a command arrives
-pub deliver_answers : (k : Checker) (g : Group) (agents new : List AgentState) (messages : Messages) (n number : ℕ) (c : Command) (delivery : Delivery) → g ≡ k.group → nth messages.commands number ≡ Some c → delivery ≡ delivery_of (agent_in g agents c.entity) c → agent_in g new ≡ agent_set (agent_in g agents) c.entity (agent_told (Some c)) → Answers (machine_of k agents messages) (machine_of k new messages) n (Deliver number) (reply_of_delivery delivery)
+pub deliver_answers : (k : ControlView) (g : Group) (agents new : List AgentState) (messages : Messages) (n number : ℕ) (c : Command) (delivery : Delivery) → g ≡ k.group → nth messages.commands number ≡ Some c → delivery ≡ delivery_of (agent_in g agents c.entity) c → agent_in g new ≡ agent_set (agent_in g agents) c.entity (agent_told (Some c)) → Answers (machine_of k agents messages) (machine_of k new messages) n (Deliver number) (reply_of_delivery delivery)
 deliver_answers k g agents new messages n number c delivery same is answers set = record {
   answer = rw (← same, is) (ap reply_of_delivery answers ∙ delivery_reply (nat_lt (agent_in g agents c.entity).fence c.stamp) (agent_in g agents c.entity).fence);
   standing = refl;
@@ -147,7 +147,7 @@ finish_reply true = refl
 finish_reply false = refl
 
 -- a command in work is carried out
-pub finish_answers : (k : Checker) (g : Group) (agents new : List AgentState) (messages : Messages) (n : ℕ) (e : Entity) (finish : Finish) → g ≡ k.group → finish ≡ finish_of (agent_in g agents e) → agent_in g new ≡ agent_set (agent_in g agents) e (λ a. agent_finished a.work a) → Answers (machine_of k agents messages) (machine_of k new messages) n (finish_event e) (reply_of_finish finish)
+pub finish_answers : (k : ControlView) (g : Group) (agents new : List AgentState) (messages : Messages) (n : ℕ) (e : Entity) (finish : Finish) → g ≡ k.group → finish ≡ finish_of (agent_in g agents e) → agent_in g new ≡ agent_set (agent_in g agents) e (λ a. agent_finished a.work a) → Answers (machine_of k agents messages) (machine_of k new messages) n (finish_event e) (reply_of_finish finish)
 finish_answers k g agents new messages n e finish same answers set = record {
   answer = rw (← same) (ap reply_of_finish answers ∙ finish_reply (is_at_work (agent_in g agents e).work));
   standing = refl;
@@ -157,7 +157,7 @@ finish_answers k g agents new messages n e finish same answers set = record {
 }
 
 -- a report is made
-pub report_answers : (k : Checker) (g : Group) (agents new : List AgentState) (messages room more : Messages) (n : ℕ) (e : Entity) (report : Report) (number : ℕ) → g ≡ k.group → HasSameMessages messages room → report ≡ agent_report e (agent_in g agents e) → agent_in g new ≡ agent_set (agent_in g agents) e agent_counted → number ≡ length room.reports + 1 → HasReport room more report → Answers (machine_of k agents messages) (machine_of k new more) n (report_event e) (Reported number)
+pub report_answers : (k : ControlView) (g : Group) (agents new : List AgentState) (messages room more : Messages) (n : ℕ) (e : Entity) (report : Report) (number : ℕ) → g ≡ k.group → HasSameMessages messages room → report ≡ agent_report e (agent_in g agents e) → agent_in g new ≡ agent_set (agent_in g agents) e agent_counted → number ≡ length room.reports + 1 → HasReport room more report → Answers (machine_of k agents messages) (machine_of k new more) n (report_event e) (Reported number)
 report_answers k g agents new messages room more n e report number of same makes set numbered has = record {
   answer = ap Reported (numbered ∙ ap (λ (rs : List Report). length rs + 1) same.reports);
   standing = refl;
@@ -167,7 +167,7 @@ report_answers k g agents new messages room more n e report number of same makes
 }
 
 -- an entity changes of itself
-pub fail_answers : (k : Checker) (g : Group) (agents new : List AgentState) (messages : Messages) (n : ℕ) (e : Entity) (vals : Vals) (health : ℕ) → g ≡ k.group → agent_in g new ≡ agent_set (agent_in g agents) e (agent_failed vals health) → Answers (machine_of k agents messages) (machine_of k new messages) n (Fail e vals health) Changed
+pub fail_answers : (k : ControlView) (g : Group) (agents new : List AgentState) (messages : Messages) (n : ℕ) (e : Entity) (vals : Vals) (health : ℕ) → g ≡ k.group → agent_in g new ≡ agent_set (agent_in g agents) e (agent_failed vals health) → Answers (machine_of k agents messages) (machine_of k new messages) n (Fail e vals health) Changed
 fail_answers k g agents new messages n e vals health same set = record {
   answer = refl;
   standing = refl;
@@ -177,7 +177,7 @@ fail_answers k g agents new messages n e vals health same set = record {
 }
 
 -- a report is heard
-pub hear_answers : (k new : Checker) (agents : List AgentState) (messages : Messages) (n number : ℕ) (report : Report) (keep : Keep) → nth messages.reports number ≡ Some report → Hears k new n report keep → Answers (machine_of k agents messages) (machine_of new agents messages) n (Hear number) (reply_of_keep keep)
+pub hear_answers : (k new : ControlView) (agents : List AgentState) (messages : Messages) (n number : ℕ) (report : Report) (keep : Keep) → nth messages.reports number ≡ Some report → Hears k new n report keep → Answers (machine_of k agents messages) (machine_of new agents messages) n (Hear number) (reply_of_keep keep)
 hear_answers k new agents messages n number report keep is hears = record {
   answer = rw is (hears.reply (length messages.reports));
   standing = rw is hears.standing;
@@ -187,7 +187,7 @@ hear_answers k new agents messages n number report keep is hears = record {
 }
 
 -- a checker at its start, agents that were told nothing and no message are the machine of the opening
-pub opens : (g : Group) (k : Checker) (agents : List AgentState) (messages : Messages) → IsStart g k → agent_in g agents ≡ opening_agent g → messages.commands ≡ [] → messages.reports ≡ [] → IsOpening g (machine_of k agents messages)
+pub opens : (g : Group) (k : ControlView) (agents : List AgentState) (messages : Messages) → IsStart g k → agent_in g agents ≡ opening_agent g → messages.commands ≡ [] → messages.reports ≡ [] → IsOpening g (machine_of k agents messages)
 opens g k agents messages start opening commands reports = record {
   group = start.group;
   standing = start.standing;

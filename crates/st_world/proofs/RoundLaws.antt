@@ -30,20 +30,20 @@ use Rattle.st_wire.specs.declared.line.WireLine.{WireLine}
 use Rattle.st_overlay.specs.Values.{Values, IsTableOf, value_in}
 use Rattle.st_store.specs.Store.{StoreView, IsStoreOf}
 use Rattle.st_plan.specs.Unsettled.{unsettled_in}
-use Rattle.st_control.specs.Checker.{Checker, standing_in}
+use Rattle.st_control.specs.Control.{ControlView, standing_in}
 use Rattle.st_world.specs.declared.world.Stepped.{Stepped}
 use Rattle.st_world.specs.declared.world.Stepped.TheVariants.{Did, JournalFull}
 use Rattle.st_world.specs.declared.world.rounds.Going.{Going}
 use Rattle.st_world.specs.declared.world.rounds.Going.TheVariants.{On, Full}
 use Rattle.st_world.specs.World.{WorldView, IsBeginning, Steps}
-use Rattle.st_world.specs.Rounds.{Run, run_from, run_at, enter, enter_all, enter_told, arrivals_of, newest_arrivals, poll, turn, turns, round, unsettled, HasSamePlant, IsPartOf, SettlesSent}
+use Rattle.st_world.specs.Rounds.{Course, run_from, run_at, enter, enter_all, enter_told, arrivals_of, newest_arrivals, poll, turn, turns, round, unsettled, HasSamePlant, IsPartOf, SettlesSent}
 use Rattle.st_world.proofs.RunLaws.{entered, beginning-self, beginning-more, enter-grows, enter_all-grows, turn-grows, turns-grows, enter_all-stopped, turns-stopped, unsettled_fit}
 use Rattle.st_world.proofs.SettleLaws.{round_made}
 
 -- what is left of a run
 
 -- a world that was reached on the way of a run: what is left, from where the world stands, ends as all of the run
-pub record IsOnWay (old now : WorldView) (whole left : Run) : Type 0 where
+pub record IsOnWay (old now : WorldView) (whole left : Course) : Type 0 where
   pub began : IsBeginning old.history.past now.history.past
   pub plant : HasSamePlant old now
   pub ends : left ≡ whole
@@ -53,7 +53,7 @@ plant_whole : (old now new : WorldView) → HasSamePlant old now → HasSamePlan
 plant_whole old now new before after = record { group = after.group ∙ before.group; lines = after.lines ∙ before.lines }
 
 -- on the way of what was left on the way
-way_more : (old now next : WorldView) (whole left less : Run) → IsOnWay old now whole left → IsOnWay now next left less → IsOnWay old next whole less
+way_more : (old now next : WorldView) (whole left less : Course) → IsOnWay old now whole left → IsOnWay now next left less → IsOnWay old next whole less
 way_more old now next whole left less way more = record {
   began = beginning-more old.history.past now.history.past next.history.past way.began more.began;
   plant = plant_whole old now next way.plant more.plant;
@@ -61,19 +61,19 @@ way_more old now next whole left less way more = record {
 }
 
 -- a first part was entered whole: what follows it is left
-pub way_from : (rest : Group → List WireLine → Run → Run) (old now : WorldView) (first : Run) (going : Going) → IsBeginning old.history.past first.past → run_at going now ≡ first → going ≡ On → HasSamePlant old now → IsOnWay old now (rest old.history.group old.lines first) (rest now.history.group now.lines (run_from now.history.past))
+pub way_from : (rest : Group → List WireLine → Course → Course) (old now : WorldView) (first : Course) (going : Going) → IsBeginning old.history.past first.past → run_at going now ≡ first → going ≡ On → HasSamePlant old now → IsOnWay old now (rest old.history.group old.lines first) (rest now.history.group now.lines (run_from now.history.past))
 way_from rest old now first going grows is on plant = record {
-  began = subst (λ (run : Run). IsBeginning old.history.past run.past) (sym is) grows;
+  began = subst (λ (run : Course). IsBeginning old.history.past run.past) (sym is) grows;
   plant = plant;
   ends = ap (λ (g : Group). rest g now.lines (run_from now.history.past)) plant.group ∙ ap (λ (lines : List WireLine). rest old.history.group lines (run_from now.history.past)) plant.lines ∙ ap (λ (at : Going). rest old.history.group old.lines (run_at at now)) (sym on) ∙ ap (rest old.history.group old.lines) is;
 }
 
 -- a part of what is left makes a part of all
-part_of_whole : (old now new : WorldView) (whole left : Run) → IsOnWay old now whole left → IsPartOf now new left → IsPartOf old new whole
-part_of_whole old now new whole left way p = record { began = beginning-more old.history.past now.history.past new.history.past way.began p.began; part = subst (λ (run : Run). IsBeginning new.history.past run.past) way.ends p.part }
+part_of_whole : (old now new : WorldView) (whole left : Course) → IsOnWay old now whole left → IsPartOf now new left → IsPartOf old new whole
+part_of_whole old now new whole left way p = record { began = beginning-more old.history.past now.history.past new.history.past way.began p.began; part = subst (λ (run : Course). IsBeginning new.history.past run.past) way.ends p.part }
 
 -- and where the last call met an `Err`
-pub part_whole : {T E : Type 0} (r : Result T E) (old now new : WorldView) (whole left : Run) → IsOnWay old now whole left → OnErr r (IsPartOf now new left) → OnErr r (IsPartOf old new whole)
+pub part_whole : {T E : Type 0} (r : Result T E) (old now new : WorldView) (whole left : Course) → IsOnWay old now whole left → OnErr r (IsPartOf now new left) → OnErr r (IsPartOf old new whole)
 part_whole r old now new whole left way part = on_err_weaker r (part_of_whole old now new whole left way) part
 
 -- what holds anyway holds at an `Err`
@@ -82,11 +82,11 @@ err_of (Ok x) holds = tt
 err_of (Err e) holds = holds
 
 -- a part of what a run begins with is a part of the run
-pub part_more : {T E : Type 0} (r : Result T E) (old new : WorldView) (first whole : Run) → IsBeginning first.past whole.past → IsPartOf old new first → OnErr r (IsPartOf old new whole)
+pub part_more : {T E : Type 0} (r : Result T E) (old new : WorldView) (first whole : Course) → IsBeginning first.past whole.past → IsPartOf old new first → OnErr r (IsPartOf old new whole)
 part_more r old new first whole grows part = err_of r (record { began = part.began; part = beginning-more new.history.past first.past whole.past part.part grows })
 
 -- where nothing was entered, no part of the run was
-pub none_entered : {T E : Type 0} (r : Result T E) (old new : WorldView) (run : Run) → IsBeginning old.history.past run.past → new.history ≡ old.history → OnErr r (IsPartOf old new run)
+pub none_entered : {T E : Type 0} (r : Result T E) (old new : WorldView) (run : Course) → IsBeginning old.history.past run.past → new.history ≡ old.history → OnErr r (IsPartOf old new run)
 none_entered r old new run grows same =
     let stands : old.history.past ≡ new.history.past = ap (λ (h : History). h.past) (sym same) in
     err_of r (record { began = subst (λ (past : List Entry). IsBeginning old.history.past past) stands (beginning-self old.history.past); part = subst (λ (past : List Entry). IsBeginning past run.past) stands grows })
@@ -111,7 +111,7 @@ stops_full old new event entries steps =
     ∙ sym (ap (entered (run_from old.history.past) (entry_after old.history.group old.history.past event) false) (not_less_self (length old.history.past) MAX_ENTRIES steps.0))
 
 -- the arrivals of the newest entry's reply
-abbrev with_newest : Group → List WireLine → Run → Run
+abbrev with_newest : Group → List WireLine → Course → Course
 with_newest g lines run = enter_all g run (newest_arrivals lines run.past)
 
 -- an event was entered, and the arrivals that its reply calls for are left
@@ -137,24 +137,24 @@ first_left : {X : Type 0} (xs : List X) (i : ℕ) (default : X) → i < length x
 first_left xs i default low = rw (add-one, drop-cons xs i default low) refl
 
 -- the next part was entered whole
-pub part_goes : (rest : Group → List WireLine → Run → Run) (old now next : WorldView) (whole left first : Run) (going : Going) → IsOnWay old now whole left → left ≡ rest now.history.group now.lines first → IsBeginning now.history.past first.past → run_at going next ≡ first → going ≡ On → HasSamePlant now next → IsOnWay old next whole (rest next.history.group next.lines (run_from next.history.past))
+pub part_goes : (rest : Group → List WireLine → Course → Course) (old now next : WorldView) (whole left first : Course) (going : Going) → IsOnWay old now whole left → left ≡ rest now.history.group now.lines first → IsBeginning now.history.past first.past → run_at going next ≡ first → going ≡ On → HasSamePlant now next → IsOnWay old next whole (rest next.history.group next.lines (run_from next.history.past))
 part_goes rest old now next whole left first going way split grows is on plant =
     let here = way_from rest now next first going grows is on plant in
     way_more old now next whole left (rest next.history.group next.lines (run_from next.history.past)) way (record { began = here.began; plant = here.plant; ends = here.ends ∙ sym split })
 
 -- the next part met a full journal: the run stops there, whatever was to follow
-pub stops_there : (rest : Run → Run) (now : WorldView) (first : Run) (going : Going) → run_at going now ≡ first → going ≡ Full → rest (run_at Full now) ≡ run_at Full now → run_at Full now ≡ rest first
+pub stops_there : (rest : Course → Course) (now : WorldView) (first : Course) (going : Going) → run_at going now ≡ first → going ≡ Full → rest (run_at Full now) ≡ run_at Full now → run_at Full now ≡ rest first
 stops_there rest now first going is full stays = sym stays ∙ ap (λ (at : Going). rest (run_at at now)) (sym full) ∙ ap rest is
 
 -- a part of the next part was entered
-pub part_parts : {T E : Type 0} (r : Result T E) (old now next : WorldView) (whole left behind first : Run) → IsOnWay old now whole left → left ≡ behind → IsBeginning first.past behind.past → IsPartOf now next first → OnErr r (IsPartOf old next whole)
+pub part_parts : {T E : Type 0} (r : Result T E) (old now next : WorldView) (whole left behind first : Course) → IsOnWay old now whole left → left ≡ behind → IsBeginning first.past behind.past → IsPartOf now next first → OnErr r (IsPartOf old next whole)
 part_parts r old now next whole left behind first way split grows part =
-    part_whole r old now next whole left way (part_more r now next first left (subst (λ (run : Run). IsBeginning first.past run.past) (sym split) grows) part)
+    part_whole r old now next whole left way (part_more r now next first left (subst (λ (run : Course). IsBeginning first.past run.past) (sym split) grows) part)
 
 -- messages that arrive one after another
 
 -- the arrivals of these messages, from where a world stands
-abbrev pub arrivals_from : (ℕ → Event) → WorldView → List ℕ → Run
+abbrev pub arrivals_from : (ℕ → Event) → WorldView → List ℕ → Course
 arrivals_from make w numbers = enter_all w.history.group (run_from w.history.past) (map make numbers)
 
 -- on the way of the arrivals of these messages, those from place i on are left
@@ -162,11 +162,11 @@ abbrev pub IsArriving : (ℕ → Event) → WorldView → WorldView → List ℕ
 IsArriving make old now numbers i = IsOnWay old now (arrivals_from make old numbers) (arrivals_from make now (drop i numbers))
 
 -- the arrival at a place, from where a world stands
-abbrev arrival_at : (ℕ → Event) → WorldView → List ℕ → ℕ → Run
+abbrev arrival_at : (ℕ → Event) → WorldView → List ℕ → ℕ → Course
 arrival_at make w numbers i = enter w.history.group (run_from w.history.past) (make (get_or numbers i 0))
 
 -- the arrivals behind a place
-abbrev arrivals_behind : (ℕ → Event) → List ℕ → ℕ → Group → List WireLine → Run → Run
+abbrev arrivals_behind : (ℕ → Event) → List ℕ → ℕ → Group → List WireLine → Course → Course
 arrivals_behind make numbers i g lines run = enter_all g run (map make (drop (i + 1) numbers))
 
 -- the arrivals that are left are that at the place, and then those behind it
@@ -200,17 +200,17 @@ no_arrivals_part r w events = none_entered r w w (enter_all w.history.group (run
 -- a turn
 
 -- the finish that ends an update
-abbrev pub finishing : Entity → Group → List WireLine → Run → Run
+abbrev pub finishing : Entity → Group → List WireLine → Course → Course
 finishing e g lines run = enter g run (Finish e)
 
 -- the poll that follows it
-abbrev pub polling : Entity → Group → List WireLine → Run → Run
+abbrev pub polling : Entity → Group → List WireLine → Course → Course
 polling e g lines run = poll g lines run e
 
 -- turns one after another
 
 -- the turns of these entities, from where a world stands
-abbrev pub turns_from : WorldView → List Entity → Run
+abbrev pub turns_from : WorldView → List Entity → Course
 turns_from w es = turns w.history.group w.lines (run_from w.history.past) es
 
 -- on the way of the turns of these entities, those from place i on are left
@@ -218,11 +218,11 @@ abbrev pub IsTurning : WorldView → WorldView → List Entity → ℕ → Type 
 IsTurning old now es i = IsOnWay old now (turns_from old es) (turns_from now (drop i es))
 
 -- the turn at a place, from where a world stands
-abbrev turn_at : WorldView → List Entity → ℕ → Run
+abbrev turn_at : WorldView → List Entity → ℕ → Course
 turn_at w es i = turn w.history.group w.lines (run_from w.history.past) (get_or es i (Device 0))
 
 -- the turns behind a place
-abbrev turns_behind : List Entity → ℕ → Group → List WireLine → Run → Run
+abbrev turns_behind : List Entity → ℕ → Group → List WireLine → Course → Course
 turns_behind es i g lines run = turns g lines run (drop (i + 1) es)
 
 -- the turns that are left are that at the place, and then those behind it
@@ -256,14 +256,14 @@ abbrev unsettled_by : Group → (Entity → Report) → (Entity → ℕ) → (En
 unsettled_by g reports stamps values = filter (λ e. not (is_settled_by (reports e) (stamps e) (vals_in g values e))) (entities_of g)
 
 -- by what a checker keeps that stands as a journal leaves its group, they are those by the journal
-unsettled_in_checker : (g : Group) (past : List Entry) (k : Checker) → k.group ≡ g → standing_in k ≡ standing_of g past → unsettled_in g k.store.observed k.store.target k.stamps ≡ unsettled g past
+unsettled_in_checker : (g : Group) (past : List Entry) (k : ControlView) → k.group ≡ g → standing_in k ≡ standing_of g past → unsettled_in g k.store.observed k.store.target k.stamps ≡ unsettled g past
 unsettled_in_checker g past k group stands =
     ap (λ (h : Group). unsettled_by g (report_in h k.store.observed) (stamp_in g k.stamps) (value_in k.store.target)) (sym group)
     ∙ ap (λ (h : Group). unsettled_by g (report_in k.group k.store.observed) (stamp_in h k.stamps) (value_in k.store.target)) (sym group)
     ∙ ap (λ (s : Standing). unsettled_by g s.observed s.stamp s.target) stands
 
 -- and so by what its store, its target, its kept reports and its stamps are
-pub planned : (g : Group) (past : List Entry) (k : Checker) (s : StoreView) (reports : List Report) (t : Values) (stamps : List ℕ) → k.group ≡ g → standing_in k ≡ standing_of g past → s ≡ k.store → reports ≡ s.observed → t ≡ s.target → stamps ≡ k.stamps → unsettled_in g reports t stamps ≡ unsettled g past
+pub planned : (g : Group) (past : List Entry) (k : ControlView) (s : StoreView) (reports : List Report) (t : Values) (stamps : List ℕ) → k.group ≡ g → standing_in k ≡ standing_of g past → s ≡ k.store → reports ≡ s.observed → t ≡ s.target → stamps ≡ k.stamps → unsettled_in g reports t stamps ≡ unsettled g past
 planned g past k s reports t stamps group stands store observed table kept =
     ap (λ (x : List Report). unsettled_in g x t stamps) observed
     ∙ ap (λ (x : Values). unsettled_in g s.observed x stamps) table
@@ -304,9 +304,9 @@ round_entered old new es items going other is at read all =
     ap (λ (x : Going). run_at x new) (sym at) ∙ is ∙ ap (turns_from old) read ∙ ap (turns_from old) all
 
 -- a run that was entered is a part of itself
-pub all_part : {T E : Type 0} (r : Result T E) (old new : WorldView) (whole : Run) (going : Going) → IsBeginning old.history.past whole.past → run_at going new ≡ whole → OnErr r (IsPartOf old new whole)
+pub all_part : {T E : Type 0} (r : Result T E) (old new : WorldView) (whole : Course) (going : Going) → IsBeginning old.history.past whole.past → run_at going new ≡ whole → OnErr r (IsPartOf old new whole)
 all_part r old new whole going grows is =
-    let stands : whole.past ≡ new.history.past = ap (λ (run : Run). run.past) (sym is) in
+    let stands : whole.past ≡ new.history.past = ap (λ (run : Course). run.past) (sym is) in
     err_of r (record {
       began = subst (λ (past : List Entry). IsBeginning old.history.past past) stands grows;
       part = subst (λ (past : List Entry). IsBeginning past whole.past) stands (beginning-self whole.past);

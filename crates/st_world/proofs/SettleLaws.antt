@@ -34,7 +34,7 @@ use Rattle.st_event.proofs.Stamps.{fence_small}
 use Rattle.st_event.proofs.Standings.{quiet_stamp}
 use Rattle.st_event.proofs.Turns.{report_settles, turn_settles, sent_named, reported_named}
 use Rattle.st_wire.specs.declared.line.WireLine.{WireLine}
-use Rattle.st_world.specs.Rounds.{Run, run_from, enter, enter_all, arrivals_of, newest_arrivals, enter_told, turn, turns, unsettled, round, is_sending, WasSent, NeverFailed}
+use Rattle.st_world.specs.Rounds.{Course, run_from, enter, enter_all, arrivals_of, newest_arrivals, enter_told, turn, turns, unsettled, round, is_sending, WasSent, NeverFailed}
 use Rattle.st_world.specs.World.{IsBeginning}
 use Rattle.st_world.proofs.RunLaws.{entered, round-grows, turn-legal, turns-stopped, unsettled_fit}
 
@@ -51,37 +51,37 @@ ended_by g lines e past = told_by g lines (make_report e) (entry_after g past (F
 abbrev pub turn_by : Group → List WireLine → Entity → List Entry → List Entry
 turn_by g lines e past = ended_by g lines e (told_by g lines (Send e) past)
 
-entered-whole : (run : Run) (entry : Entry) (stopped room : Bool) → run.stopped ≡ stopped → (entered run entry stopped room).stopped ≡ false → (run.stopped ≡ false) × (entered run entry stopped room ≡ run_from (entry ∷ run.past))
+entered-whole : (run : Course) (entry : Entry) (stopped room : Bool) → run.stopped ≡ stopped → (entered run entry stopped room).stopped ≡ false → (run.stopped ≡ false) × (entered run entry stopped room ≡ run_from (entry ∷ run.past))
 entered-whole run entry true room is going = let stops : true ≡ false = sym is ∙ going in cc
 entered-whole run entry false true is going = (is, refl)
 entered-whole run entry false false is going = cc
 
-enter-whole : (g : Group) (run : Run) (event : Event) → (enter g run event).stopped ≡ false → (run.stopped ≡ false) × (enter g run event ≡ run_from (entry_after g run.past event ∷ run.past))
+enter-whole : (g : Group) (run : Course) (event : Event) → (enter g run event).stopped ≡ false → (run.stopped ≡ false) × (enter g run event ≡ run_from (entry_after g run.past event ∷ run.past))
 enter-whole g run event going = entered-whole run (entry_after g run.past event) run.stopped _ refl going
 
-enter_all-whole : (g : Group) (run : Run) (events : List Event) → (enter_all g run events).stopped ≡ false → (run.stopped ≡ false) × ((enter_all g run events).past ≡ journal_by g events run.past)
+enter_all-whole : (g : Group) (run : Course) (events : List Event) → (enter_all g run events).stopped ≡ false → (run.stopped ≡ false) × ((enter_all g run events).past ≡ journal_by g events run.past)
 enter_all-whole g run [] going = (going, refl)
 enter_all-whole g run (event ∷ events) going =
     let rest = enter_all-whole g (enter g run event) events going in
     let here = enter-whole g run event rest.0 in
-    (here.0, rest.1 ∙ ap (λ (r : Run). journal_by g events r.past) here.1)
+    (here.0, rest.1 ∙ ap (λ (r : Course). journal_by g events r.past) here.1)
 
-enter_told-whole : (g : Group) (lines : List WireLine) (run : Run) (event : Event) → (enter_told g lines run event).stopped ≡ false → (run.stopped ≡ false) × ((enter_told g lines run event).past ≡ told_by g lines event run.past)
+enter_told-whole : (g : Group) (lines : List WireLine) (run : Course) (event : Event) → (enter_told g lines run event).stopped ≡ false → (run.stopped ≡ false) × ((enter_told g lines run event).past ≡ told_by g lines event run.past)
 enter_told-whole g lines run event going =
     let next = enter g run event in
     let rest = enter_all-whole g next (newest_arrivals lines next.past) going in
     let here = enter-whole g run event rest.0 in
-    (here.0, rest.1 ∙ ap (λ (r : Run). journal_by g (newest_arrivals lines r.past) r.past) here.1)
+    (here.0, rest.1 ∙ ap (λ (r : Course). journal_by g (newest_arrivals lines r.past) r.past) here.1)
 
 -- a turn that meets no full journal enters all of its entries
-pub turn-whole : (g : Group) (lines : List WireLine) (run : Run) (e : Entity) → (turn g lines run e).stopped ≡ false → (run.stopped ≡ false) × ((turn g lines run e).past ≡ turn_by g lines e run.past)
+pub turn-whole : (g : Group) (lines : List WireLine) (run : Course) (e : Entity) → (turn g lines run e).stopped ≡ false → (run.stopped ≡ false) × ((turn g lines run e).past ≡ turn_by g lines e run.past)
 turn-whole g lines run e going =
     let told = enter_told g lines run (Send e) in
     let finished = enter g told (Finish e) in
     let last = enter_told-whole g lines finished (make_report e) going in
     let middle = enter-whole g told (Finish e) last.0 in
     let first = enter_told-whole g lines run (Send e) middle.0 in
-    (first.0, last.1 ∙ ap (λ (r : Run). told_by g lines (make_report e) r.past) middle.1 ∙ ap (ended_by g lines e) first.1)
+    (first.0, last.1 ∙ ap (λ (r : Course). told_by g lines (make_report e) r.past) middle.1 ∙ ap (ended_by g lines e) first.1)
 
 -- how often an entity was sent a command
 abbrev pub sendings : List Entry → Entity → ℕ
@@ -282,11 +282,11 @@ goes_on false end stays going = refl
 
 -- turns that meet no full journal settle each entity that they send a command, and keep the settled ones, where the entity has not failed
 -- since its last finish
-pub turns_settle : (g : Group) (run : Run) (es : List Entity) (e : Entity) → IsLegal g run.past → All (IsEntityOf g) es → is_spoiled g run.past e ≡ false → (turns g [] run es).stopped ≡ false → Settles g e run.past (turns g [] run es).past
+pub turns_settle : (g : Group) (run : Course) (es : List Entity) (e : Entity) → IsLegal g run.past → All (IsEntityOf g) es → is_spoiled g run.past e ≡ false → (turns g [] run es).stopped ≡ false → Settles g e run.past (turns g [] run es).past
 turns_settle g run [] e legal own unharmed going = record { sent = λ more. absurd (omega (arith, more)); kept = λ was. was }
 turns_settle g run (x ∷ es) e legal own unharmed going =
     let next = turn g [] run x in
-    let goes : next.stopped ≡ false = goes_on next.stopped (turns g [] next es).stopped (λ stop. ap (λ (r : Run). r.stopped) (turns-stopped g [] next es stop) ∙ stop) going in
+    let goes : next.stopped ≡ false = goes_on next.stopped (turns g [] next es).stopped (λ stop. ap (λ (r : Course). r.stopped) (turns-stopped g [] next es stop) ∙ stop) going in
     let whole = turn-whole g [] run x goes in
     let legal_next = turn-legal g [] run x legal (All-head (IsEntityOf g) x es own) in
     let here = turn_by_settles g run.past x e (is_same_entity x e) refl unharmed (subst (λ (journal : List Entry). IsLegal g journal) whole.1 legal_next) in
@@ -298,14 +298,14 @@ turns_settle g run (x ∷ es) e legal own unharmed going =
 pub round_settles : (g : Group) (past made : List Entry) → IsLegal g past → round g [] past ≡ record { past = made ++ past; stopped = false } → (e : Entity) → WasSent made e → NeverFailed (made ++ past) e → is_settled g (made ++ past) e ≡ true
 round_settles g past made legal is e sent never =
     let unharmed = unspoiled g past e (never_failed_before made past e never) in
-    let settles = turns_settle g (run_from past) (unsettled g past) e legal (unsettled_fit g past) unharmed (ap (λ (r : Run). r.stopped) is) in
-    let all = subst (λ (journal : List Entry). Settles g e past journal) (ap (λ (r : Run). r.past) is) settles in
+    let settles = turns_settle g (run_from past) (unsettled g past) e legal (unsettled_fit g past) unharmed (ap (λ (r : Course). r.stopped) is) in
+    let all = subst (λ (journal : List Entry). Settles g e past journal) (ap (λ (r : Course). r.past) is) settles in
     all.sent (sent_counts made past e sent)
 
 -- what a round that met no full journal made; and the same of any loss plan that has no lines
 pub round_made : (g : Group) (lines : List WireLine) (past whole : List Entry) → IsLegal g past → round g lines past ≡ record { past = whole; stopped = false } → (made : List Entry) × (whole ≡ made ++ past) × (lines ≡ [] → (e : Entity) → WasSent made e → NeverFailed whole e → is_settled g whole e ≡ true)
 round_made g lines past whole legal is =
-    let grows : IsBeginning past whole = subst (λ (journal : List Entry). IsBeginning past journal) (ap (λ (r : Run). r.past) is) (round-grows g lines past) in
+    let grows : IsBeginning past whole = subst (λ (journal : List Entry). IsBeginning past journal) (ap (λ (r : Course). r.past) is) (round-grows g lines past) in
     let run : run_from whole ≡ run_from (grows.0 ++ past) = ap run_from grows.1 in
     let settled = λ (none : lines ≡ []) (e : Entity) (sent : WasSent grows.0 e). round_settles g past grows.0 legal (ap (λ (l : List WireLine). round g l past) (sym none) ∙ is ∙ run) e sent in
     (grows.0, grows.1, λ none e sent. subst (λ (journal : List Entry). NeverFailed journal e → is_settled g journal e ≡ true) (sym grows.1) (settled none e sent))

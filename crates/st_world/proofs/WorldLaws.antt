@@ -32,7 +32,7 @@ use Rattle.st_event.proofs.Made.{report_now}
 use Rattle.st_event.proofs.Promises.{keeps_throughout}
 use Rattle.st_event.proofs.Standings.{standing_of-next, wires_of-next, reply_is}
 use Rattle.st_event.proofs.Versions.{value_at-next}
-use Rattle.st_control.specs.Checker.{standing_in, versions_in}
+use Rattle.st_control.specs.Control.{standing_in, versions_in}
 use Rattle.st_world.specs.Plant.{agent_in}
 use Rattle.st_world.specs.Machine.{MachineView, wires_in, IsOpening, IsBelow, Answers}
 use Rattle.st_world.specs.World.{Agrees, Steps}

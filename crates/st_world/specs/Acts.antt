@@ -24,10 +24,10 @@ use Rattle.st_event.specs.Moments.{vals}
 use Rattle.st_event.specs.Proposals.{pending, version, target}
 use Rattle.st_event.specs.Versions.{value_at}
 use Rattle.st_wire.specs.declared.line.WireLine.{WireLine}
-use Rattle.st_world.specs.Rounds.{Run, run_from, enter, poll, turns, unsettled}
+use Rattle.st_world.specs.Rounds.{Course, run_from, enter, poll, turns, unsettled}
 
 -- checks, at most n, while what is pending passes
-unfoldable pub checked_while : Group → (List Proposal → Bool) → ℕ → Run → Run
+unfoldable pub checked_while : Group → (List Proposal → Bool) → ℕ → Course → Course
 checked_while g waits zero run = run
 checked_while g waits (suc n) run = if waits (pending run.past) then checked_while g waits n (enter g run Check) else run
 
@@ -41,18 +41,18 @@ abbrev pub has_one_of : AppId → List Proposal → Bool
 has_one_of app ps = list_any (λ p. p.app.0 == app.0) ps
 
 -- checks while something is pending, and while something of an application is: no more than 64 proposals are
-abbrev pub all_checked : Group → Run → Run
+abbrev pub all_checked : Group → Course → Course
 all_checked g run = checked_while g is_something MAX_PENDING run
 
-abbrev pub awaited : Group → Run → AppId → Run
+abbrev pub awaited : Group → Course → AppId → Course
 awaited g run app = checked_while g (has_one_of app) MAX_PENDING run
 
 -- a check first where 64 proposals are pending
-abbrev pub with_room : Group → Run → Run
+abbrev pub with_room : Group → Course → Course
 with_room g run = if length (pending run.past) == MAX_PENDING then enter g run Check else run
 
 -- a proposal, for which there is room
-abbrev pub proposed : Group → Run → AppId → List Row → Run
+abbrev pub proposed : Group → Course → AppId → List Row → Course
 proposed g run app rows = enter g (with_room g run) (Submit app rows)
 
 -- rounds, at most n, while some entity is not settled
@@ -60,7 +60,7 @@ abbrev pub is_none_left : List Entity → Bool
 is_none_left [] = true
 is_none_left (e ∷ es) = false
 
-unfoldable pub rounds_done : Group → List WireLine → ℕ → Run → Run
+unfoldable pub rounds_done : Group → List WireLine → ℕ → Course → Course
 rounds_done g lines zero run = run
 rounds_done g lines (suc n) run = if is_none_left (unsettled g run.past) then run else rounds_done g lines n (turns g lines run (unsettled g run.past))
 
@@ -69,7 +69,7 @@ abbrev pub failed_vals : Entity → Vals → List Row → Vals
 failed_vals e vals rows = vals_by e vals (λ v. unwrap_or (row_on rows e v) (value_of e vals v))
 
 -- the entity changes of itself: to this health, and to the values that rows name
-abbrev pub failed : Group → Run → Entity → ℕ → List Row → Run
+abbrev pub failed : Group → Course → Entity → ℕ → List Row → Course
 failed g run e health rows = enter g run (fail_event e (failed_vals e (vals g run.past e) rows) health)
 
 -- the group of an act
@@ -85,7 +85,7 @@ group_number (Fail n entity health rows) = n
 group_number (Poll n entity) = n
 
 -- what an act of an application makes of its group, whose loss plan has these lines
-abbrev pub course_of : AppId → Act → Group → List WireLine → Run → Run
+abbrev pub course_of : AppId → Act → Group → List WireLine → Course → Course
 course_of app (Propose n rows) g lines run = proposed g run app rows
 course_of app (Await n) g lines run = awaited g run app
 course_of app (Settle n rounds) g lines run = rounds_done g lines rounds run
@@ -97,7 +97,7 @@ course_of app (Read n entity var) g lines run = run
 course_of app (ReadAt n version entity var) g lines run = run
 
 -- and from where its group stands
-abbrev pub act_course : AppId → Act → History → List WireLine → Run
+abbrev pub act_course : AppId → Act → History → List WireLine → Course
 act_course app act h lines = course_of app act h.group lines (run_from h.past)
 
 -- what is seen of a variable: its value in the target now, and at a version, if there is that version

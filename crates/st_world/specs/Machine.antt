@@ -11,12 +11,12 @@ use Rattle.st_event.specs.Standing.{Wires, standing_of, wires_of, standing_after
 use Rattle.st_event.specs.Versions.{value_at, versions_after}
 use Rattle.st_agent.specs.State.{AgentState}
 use Rattle.st_wire.specs.Messages.{Messages, HasSameMessages}
-use Rattle.st_control.specs.Checker.{Checker, IsSameButRuns, standing_in, versions_in}
+use Rattle.st_control.specs.Control.{ControlView, IsSameButRuns, standing_in, versions_in}
 use Rattle.st_world.specs.Plant.{IsPlantOf, agent_in}
 
 -- the checker; an agent for each entity, in the order of entities; and the messages
 pub record MachineView : Type 0 where
-  pub checker : Checker
+  pub checker : ControlView
   pub agents : List AgentState
   pub messages : Messages
 

@@ -24,19 +24,19 @@ use Rattle.st_world.specs.declared.world.rounds.Rounded.{Rounded}
 use Rattle.st_world.specs.declared.world.rounds.Rounded.TheVariants.{Did, JournalFull}
 
 -- a journal, and whether an event met it full: then nothing more is entered
-pub record Run : Type 0 where
+pub record Course : Type 0 where
   pub past : List Entry
   pub stopped : Bool
 
-abbrev pub run_from : List Entry → Run
+abbrev pub run_from : List Entry → Course
 run_from past = record { past = past; stopped = false }
 
 -- an event with its reply, where there is room
-abbrev pub enter : Group → Run → Event → Run
+abbrev pub enter : Group → Course → Event → Course
 enter g run event =
     if run.stopped then run else (if nat_lt (length run.past) MAX_ENTRIES then record { past = entry_after g run.past event ∷ run.past; stopped = false } else record { past = run.past; stopped = true })
 
-abbrev pub enter_all : Group → Run → List Event → Run
+abbrev pub enter_all : Group → Course → List Event → Course
 enter_all g run [] = run
 enter_all g run (event ∷ events) = enter_all g (enter g run event) events
 
@@ -68,22 +68,22 @@ newest_arrivals lines [] = []
 newest_arrivals lines (entry ∷ past) = arrivals_of lines entry.reply
 
 -- an event, and then the arrivals that its reply calls for
-abbrev pub enter_told : Group → List WireLine → Run → Event → Run
+abbrev pub enter_told : Group → List WireLine → Course → Event → Course
 enter_told g lines run event = let next = enter g run event in enter_all g next (newest_arrivals lines next.past)
 
 -- the half of an entity's turn that updates it: Send with the arrivals of its command, and Finish
-abbrev pub update_turn : Group → List WireLine → Run → Entity → Run
+abbrev pub update_turn : Group → List WireLine → Course → Entity → Course
 update_turn g lines run e = enter g (enter_told g lines run (Send e)) (Finish e)
 
 -- the half that monitors it: Report with the arrivals of its report
-abbrev pub poll : Group → List WireLine → Run → Entity → Run
+abbrev pub poll : Group → List WireLine → Course → Entity → Course
 poll g lines run e = enter_told g lines run (make_report e)
 
 -- the turn of an entity: the one half and then the other
-abbrev pub turn : Group → List WireLine → Run → Entity → Run
+abbrev pub turn : Group → List WireLine → Course → Entity → Course
 turn g lines run e = poll g lines (update_turn g lines run e) e
 
-abbrev pub turns : Group → List WireLine → Run → List Entity → Run
+abbrev pub turns : Group → List WireLine → Course → List Entity → Course
 turns g lines run [] = run
 turns g lines run (e ∷ es) = turns g lines (turn g lines run e) es
 
@@ -92,7 +92,7 @@ abbrev pub unsettled : Group → List Entry → List Entity
 unsettled g past = filter (λ e. not (is_settled g past e)) (entities_of g)
 
 -- a round: the turns of the entities that are not settled at its start
-abbrev pub round : Group → List WireLine → List Entry → Run
+abbrev pub round : Group → List WireLine → List Entry → Course
 round g lines past = turns g lines (run_from past) (unsettled g past)
 
 -- all of a round was entered, and so many entities are not settled behind it; or it met a full journal
@@ -105,15 +105,15 @@ abbrev pub is_full : Going → Bool
 is_full On = false
 is_full Full = true
 
-abbrev pub run_at : Going → WorldView → Run
+abbrev pub run_at : Going → WorldView → Course
 run_at going w = record { past = w.history.past; stopped = is_full going }
 
 -- the world has gone through a run, and it is told whether that met a full journal
-abbrev pub Goes : WorldView → Run → Going → Type 0
+abbrev pub Goes : WorldView → Course → Going → Type 0
 Goes new run going = run_at going new ≡ run
 
 -- a part of a run was entered, from its start
-pub record IsPartOf (old new : WorldView) (run : Run) : Type 0 where
+pub record IsPartOf (old new : WorldView) (run : Course) : Type 0 where
   pub began : IsBeginning old.history.past new.history.past
   pub part : IsBeginning new.history.past run.past
 

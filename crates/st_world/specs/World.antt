@@ -8,7 +8,7 @@ use Rattle.st_event.specs.Legal.{IsLegal, IsNext}
 use Rattle.st_event.specs.Standing.{standing_of, wires_of}
 use Rattle.st_event.specs.Versions.{value_at}
 use Rattle.st_wire.specs.declared.line.WireLine.{WireLine}
-use Rattle.st_control.specs.Checker.{standing_in, versions_in}
+use Rattle.st_control.specs.Control.{standing_in, versions_in}
 use Rattle.st_world.specs.Machine.{MachineView, wires_in}
 use Rattle.st_world.specs.declared.world.Stepped.{Stepped}
 use Rattle.st_world.specs.declared.world.Stepped.TheVariants.{Did, JournalFull}

@@ -15,21 +15,14 @@ ghost use Rattle.st_world.specs.Machine.{Answers, HasSameMachine, IsBelow, IsOpe
 use crate::plant::Plant;
 use st_agent::{Delivery, Finish};
 use st_control::{
-    Control, Judged, Receipts, SendStep, check_reply, grant_reply, keep_reply, put_reply,
+    Control, Judged, SendStep, Twice, check_reply, grant_reply, keep_reply, put_reply,
     release_reply,
 };
-use st_event::{Event, Reply, Rows};
+use st_event::{Event, Receipt, Reply, Rows};
 use st_net::{AppId, Entity, GroupTopo, Prio, Vals};
 use st_wire::{Took, Wire};
 use std::alloc::{AllocError, Global};
 use std::marker::Model;
-
-/// A reply, twice: one to hand out and one to enter.
-#[derive(Drop)]
-pub struct Answered {
-    pub told: Reply,
-    pub kept: Reply,
-}
 
 /// A group's checker, its agents and its messages.
 #[derive(Drop)]
@@ -51,13 +44,13 @@ impl Model for Machine {
 }
 
 /// A reply without a side, twice. It takes no memory.
-fn twice(alloc: Global, told: Reply) -> Answered
+fn told_twice(alloc: Global, told: Reply) -> Twice<Reply>
     requires { IsTrue (is_without_side told) }
     ensures told { result.told ≡ told }
     ensures kept { result.kept ≡ told }
 {
     match told.copy(alloc) {
-        Ok(kept) => Answered { told, kept },
+        Ok(kept) => Twice { told, kept },
         Err(_) => unreachable!(),
     }
 }
@@ -123,14 +116,14 @@ impl Machine {
     }
 
     /// The oldest proposal is decided. At `Err` nothing has changed but the checker's count of runs.
-    fn check(&mut self, entry: u32) -> Result<Answered, AllocError>
+    fn check(&mut self, entry: u32) -> Result<Twice<Reply>, AllocError>
         ensures ok { IfOk result (λ answered. Answers self.old self.new entry check_event answered.told) }
         ensures kept { IfOk result (λ answered. answered.kept ≡ answered.told) }
         ensures err { OnErr result (HasSameMachine self.old self.new) }
         ensures room { self.new.messages ≡ self.old.messages }
     {
         let checks = self.control.check_twice(entry)?;
-        Ok(Answered {
+        Ok(Twice {
             told: check_reply(checks.told),
             kept: check_reply(checks.kept),
         })
@@ -138,7 +131,7 @@ impl Machine {
 
     /// The oldest proposal, which was judged away from the checker, is decided, and the receipt is given twice. At `Err` nothing has
     /// changed but the checker's count of runs.
-    pub fn commit(&mut self, entry: u32, judged: &Judged) -> Result<Receipts, AllocError>
+    pub fn commit(&mut self, entry: u32, judged: &Judged) -> Result<Twice<Receipt>, AllocError>
         requires oldest { judged.now.ticket ≡ length self.old.checker.store.decided + 1 }
         requires given { judged.now.ticket ≤ self.old.checker.store.tickets }
         ensures ok { IfOk result (λ receipts. Answers self.old self.new entry check_event (decided_reply receipts.told)) }
@@ -264,7 +257,7 @@ impl Machine {
 
     /// Answers an event as entry number `entry`. At `Err` nothing has changed but the checker's count of runs. Where there is room, only proposals and decisions take
     /// memory.
-    pub fn answer(&mut self, entry: u32, event: &Event) -> Result<Answered, AllocError>
+    pub fn answer(&mut self, entry: u32, event: &Event) -> Result<Twice<Reply>, AllocError>
         requires fits { Fits self.old.checker.group event.now }
         requires below { IsBelow entry self.old }
         requires few { entry ≤ MAX_ENTRIES }
@@ -291,6 +284,6 @@ impl Machine {
                 health,
             } => self.fail(*entity, *vals, *health),
         };
-        Ok(twice(self.alloc, reply))
+        Ok(told_twice(self.alloc, reply))
     }
 }

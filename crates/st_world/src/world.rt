@@ -12,7 +12,7 @@ ghost use Rattle.st_event.specs.Moments.{commands, reports};
 ghost use Rattle.st_event.specs.Network.{KeepsPromises};
 ghost use Rattle.st_event.specs.Standing.{standing_of};
 ghost use Rattle.st_event.specs.Versions.{value_at};
-ghost use Rattle.st_control.specs.Checker.{standing_in, versions_in};
+ghost use Rattle.st_control.specs.Control.{standing_in, versions_in};
 ghost use Rattle.st_world.specs.Machine.{is_without_memory};
 ghost use Rattle.st_world.specs.World.{StepSpends, Steps};
 
@@ -21,9 +21,9 @@ pub mod commits;
 mod fit;
 pub mod rounds;
 
-use crate::machine::{Answered, Machine};
+use crate::machine::Machine;
 use st_agent::Agent;
-use st_control::Control;
+use st_control::{Control, Twice};
 use st_event::{Entries, Entry, Event, Journal, MAX_ENTRIES, Reply};
 use st_net::{Entity, GroupTopo};
 use st_wire::{LossPlan, Wire};
@@ -44,7 +44,7 @@ pub enum Stepped {
 pub struct World {
     alloc: Global,
     machine: Machine,
-    plan: LossPlan,
+    losses: LossPlan,
     journal: Vec<Entry>,
 }
 
@@ -55,7 +55,7 @@ impl Model for World {
 
     ghost Value = { WorldView };
 
-    ghost view = { λ w. record { history = record { group = w.machine.checker.group; past = reverse w.journal.items }; lines = w.plan; room = min (vec_capacity w.journal - vec_len w.journal) w.machine.messages.room } };
+    ghost view = { λ w. record { history = record { group = w.machine.checker.group; past = reverse w.journal.items }; lines = w.losses; room = min (vec_capacity w.journal - vec_len w.journal) w.machine.messages.room } };
 
     ghost invariant = { λ w. Agrees w.machine w.journal.items };
 }
@@ -74,15 +74,15 @@ fn enter_last(journal: &mut Vec<Entry>, event: Event, reply: Reply)
 
 impl World {
     /// A group at its opening, with a plan by which its messages are lost, come again or come late.
-    pub fn start(alloc: Global, topo: GroupTopo, plan: LossPlan) -> Result<World, AllocError>
+    pub fn start(alloc: Global, topo: GroupTopo, losses: LossPlan) -> Result<World, AllocError>
         ensures history { IfOk result (λ world. world.history ≡ record { group = topo; past = [] }) }
-        ensures lines { IfOk result (λ world. world.lines ≡ plan) }
+        ensures lines { IfOk result (λ world. world.lines ≡ losses) }
     {
         let machine = Machine::start(alloc, topo)?;
         Ok(World {
             alloc,
             machine,
-            plan,
+            losses,
             journal: Vec::new(alloc),
         })
     }
@@ -108,7 +108,7 @@ impl World {
         let entry = self.journal.len() as u32 + 1;
         // Room first: once the machine has answered, the entry has to follow.
         self.journal.reserve(1)?;
-        let Answered { told, kept } = self.machine.answer(entry, &event)?;
+        let Twice { told, kept } = self.machine.answer(entry, &event)?;
         enter_last(&mut self.journal, event, kept);
         Ok(Stepped::Did(told))
     }
@@ -154,7 +154,7 @@ impl World {
     pub fn plan(&self) -> &LossPlan
         ensures { result.now ≡ self.now.lines }
     {
-        &self.plan
+        &self.losses
     }
 
     /// The journal, the oldest entry first.

@@ -8,7 +8,7 @@ ghost use Rattle.st_grammar.specs.Lines.{wire_count, with_wire_line, wire_line, 
 
 use crate::reader::Reader;
 use st_event::Act;
-use st_grammar::{CommandWord, MAX_ACTS, MAX_WIRE_LINES, WireWord};
+use st_grammar::{ActWord, MAX_ACTS, MAX_WIRE_LINES, WireWord};
 use st_text::Token;
 use st_token::{FaultKind, LineError};
 use st_wire::WireLine;
@@ -83,7 +83,7 @@ impl Reader {
     #[tactic(auto, unfolding(st_grammar::specs::Lines::act_line))]
     pub(crate) fn act(
         &mut self,
-        word: CommandWord,
+        word: ActWord,
         line: &[u8],
         tokens: &[Token],
     ) -> Result<(), LineError>

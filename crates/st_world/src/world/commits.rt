@@ -4,7 +4,7 @@ ghost use Rattle.std.specs.Prelude.{◌≡◌, ◌↔◌, ◌≤◌, IfOk, Match
 ghost use Rattle.st_world.specs.Commits.{Begins, MayCommit, Commits, SpendsRoom};
 
 use crate::world::{World, enter_last};
-use st_control::{Begin, Judged, Receipts};
+use st_control::{Begin, Judged, Twice};
 use st_event::{Event, MAX_ENTRIES, Receipt, Reply};
 use std::alloc::AllocError;
 
@@ -57,7 +57,7 @@ impl World {
         let entry = self.journal.len() as u32 + 1;
         // Room first: once the machine has decided, the entry has to follow.
         self.journal.reserve(1)?;
-        let Receipts { told, kept } = self.machine.commit(entry, judged)?;
+        let Twice { told, kept } = self.machine.commit(entry, judged)?;
         enter_last(&mut self.journal, Event::Check, Reply::Decided(kept));
         Ok(Committed::Did(told))
     }

@@ -3,7 +3,7 @@ use Rattle.st_net.specs.Groups.{Group}
 use Rattle.st_event.specs.History.{History}
 use Rattle.st_event.specs.Observed.{actual}
 use Rattle.st_event.specs.Standing.{standing_of, sure_in}
-use Rattle.st_control.specs.Checker.{standing_in}
+use Rattle.st_control.specs.Control.{standing_in}
 use Rattle.st_player.proofs.SnapshotLemmas.{held_of}
 use Rattle.st_player.proofs.snapshot.first_snapshot.Goals as goal
 

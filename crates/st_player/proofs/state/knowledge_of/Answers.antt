@@ -2,7 +2,7 @@ use Rattle.std.proofs.Common.{sym, ap, ◌∙◌, length}
 use Rattle.st_net.specs.declared.message.Report.{Report}
 use Rattle.st_net.specs.Levels.{carries}
 use Rattle.st_event.specs.Moments.{commands}
-use Rattle.st_control.specs.Checker.{reply_of_send}
+use Rattle.st_control.specs.Control.{reply_of_send}
 use Rattle.st_player.proofs.StateLemmas.{sends_reply, is_sure, is_still, is_barred, is_on_its_way}
 use Rattle.st_player.proofs.state.knowledge_of.Goals as goal
 

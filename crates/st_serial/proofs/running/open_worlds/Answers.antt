@@ -13,7 +13,7 @@ loop-i-preserved c =
     let parts = slice_index_or c.args.groups.now i c.index-groups-i.result in
     let lines = slice_index_or c.args.wires.now i c.index-wires-i.result in
     let topo : c.in_ok-topo_of.field-0 ≡ group_of parts = c.in_ok-topo_of.ensures ∙ ap group_of c.index-groups-i.is in
-    let plan : c.in_ok-plan.plan ≡ lines = c.in_ok-plan.ensures ∙ c.as_slice.ensures ∙ c.index-wires-i.is in
+    let losses : c.in_ok-losses.losses ≡ lines = c.in_ok-losses.ensures ∙ c.as_slice.ensures ∙ c.index-wires-i.is in
     let world = c.in_ok-start.field-0 in
-    let here : state_of world ≡ opened parts lines = ap (λ (h : History). record { history = h; lines = world.lines }) c.in_ok-start.ensures.history ∙ rw (c.in_ok-start.ensures.lines, topo, plan) refl in
+    let here : state_of world ≡ opened parts lines = ap (λ (h : History). record { history = h; lines = world.lines }) c.in_ok-start.ensures.history ∙ rw (c.in_ok-start.ensures.lines, topo, losses) refl in
     opened_next c.args.groups.now c.args.wires.now i c.index-groups-i.result c.index-wires-i.result (states_of c.loop-i.sites.items) (states_of c.push.new.self.items) (state_of world) c.loop-i-test.true c.requires.each c.loop-i.invariant (states_push c.loop-i.sites.items c.push.new.self.items world c.in_ok-push.ensures.items) here

@@ -7,7 +7,7 @@ use Rattle.st_event.specs.declared.event.Proposal.{Proposal}
 use Rattle.st_event.specs.declared.reply.Verdict.TheVariants.{Accepted, Refused}
 use Rattle.st_net.specs.InOrder.{stamp_in}
 use Rattle.st_control.specs.Inside.{checker_of}
-use Rattle.st_control.specs.Checker.{Checker, Moves}
+use Rattle.st_control.specs.Control.{ControlView, Moves}
 use Rattle.st_control.specs.Verdict.{IsFirst, IsLatest, IsJudgedIn, decided_as}
 use Rattle.st_control.proofs.CheckLemmas.{refused_moves, accepted_moves}
 use Rattle.st_control.proofs.StampLaws.{whole}
@@ -28,7 +28,7 @@ invariant_of-self-in-Some c =
 
 pub returns-in-Some-clause-ok : goal.returns-in-Some-clause-ok
 returns-in-Some-clause-ok c =
-    subst (λ (k : Checker). (p : Proposal) → IsFirst k.store p → IsJudgedIn k p c.args.judged → Moves k (record (checker_of c.self.inside) { store = c.decide.new.self }) c.args.entry Check (decided_as k c.args.entry (Refused c.in-Some.cause))) c.self.view_is
+    subst (λ (k : ControlView). (p : Proposal) → IsFirst k.store p → IsJudgedIn k p c.args.judged → Moves k (record (checker_of c.self.inside) { store = c.decide.new.self }) c.args.entry Check (decided_as k c.args.entry (Refused c.in-Some.cause))) c.self.view_is
     (λ p first is. refused_moves (checker_of c.self.inside) c.decide.new.self p c.args.entry c.in-Some.cause c.args.judged first is c.in-Some.is c.in_ok-_version-in-Some.ensures.ok)
 
 pub invariant_of-self-in-None : goal.invariant_of-self-in-None
@@ -49,6 +49,6 @@ returns-clause-ok c =
     let stamps = take c.self.inside.stamps.len (c.stamp_all.new.stamps ++ drop (length c.stamp_all.new.stamps) c.self.inside.stamps.items) in
     let back : stamps ≡ c.stamp_all.new.stamps = whole c.self.inside.stamps.len c.stamp_all.new.stamps (drop (length c.stamp_all.new.stamps) c.self.inside.stamps.items) (sym (c.stamp_all.ensures.count ∙ c.as_mut_slice.ensures.len)) in
     let stamped = ap (stamp_in c.self.inside.topo) back ∙ subst (λ (old : List ℕ). stamp_in c.self.inside.topo c.stamp_all.new.stamps ≡ (λ (e : Entity). if is_in c.args.judged.changed e then c.args.entry else stamp_in c.self.inside.topo old e)) c.as_mut_slice.ensures.value c.stamp_all.ensures.stamps in
-    let latest = subst (λ (k : Checker). IsLatest k.store) (sym c.self.view_is) c.requires.latest in
-    subst (λ (k : Checker). (p : Proposal) → IsFirst k.store p → IsJudgedIn k p c.args.judged → Moves k (record (checker_of c.self.inside) { store = c.decide-in-None.new.self; stamps = stamps }) c.args.entry Check (decided_as k c.args.entry (Accepted c.in_ok-version-in-None.version))) c.self.view_is
+    let latest = subst (λ (k : ControlView). IsLatest k.store) (sym c.self.view_is) c.requires.latest in
+    subst (λ (k : ControlView). (p : Proposal) → IsFirst k.store p → IsJudgedIn k p c.args.judged → Moves k (record (checker_of c.self.inside) { store = c.decide-in-None.new.self; stamps = stamps }) c.args.entry Check (decided_as k c.args.entry (Accepted c.in_ok-version-in-None.version))) c.self.view_is
     (λ p first is. accepted_moves (checker_of c.self.inside) c.decide-in-None.new.self stamps p c.args.entry c.in_ok-version-in-None.version c.args.judged first is c.in-None.is latest c.in_ok-version-in-None.ensures.ok c.in_ok-version-in-None.ensures.version stamped)

@@ -15,4 +15,4 @@ returns-clause-ok c =
       | in-Hear w ↦ rw (w.self-is, w.reply-is, w.in-Hear.is) w.hear-reply.ensures.ok
       | in-Fail w ↦ rw (w.self-is, w.reply-is, w.in-Fail.is) (w.fail-reply.ensures.ok c.args.entry)
     ] in
-    rw c.twice.ensures.told answers
+    rw c.told_twice.ensures.told answers

@@ -1,7 +1,7 @@
 use Rattle.std.proofs.Common.{subst, sym}
 use Rattle.st_net.specs.Groups.{IsEntityOf}
 use Rattle.st_control.specs.declared.send.SendStep.{SendStep}
-use Rattle.st_control.specs.Checker.{Sends}
+use Rattle.st_control.specs.Control.{Sends}
 use Rattle.st_world.specs.Machine.{MachineView}
 use Rattle.st_world.proofs.MachineLaws.{send_answers, send_machine, settled_answers, blocked_answers}
 use Rattle.st_world.proofs.machine.Machine.send.Goals as goal

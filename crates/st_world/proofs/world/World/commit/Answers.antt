@@ -3,7 +3,7 @@ use Rattle.std.specs.Prelude.{reverse, ◌⊎◌}
 use Rattle.st_event.specs.declared.event.Event.TheVariants.{Check}
 use Rattle.st_event.specs.declared.reply.Reply.TheVariants.{Decided}
 use Rattle.st_event.specs.Proposals.{deciders}
-use Rattle.st_control.specs.Checker.{Checker}
+use Rattle.st_control.specs.Control.{ControlView}
 use Rattle.st_store.specs.Store.{IsWaiting, IsNeverGiven}
 use Rattle.st_world.specs.Commits.{MayCommit}
 use Rattle.st_world.specs.Machine.{Answers}
@@ -18,7 +18,7 @@ returns-then-len-ge-MAX_ENTRIES-clause-ok c =
     let items = c.self.inside.journal.items in
     let waits : IsWaiting c.store.result.now c.ticket.result ⊎ IsNeverGiven c.store.result.now c.ticket.result = search rules in
     let may : MayCommit (reverse items) c.ticket.result = rw c.ticket.ensures.ticket (subst (λ (w : WorldView). MayCommit w.history.past c.args.judged.now.ticket) (sym c.self.view_is) c.requires) in
-    let open_yet : length (deciders (reverse items)) < c.args.judged.now.ticket = subst (λ (t : ℕ). length (deciders (reverse items)) < t) c.ticket.ensures.ticket (still_open m items c.store.result.now c.ticket.result c.self.invariant (c.store.ensures.store ∙ ap (λ (k : Checker). k.store) c.control.ensures) may c.ticket.ensures.given waits) in
+    let open_yet : length (deciders (reverse items)) < c.args.judged.now.ticket = subst (λ (t : ℕ). length (deciders (reverse items)) < t) c.ticket.ensures.ticket (still_open m items c.store.result.now c.ticket.result c.self.invariant (c.store.ensures.store ∙ ap (λ (k : ControlView). k.store) c.control.ensures) may c.ticket.ensures.given waits) in
     rw (← c.self.view_is) (open_yet, is_full m items c.self.invariant (omega (arith, c.len.ensures)), refl, refl)
 
 pub invariant_of-self-2 : goal.invariant_of-self-2

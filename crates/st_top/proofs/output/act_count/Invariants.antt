@@ -1,6 +1,6 @@
 use Rattle.std.proofs.Common.{◌≡◌, length, take}
 use Rattle.std.specs.Prelude.{sum_by}
-use Rattle.st_top.proofs.output.command_count.Given as goal
+use Rattle.st_top.proofs.output.act_count.Given as goal
 
 -- the count of the applications so far
 abbrev pub invariant-loop-script : goal.invariant-loop-script

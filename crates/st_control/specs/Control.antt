@@ -33,7 +33,7 @@ use Rattle.st_control.specs.declared.control.Check.TheVariants.{Decided, Idle}
 
 -- the group, the book of its promises, and how many runs of a flow that counted; its proposals, target and kept reports; its locks; and a
 -- stamp for each entity, in the order of entities
-pub record Checker : Type 0 where
+pub record ControlView : Type 0 where
   pub group : Group
   pub book : BookOf
   pub flows_run : ℕ
@@ -42,15 +42,15 @@ pub record Checker : Type 0 where
   pub stamps : List ℕ
 
 -- the same with another count
-abbrev pub with_runs : Checker → ℕ → Checker
+abbrev pub with_runs : ControlView → ℕ → ControlView
 with_runs k n = record k { flows_run = n }
 
 -- nothing has changed but the count
-abbrev pub IsSameButRuns : Checker → Checker → Type 0
+abbrev pub IsSameButRuns : ControlView → ControlView → Type 0
 IsSameButRuns old new = new ≡ with_runs old new.flows_run
 
 -- how the group stands, by what the checker keeps
-abbrev pub standing_in : Checker → Standing
+abbrev pub standing_in : ControlView → Standing
 standing_in k = record {
   tickets = k.store.tickets;
   decided = k.store.decided;
@@ -63,7 +63,7 @@ standing_in k = record {
 }
 
 -- and the values at each version
-abbrev pub versions_in : Checker → ℕ → Entity → Var → ℕ
+abbrev pub versions_in : ControlView → ℕ → Entity → Var → ℕ
 versions_in k = value_at_version k.store.versions
 
 abbrev pub reply_of_put : Put → Reply
@@ -83,7 +83,7 @@ reply_of_release Released = released_reply
 reply_of_release (NotYours holder) = not_yours_reply holder
 
 -- the event gets the reply that is called for, as entry n, and moves the standing and the versions by it, whatever messages there are
-pub record Moves (old new : Checker) (n : ℕ) (event : Event) (answer : Reply) : Type 0 where
+pub record Moves (old new : ControlView) (n : ℕ) (event : Event) (answer : Reply) : Type 0 where
   pub reply : (w : Wires) → answer ≡ reply_in old.group (standing_in old) w n event
   pub standing : (w : Wires) → standing_in new ≡ standing_after old.group (standing_in old) w n event answer
   pub group : new.group ≡ old.group
@@ -100,23 +100,23 @@ reply_of_keep (Old kept) = old_reply kept
 
 -- what an entity is to be sent is what a Send of it calls for, whatever messages there are; and a command carries the entity's stamp and
 -- its target's values
-pub record Sends (k : Checker) (e : Entity) (step : SendStep) : Type 0 where
+pub record Sends (k : ControlView) (e : Entity) (step : SendStep) : Type 0 where
   pub reply : (w : Wires) (n : ℕ) → reply_of_send (length w.commands) step ≡ reply_in k.group (standing_in k) w n (Send e)
   pub command : (command : MadeCommand) → step ≡ Command command → command ≡ command_in k.group (standing_in k) e
 
 -- a report is heard as entry n
-pub record Hears (old new : Checker) (n : ℕ) (report : Report) (keep : Keep) : Type 0 where
+pub record Hears (old new : ControlView) (n : ℕ) (report : Report) (keep : Keep) : Type 0 where
   pub reply : (made : ℕ) → reply_of_keep keep ≡ hear_reply (standing_in old).observed made (Some report)
   pub standing : standing_in new ≡ hear_one old.group (standing_in old) n (Some report) (reply_of_keep keep)
   pub group : new.group ≡ old.group
   pub versions : versions_in new ≡ versions_in old
 
-abbrev pub OldChangesNothing : Keep → Checker → Checker → Type 0
+abbrev pub OldChangesNothing : Keep → ControlView → ControlView → Type 0
 OldChangesNothing Taken old new = Unit {0}
 OldChangesNothing (Old kept) old new = new ≡ old
 
 -- the checker stands as an empty journal leaves its group, and no run was counted
-pub record IsStart (g : Group) (k : Checker) : Type 0 where
+pub record IsStart (g : Group) (k : ControlView) : Type 0 where
   pub group : k.group ≡ g
   pub runs : k.flows_run ≡ 0
   pub standing : standing_in k ≡ standing_of g []
