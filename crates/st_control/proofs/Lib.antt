@@ -1,5 +1,6 @@
 pub mod EntityLoops
 pub mod Beyond
+pub mod Ups
 pub mod StampLaws
 pub mod StoreLaws
 pub mod CheckLemmas

@@ -383,7 +383,11 @@ impl Control {
 
     /// Decides the oldest proposal that waits, as entry number `entry`, by how the checker stands now. What was judged away from it spares
     /// flows, and changes no verdict. At `Err` nothing has changed but the count of runs.
-    fn decide_oldest(&mut self, entry: u32, judged: Option<&Judged>) -> Result<Twice<Receipt>, AllocError>
+    fn decide_oldest(
+        &mut self,
+        entry: u32,
+        judged: Option<&Judged>,
+    ) -> Result<Twice<Receipt>, AllocError>
         requires { 0 < length self.old.store.pending }
         ensures ok { IfOk result (λ receipts. Moves self.old self.new entry check_event (decided_reply receipts.told)) }
         ensures ticket { IfOk result (λ receipts. receipts.told.ticket ≡ length self.old.store.decided + 1) }
@@ -478,7 +482,11 @@ impl Control {
 
     /// Decides the judged proposal, which is the oldest that waits, as entry number `entry`, and gives the receipt twice, as `check_twice`
     /// does. The verdict is that of how the checker stands now, whatever was judged. At `Err` nothing has changed but the count of runs.
-    pub fn commit_twice(&mut self, entry: u32, judged: &Judged) -> Result<Twice<Receipt>, AllocError>
+    pub fn commit_twice(
+        &mut self,
+        entry: u32,
+        judged: &Judged,
+    ) -> Result<Twice<Receipt>, AllocError>
         requires oldest { judged.now.ticket ≡ length self.old.store.decided + 1 }
         requires given { judged.now.ticket ≤ self.old.store.tickets }
         ensures ok { IfOk result (λ receipts. Moves self.old self.new entry check_event (decided_reply receipts.told)) }

@@ -3,10 +3,10 @@
 #![tactic(auto)]
 
 pub mod adapted;
+mod failing;
 mod held;
 pub mod memory;
 pub mod outside;
-mod failing;
 pub mod reading;
 pub mod sure;
 mod unread;

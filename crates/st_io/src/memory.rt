@@ -4,9 +4,9 @@ ghost use Rattle.std.specs.Prelude.{◌≡◌, ◌↔◌, ◌+◌, ◌<◌, ◌�
 ghost use Rattle.st_io.specs.Outside.{Gives, Takes, HasReadCause, HasWriteCause};
 ghost use Rattle.st_io.specs.Memory.{CountsCall, FailsNext, faults_of, taken_count};
 
+use crate::failing::FaultPlan;
 use crate::held::Held;
 use crate::outside::{ReadStep, Sink, Source, WriteStep};
-use crate::failing::FaultPlan;
 use crate::unread::Unread;
 use std::alloc::{AllocError, Global};
 use std::marker::Model;

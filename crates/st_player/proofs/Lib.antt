@@ -17,7 +17,6 @@ pub mod StateLemmas
 pub mod StateParts
 pub mod ToldCuts
 pub mod ToldEntries
-pub mod Ups
 pub mod WeighLemmas
 mod WorkedCalls
 mod WorkedCuts

@@ -8,7 +8,7 @@ ghost use Rattle.st_player.specs.Snapshots.{states_of as states_of_lem};
 ghost use Rattle.st_player.specs.Steps.{IsHeld, IsSnapshot};
 
 use crate::playback::Playback;
-use crate::state::{State, is_up};
+use crate::state::State;
 use st_control::Control;
 use st_net::{Entity, EntitySet};
 use st_promise::is_same_set;
@@ -53,27 +53,6 @@ fn states_of(alloc: Global, playback: &Playback) -> Result<Vec<State>, AllocErro
         states.push(playback.state(topo.entity_at(place)))?;
     }
     Ok(states)
-}
-
-/// The entities that carry traffic in the network.
-fn network_set(alloc: Global, world: &World) -> Result<EntitySet, AllocError>
-    ensures of { IfOk result (MarksOf world.now.history.group) }
-    ensures up { IfOk result (λ set. is_in set ≡ actual world.now.history.group world.now.history.past) }
-{
-    world.is_legal();
-    let topo = world.control().topo();
-    let mut set = EntitySet::none(alloc, topo)?;
-    'devices: for i in 0..topo.device_count() {
-        if is_up(world, Entity::Device(i)) {
-            set.put(Entity::Device(i));
-        }
-    }
-    'links: for i in 0..topo.link_count() {
-        if is_up(world, Entity::Link(i)) {
-            set.put(Entity::Link(i));
-        }
-    }
-    Ok(set)
 }
 
 /// Judges each promise in a set.
@@ -134,7 +113,7 @@ pub(crate) fn first_snapshot(alloc: Global, playback: &Playback) -> Result<Snaps
 {
     let world = playback.world();
     let control = world.control();
-    let network = judge(control, network_set(alloc, world)?)?;
+    let network = judge(control, world.up_set()?)?;
     let sure = judge(control, control.sure()?)?;
     snapshot_with(alloc, playback, network, sure)
 }
@@ -150,7 +129,7 @@ pub(crate) fn next_snapshot(
 {
     let world = playback.world();
     let control = world.control();
-    let network = judge_again(alloc, control, &before.network, network_set(alloc, world)?)?;
+    let network = judge_again(alloc, control, &before.network, world.up_set()?)?;
     let sure = judge_again(alloc, control, &before.sure, control.sure()?)?;
     snapshot_with(alloc, playback, network, sure)
 }

@@ -189,14 +189,6 @@ fn knowledge_of(world: &World, entity: Entity) -> Knowledge
     }
 }
 
-/// Whether an entity carries traffic in the network.
-pub(crate) fn is_up(world: &World, entity: Entity) -> bool
-    requires { IsEntityOf world.now.history.group entity }
-    ensures { result ≡ actual world.now.history.group world.now.history.past entity }
-{
-    world.agent(entity).up()
-}
-
 /// Of a link, whether it is up with both its ends.
 fn open_of(world: &World, entity: Entity) -> Option<bool>
     requires { IsEntityOf world.now.history.group entity }
@@ -207,9 +199,9 @@ fn open_of(world: &World, entity: Entity) -> Option<bool>
         Entity::Link(i) => {
             world.is_legal();
             let (a, b) = world.control().topo().ends(i);
-            let is_open = is_up(world, entity)
-                && is_up(world, Entity::Device(a))
-                && is_up(world, Entity::Device(b));
+            let is_open = world.is_up(entity)
+                && world.is_up(Entity::Device(a))
+                && world.is_up(Entity::Device(b));
             Some(is_open)
         }
     }

@@ -5,5 +5,4 @@ pub mod Counting
 pub mod DecidedTickets
 pub mod TextLines
 pub mod JsonTexts
-pub mod Ups
 pub mod SummedUp

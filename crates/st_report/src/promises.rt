@@ -11,7 +11,7 @@ ghost use Rattle.st_report.specs.Inside.{lost_text};
 ghost use Rattle.st_report.specs.Lines.{lost_words};
 
 use crate::lines::Lines;
-use crate::up::{up_at_opening, up_now};
+use crate::up::up_at_opening;
 use st_entry::entity_name;
 use st_net::{Entity, GroupTopo};
 use st_text::{Text, Word, print_words};
@@ -32,7 +32,7 @@ pub(crate) fn judge_promises(alloc: Global, world: &World) -> Result<Held, Alloc
 {
     let control = world.control();
     let opening = up_at_opening(alloc, control.topo())?;
-    let now = up_now(alloc, world)?;
+    let now = world.up_set()?;
     Ok(Held {
         at_start: control.held_in(&opening)?,
         at_end: control.held_in(&now)?,

@@ -1,4 +1,4 @@
-//! Which entities of a group carry traffic in the simulated network, at the opening and now.
+//! Which entities of a group carry traffic in the simulated network at its opening.
 
 ghost use Rattle.std.specs.Prelude.{◌≡◌, [], IfOk};
 ghost use Rattle.st_net.specs.Groups.{IsEntityOf};
@@ -6,7 +6,6 @@ ghost use Rattle.st_net.specs.Sets.{MarksOf, is_in};
 ghost use Rattle.st_event.specs.Observed.{actual};
 
 use st_net::{Entity, EntitySet, GroupTopo, carries, level_of};
-use st_world::World;
 use std::alloc::{AllocError, Global};
 
 /// Whether an entity carries traffic at the opening of its group.
@@ -35,35 +34,6 @@ pub(crate) fn up_at_opening(alloc: Global, topo: &GroupTopo) -> Result<EntitySet
     }
     'links: for i in 0..topo.link_count() {
         if is_up_at_opening(topo, Entity::Link(i)) {
-            set.put(Entity::Link(i));
-        }
-    }
-    Ok(set)
-}
-
-/// Whether an entity of a group carries traffic now, whether that was heard or not.
-fn is_up_now(world: &World, entity: Entity) -> bool
-    requires { IsEntityOf world.now.history.group entity }
-    ensures { result ≡ actual world.now.history.group world.now.history.past entity }
-{
-    world.agent(entity).up()
-}
-
-/// The entities of a group that carry traffic now.
-pub(crate) fn up_now(alloc: Global, world: &World) -> Result<EntitySet, AllocError>
-    ensures of { IfOk result (MarksOf world.now.history.group) }
-    ensures up { IfOk result (λ set. is_in set ≡ actual world.now.history.group world.now.history.past) }
-{
-    world.is_legal();
-    let topo = world.control().topo();
-    let mut set = EntitySet::none(alloc, topo)?;
-    'devices: for i in 0..topo.device_count() {
-        if is_up_now(world, Entity::Device(i)) {
-            set.put(Entity::Device(i));
-        }
-    }
-    'links: for i in 0..topo.link_count() {
-        if is_up_now(world, Entity::Link(i)) {
             set.put(Entity::Link(i));
         }
     }

@@ -20,6 +20,7 @@ pub mod acts;
 pub mod commits;
 mod fit;
 pub mod rounds;
+pub mod ups;
 
 use crate::machine::Machine;
 use st_agent::Agent;

@@ -11,7 +11,7 @@ pub snapshot_with-requires-clause-network : goal.snapshot_with-requires-clause-n
 snapshot_with-requires-clause-network c =
     let same = c.world-world.ensures in
     let group = c.control-control.ensures.group ∙ ap (λ (h : History). h.group) same in
-    held_of _ _ _ _ c.in_ok-network.network group (c.in_ok-network_set.ensures.up ∙ ap (λ (h : History). actual h.group h.past) same) c.in_ok-network.ensures
+    held_of _ _ _ _ c.in_ok-network.network group (c.in_ok-up_set.ensures.up ∙ ap (λ (h : History). actual h.group h.past) same) c.in_ok-network.ensures
 
 pub snapshot_with-requires-clause-sure : goal.snapshot_with-requires-clause-sure
 snapshot_with-requires-clause-sure c =

@@ -2,7 +2,7 @@ use Rattle.std.proofs.Common.{[], refl, sym, ◌∙◌, arith}
 use Rattle.st_net.specs.Sets.{is_in}
 use Rattle.st_event.specs.Observed.{actual}
 use Rattle.st_control.proofs.EntityLoops.{devices_begin, marks_kept, put_device, skip_device, put_link, skip_link}
-use Rattle.st_report.proofs.Ups.{up_is}
+use Rattle.st_control.proofs.Ups.{up_is}
 use Rattle.st_report.proofs.up.up_at_opening.Goals as goal
 use Rattle.st_report.proofs.up.up_at_opening.Goals.{then-is_up_at_opening, else-is_up_at_opening, then-is_up_at_opening-2, else-is_up_at_opening-2}
 
