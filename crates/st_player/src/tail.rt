@@ -253,6 +253,10 @@ function drawLegend() {
   sign("changed, not told yet", "?", "untold"); sign("high or low lock", "H", "lock");
   row("up", "sure", "this entry", "on");
   row("up", "sure", "would change", "asked");
+  const line = (names, text) => { const s = html($("legend"), "span"); make(make(s, "svg", { style: "width:26px" }), "path", { class: "link " + names, d: "M1 8H25", "stroke-width": 1.6 }); s.append(text); };
+  html($("legend"), "b", {}, "Link: thicker with its capacity");
+  line("up sure", "up with both ends"); line("up sure shut", "an end is not up"); line("failed sure shut", "failed"); line("off settled shut", "off"); line("up waiting", "target not reached, or blocked");
+  line("left", "left of the cut"); line("out", "not counted on");
 }
 
 // ---- words
@@ -335,7 +339,7 @@ function showNow() {
   const panel = $("panel-now"), list = [];
   panel.replaceChildren();
   group.names.forEach((name, e) => { const s = valueAt(group.entities[e], at); if (s.is !== "up" || s.known !== "sure" || s.untold || s.low !== null || s.high !== null) list.push([e, s]); });
-  html(panel, "p", { className: "hint" }, list.length ? `Not simply up and sure (${list.length} of ${group.names.length}):` : `All ${group.names.length} devices and links are up and sure.`);
+  html(panel, "p", { className: "hint" }, list.length ? `Not simply up and sure (${list.length} of ${group.names.length}):` : group.names.length === 1 ? `${group.names[0]} is up and sure.` : `All ${group.names.length} devices and links are up and sure.`);
   const ul = html(panel, "ul");
   for (const [e, s] of list.slice(0, 60)) {
     const item = button(html(ul, "li"), "", () => choose(e));
@@ -372,20 +376,24 @@ function showReceipts() {
   const lists = $("lists"), room = lists.getBoundingClientRect(), box = (near || listed.items[0].item).getBoundingClientRect();
   lists.scrollTop += Math.min(0, box.top - room.top) + Math.max(0, box.bottom - room.bottom);   // the list alone, not the window
 }
+let promised = { group: null, key: "" };                 // what the list shows: it is made again only for another
 function showPromises() {
   const panel = $("panel-promises"), yes = v => v ? "yes" : "no";
-  panel.replaceChildren();
   const rows = group.promises.map((p, i) => ({ i, p, opened: p.start === 1, network: valueAt(group.network[i], at), sure: valueAt(group.sure[i], at) }));
   const bad = rows.filter(r => !r.network || !r.sure), good = rows.filter(r => r.network && r.sure);
+  const key = bad.map(r => `${r.i}${yes(r.network)}${yes(r.sure)}`).join();
+  if (promised.group === group && promised.key === key) return;
+  promised = { group, key };
+  panel.replaceChildren();
   html(panel, "p", { className: "hint" }, `Now: in the network. Checker: in what it counts on. ${bad.length ? `${bad.length} of ${rows.length} don't hold in both and stand first.` : "All hold in both."}`);
   const table = html(panel, "table"), head = html(table, "tr");
   for (const t of ["promise", "need", "start", "now", "checker"]) html(head, "th", {}, t);
-  for (const r of [...bad, ...good].slice(0, 300)) {
+  for (const r of [...bad, ...good].slice(0, 150)) {
     const tr = html(table, "tr", { className: r.network && r.sure ? "kept" : "" });
     html(tr, "td", {}, pairText(r.i)); html(tr, "td", {}, `${r.p.need} (${r.p.percent}%)`);
     for (const v of [r.opened, r.network, r.sure]) html(tr, "td", { className: v ? "yes" : "no" }, yes(v));
   }
-  if (rows.length > 300) html(panel, "p", { className: "hint" }, `${rows.length - 300} more${bad.length > 300 ? "" : " that hold"} are not listed.`);
+  if (rows.length > 150) html(panel, "p", { className: "hint" }, `${rows.length - 150} more${bad.length > 150 ? "" : " that hold"} are not listed.`);
 }
 function showEntity() {
   const panel = $("panel-entity");
@@ -406,6 +414,7 @@ function showEntity() {
   const more = (word, a, b, c, differs) => { const tr = html(table, "tr"); [word, a, b, c].forEach((t, i) => html(tr, "td", { className: i === differs ? "differs" : "" }, t)); };
   more("level", "", s.level, s.works, s.level === s.works ? -1 : 3);
   more("stamp, fence", s.stamp, s.fence, "", s.stamp === s.fence ? -1 : 2);
+  html(panel, "p", { className: "hint" }, "Stamp: the entry that changed or renewed the target last. Fence: the stamp of the newest command that it had begun when its known report was made.");
   const times = group.touched[chosen], near = times.findIndex(n => n > at), mid = near < 0 ? times.length : near;
   html(panel, "p", { className: "hint", style: "margin-top:8px" }, times.length ? `In ${many(times.length, "entry").replace("entrys", "entries")}:` : "No entry touches it.");
   const ul = html(panel, "ul");
