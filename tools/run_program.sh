@@ -1,14 +1,15 @@
 #!/usr/bin/env bash
 # Runs a program of this repository: tools/run_program.sh LABEL CRATE WORDS..
 # The first run proves and builds it, several crates at a time, and tells on standard error how far it is. A later run starts at once.
-# It works in a copy of the program's crates, crates/CRATE/out/first_run, where what was proved stays for the next change.
+# It works in a copy of the program's crates under ~/.cache/statesman, a folder for each checkout, where what was proved stays for the next
+# change: some gigabytes, which may be removed at any time. (Under the checkout `rt ci` would take the copy's crates.txt for a second one.)
 set -euo pipefail
 label=$1 crate=$2
 shift 2
 top=$(cd "$(dirname "${BASH_SOURCE[0]}")/.." && pwd)
 out=$top/crates/$crate/out
 program=$out/$crate
-room=$out/first_run
+room=${XDG_CACHE_HOME:-$HOME/.cache}/statesman/$(printf '%s' "$top" | cksum | cut -d ' ' -f 1)-$crate
 log=$out/first_run.log
 
 say() { printf '%s: %s\n' "$label" "$*" >&2; }
@@ -34,7 +35,7 @@ lane_count() {
 # The copy of the crates as they are now.
 fill_room() {
     local name part
-    mkdir -p "$room/crates"
+    mkdir -p "$room/crates" "$out"
     printf '%s\n' "${lines[@]}" >"$room/crates.txt"
     cp "$top/HANDLES" "$room/HANDLES"
     for name in "${names[@]}"; do
