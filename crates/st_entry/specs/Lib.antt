@@ -1,5 +1,6 @@
 pub mod Keywords
 pub mod Words
+pub mod Plain
 pub mod Causes
 pub mod Entries
 pub mod Saws

@@ -1,5 +1,5 @@
 -- The words of what a command that reads saw.
-use Rattle.std.specs.Prelude.{ℕ, List, [], ◌∷◌, codes, decimal}
+use Rattle.std.specs.Prelude.{[], ◌∷◌, codes, decimal}
 use Rattle.st_event.specs.declared.act.LogSaw.{LogSaw}
 use Rattle.st_event.specs.declared.act.LogSaw.TheVariants.{Seen, At, NoVersion}
 use Rattle.st_entry.specs.Words.{Words}
