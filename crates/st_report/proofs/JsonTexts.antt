@@ -1,12 +1,10 @@
 -- What `serde_json` prints of what was gathered is the report's line.
-use Rattle.std.proofs.Common.{◌≡◌, ◌∙◌, ℕ, zero, suc, ◌+◌, ◌<◌, true, false, List, [], ◌∷◌, ◌++◌, length, get_or, map, take, drop, ap, ap₂, sym, refl, arith, append_assoc, codes}
+use Rattle.std.proofs.Common.{◌≡◌, ◌∙◌, ℕ, ◌+◌, ◌<◌, true, false, List, [], ◌∷◌, ◌++◌, length, get_or, map, take, drop, ap, ap₂, sym, refl, arith, append_assoc, codes}
 use Rattle.std.specs.Prelude.{decimal}
 use Rattle.std.specs.List.{list_all}
-use Rattle.std.specs.Str.{IsAscii, IsUtf8}
 use Rattle.std.proofs.lemmas.Bool.Decides.{nat_tests}
 use Rattle.std.proofs.lemmas.Fmt.{decimal_digit}
 use Rattle.std.proofs.lemmas.List.{map_more, take_more}
-use Rattle.std.proofs.lemmas.Str.{IsUtf8-from_ascii}
 use Rattle.json.specs.Print.{escape, escape_byte, quoted}
 use Rattle.serde_json.specs.Data.{Data, Items, array, item, no_items, string}
 use Rattle.serde_json.specs.View.{view, items_view}
@@ -23,8 +21,8 @@ use Rattle.st_report.specs.Inside.{summary_of, summaries_of}
 use Rattle.st_report.specs.Json.{in_quotes, after_commas, in_brackets, list_of_texts, list_of_lines, joined, group_json, report_json_of}
 use Rattle.st_report.specs.JsonInside.{without_space, strings, lines_data, group_data, groups_data, report_data, is_plain_summary}
 use Rattle.st_report.specs.Lines.{lock_words, receipt_words, target_words, unsettled_words, lost_words, read_words}
-use Rattle.st_report.specs.Plain.{is_plain_byte, is_plain}
-use Rattle.st_report.proofs.Plain.{rest_plain}
+use Rattle.st_entry.specs.Plain.{is_plain_byte, is_plain}
+use Rattle.st_entry.proofs.Plain.{rest_plain}
 use Rattle.st_report.proofs.TextLines.{all_unspaced}
 
 -- a plain text has no escapes
@@ -198,18 +196,6 @@ report_printed groups apps logs summaries reads text gathered read plain plain_r
     let reads_plain : list_all is_plain (map spaced (read_words groups apps logs)) ≡ true = ap (list_all is_plain) (sym read) ∙ plain_reads in
     let whole : text ≡ compact_text (report_data (summaries_of apps groups) (map spaced (read_words groups apps logs))) = is ∙ ap₂ (λ s r. compact_text (report_data s r)) gathered read in
     ap (λ t. t ++ 10 ∷ []) whole ∙ printed_in_line (summaries_of apps groups) (map spaced (read_words groups apps logs)) ∙ ap₂ line_around (groups_printed apps groups groups_plain) (lines_printed (read_words groups apps logs) reads_plain) ∙ text_in_line groups apps logs
-
--- plain bytes are text
-plain_small : (b : ℕ) → is_plain_byte b ≡ true → b < 128
-plain_small b is = grind (arith, nat_tests)
-
-plain_ascii : (text : List ℕ) → is_plain text ≡ true → IsAscii text
-plain_ascii [] plain i = omega arith
-plain_ascii (b ∷ bs) plain zero = plain_small b (both (is_plain_byte b) (is_plain bs) plain).0
-plain_ascii (b ∷ bs) plain (suc i) = plain_ascii bs (both (is_plain_byte b) (is_plain bs) plain).1 i
-
-pub plain_utf8 : (text : List ℕ) → is_plain text ≡ true → IsUtf8 text
-plain_utf8 text plain = IsUtf8-from_ascii text (plain_ascii text plain)
 
 -- what its texts are, one by one
 pub six_plain : (s : Summary) → is_plain s.name ≡ true → list_all is_plain s.locks ≡ true → list_all is_plain s.lost ≡ true → list_all is_plain s.receipts ≡ true → list_all is_plain s.targets ≡ true → list_all is_plain s.unsettled ≡ true → is_plain_summary s ≡ true

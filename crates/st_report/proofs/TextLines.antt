@@ -8,6 +8,7 @@ use Rattle.st_text.proofs.PrintLemmas.{line_bytes}
 use Rattle.st_event.specs.declared.act.Log.{Log}
 use Rattle.st_event.specs.History.{History}
 use Rattle.st_entry.specs.Words.{Words}
+use Rattle.st_entry.proofs.Lines.{unspaced}
 use Rattle.st_report.specs.Inside.{summary_of, summaries_of, head_text, whole_lines, lines_behind, wire_text, promise_text, summary_text, whole_text}
 use Rattle.st_report.specs.Lines.{lock_words, receipt_words, target_words, unsettled_words, lost_words, read_words}
 use Rattle.st_report.specs.Text.{headed, head_lines, wire_words, promise_words, group_lines, report_text_of}
@@ -16,12 +17,7 @@ use Rattle.st_report.specs.Text.{headed, head_lines, wire_words, promise_words, 
 text_both : (xs ys : List Words) → text_of (xs ++ ys) ≡ text_of xs ++ text_of ys
 text_both xs ys = ap (flat_map ended) (map-append line_text xs ys) ∙ flat_map-append ended (map line_text xs) (map line_text ys)
 
--- words with a space between them: each behind a space, without the first
-pub unspaced : (words : Words) → drop 1 (spaced words) ≡ line_text words
-unspaced [] = refl
-unspaced (w ∷ []) = append-nil w
-unspaced (w ∷ v ∷ words) = ap (λ t. w ++ 32 ∷ t) (unspaced (v ∷ words))
-
+-- lines with a space between their words: each word behind a space, without the first
 pub all_unspaced : (lines : List Words) → map (drop 1) (map spaced lines) ≡ map line_text lines
 all_unspaced [] = refl
 all_unspaced (words ∷ lines) = ap (λ t. t ∷ map (drop 1) (map spaced lines)) (unspaced words) ∙ ap (λ t. line_text words ∷ t) (all_unspaced lines)

@@ -3,6 +3,5 @@ pub mod Counts
 pub mod Text
 pub mod Json
 pub mod Sums
-pub mod Plain
 pub mod Inside
 pub mod JsonInside

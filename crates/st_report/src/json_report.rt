@@ -5,7 +5,7 @@ ghost use Rattle.std.specs.List.{list_all};
 ghost use Rattle.serde_json.specs.Data.{array, string};
 ghost use Rattle.serde_json.specs.View.{view, members_view};
 ghost use Rattle.serde_json.specs.Written.{compact_text};
-ghost use Rattle.st_report.specs.Plain.{is_plain};
+ghost use Rattle.st_entry.specs.Plain.{is_plain};
 ghost use Rattle.st_report.specs.Json.{report_json_of};
 ghost use Rattle.st_report.specs.JsonInside.{is_plain_summary as is_plain_summary_lem, group_data, groups_data, lines_data, report_data, wire_data, with_back, with_front, with_middle};
 ghost use Rattle.st_report.specs.Lines.{histories};

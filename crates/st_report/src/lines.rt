@@ -2,7 +2,7 @@
 
 ghost use Rattle.std.specs.Prelude.{◌≡◌, ◌++◌, ◌∷◌, [], OnOk, drop, true};
 ghost use Rattle.std.specs.List.{list_all};
-ghost use Rattle.st_report.specs.Plain.{is_plain};
+ghost use Rattle.st_entry.specs.Plain.{is_plain};
 
 use st_text::Text;
 use std::alloc::{AllocError, Global};
@@ -17,7 +17,7 @@ pub(crate) struct Lines {
 impl Model for Lines {
     ghost use Rattle.std.specs.Prelude.{◌≡◌, ℕ, List, true};
     ghost use Rattle.std.specs.List.{list_all};
-    ghost use Rattle.st_report.specs.Plain.{is_plain};
+    ghost use Rattle.st_entry.specs.Plain.{is_plain};
 
     ghost Value = { List (List ℕ) };
 

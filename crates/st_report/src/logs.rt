@@ -3,7 +3,7 @@
 ghost use Rattle.std.specs.Prelude.{◌≡◌, ◌++◌, ◌∷◌, [], IfOk, OnOk, map, true};
 ghost use Rattle.st_text.specs.Words.{spaced};
 ghost use Rattle.st_net.specs.Groups.{are_names as are_names_lem, name_of};
-ghost use Rattle.st_report.specs.Plain.{is_plain};
+ghost use Rattle.st_entry.specs.Plain.{is_plain};
 ghost use Rattle.st_report.specs.Lines.{group_at, histories, read_words, seen_words};
 
 use crate::lines::Lines;

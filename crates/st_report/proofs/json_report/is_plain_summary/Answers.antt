@@ -1,7 +1,7 @@
 use Rattle.std.proofs.Common.{◌∙◌, ap, sym}
 use Rattle.std.specs.List.{list_all}
-use Rattle.st_report.specs.Plain.{is_plain}
-use Rattle.st_report.proofs.Plain.{name_plain}
+use Rattle.st_entry.specs.Plain.{is_plain}
+use Rattle.st_entry.proofs.Plain.{name_plain}
 use Rattle.st_report.proofs.JsonTexts.{six_plain}
 use Rattle.st_report.proofs.json_report.is_plain_summary.Goals as goal
 

@@ -3,10 +3,10 @@ use Rattle.std.proofs.lemmas.List.{take_all}
 use Rattle.serde_json.proofs.Views.{view-Array}
 use Rattle.serde_json.specs.Data.{array, string}
 use Rattle.st_report.specs.JsonInside.{strings, without_space}
-use Rattle.st_report.specs.Plain.{is_plain}
+use Rattle.st_entry.specs.Plain.{is_plain}
 use Rattle.st_report.proofs.Adding.{all_at}
 use Rattle.st_report.proofs.JsonTexts.{lines_step}
-use Rattle.st_report.proofs.Plain.{rest_plain}
+use Rattle.st_entry.proofs.Plain.{rest_plain}
 use Rattle.st_report.proofs.json_report.lines_value.Goals as goal
 
 pub text_value-requires : goal.text_value-requires

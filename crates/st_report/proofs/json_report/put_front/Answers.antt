@@ -1,4 +1,4 @@
-use Rattle.st_report.proofs.Plain.{name_plain}
+use Rattle.st_entry.proofs.Plain.{name_plain}
 use Rattle.st_report.proofs.json_report.put_front.Goals as goal
 
 pub text_value-requires : goal.text_value-requires

@@ -1,4 +1,4 @@
-use Rattle.st_report.proofs.JsonTexts.{plain_utf8}
+use Rattle.st_entry.proofs.Plain.{plain_utf8}
 use Rattle.st_report.proofs.json_report.text_value.Goals as goal
 
 pub unreachable-requires : goal.unreachable-requires

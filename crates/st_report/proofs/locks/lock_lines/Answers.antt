@@ -3,7 +3,7 @@ use Rattle.std.specs.Prelude.{flat_map}
 use Rattle.std.proofs.lemmas.List.{append-nil, take_all}
 use Rattle.st_text.specs.Words.{spaced}
 use Rattle.st_entry.specs.Entries.{event_words, reply_words}
-use Rattle.st_report.specs.Plain.{is_plain}
+use Rattle.st_entry.specs.Plain.{is_plain}
 use Rattle.st_report.proofs.Adding.{flat_next}
 use Rattle.st_report.proofs.Gathered.{lock_texts, locks_are}
 use Rattle.st_report.proofs.Plain.{lock_plain}
@@ -17,7 +17,7 @@ pub add-requires : goal.add-requires
 add-requires c =
     let event = c.entry-item.result.event in
     let reply = c.entry-item.result.reply in
-    ap is_plain c.in_ok-entry_text.ensures ∙ lock_plain c.args.topo.now c.args.apps.now event reply (sym c.is_of_lock.ensures ∙ c.if-is_of_lock.true) c.is_sound.ensures c.requires
+    ap is_plain c.in_ok-entry_text.ensures ∙ lock_plain c.args.topo.now c.args.apps.now event reply c.is_sound.ensures c.requires
 
 pub loop-entry-preserved : goal.loop-entry-preserved
 loop-entry-preserved c =

@@ -5,7 +5,7 @@ use Rattle.st_token.specs.Words.{var_word}
 use Rattle.st_entry.proofs.Lines.{spaced_both}
 use Rattle.st_entry.specs.Saws.{saw_words}
 use Rattle.st_entry.specs.Words.{Words, app_word}
-use Rattle.st_report.specs.Plain.{is_plain}
+use Rattle.st_entry.specs.Plain.{is_plain}
 use Rattle.st_report.proofs.Plain.{seen_plain}
 use Rattle.st_report.proofs.logs.add_seen.Goals as goal
 

@@ -1,6 +1,6 @@
 use Rattle.std.proofs.Common.{◌∙◌, ap}
-use Rattle.st_report.specs.Plain.{is_plain}
-use Rattle.st_report.proofs.Plain.{entity_plain}
+use Rattle.st_entry.specs.Plain.{is_plain}
+use Rattle.st_entry.proofs.Plain.{entity_plain}
 use Rattle.st_report.proofs.logs.name_in.Goals as goal
 
 pub returns-in-Some-clause-plain : goal.returns-in-Some-clause-plain

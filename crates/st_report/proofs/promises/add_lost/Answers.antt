@@ -1,6 +1,6 @@
 use Rattle.std.proofs.Common.{◌≡◌, ◌∙◌, ap, refl}
 use Rattle.st_report.specs.Inside.{lost_text}
-use Rattle.st_report.specs.Plain.{is_plain}
+use Rattle.st_entry.specs.Plain.{is_plain}
 use Rattle.st_report.proofs.Plain.{lost_plain}
 use Rattle.st_report.proofs.promises.add_lost.Goals as goal
 

@@ -5,7 +5,7 @@ use Rattle.std.proofs.lemmas.Option.{slice_get_past, slice_get_read}
 use Rattle.st_text.proofs.PrintLemmas.{ok_by}
 use Rattle.st_net.specs.declared.entity.AppId.{AppId}
 use Rattle.st_report.specs.Inside.{texts_where}
-use Rattle.st_report.specs.Plain.{is_plain}
+use Rattle.st_entry.specs.Plain.{is_plain}
 use Rattle.st_report.proofs.Plain.{receipt_plain}
 use Rattle.st_report.proofs.receipts.add_decided.Goals as goal
 
