@@ -1,6 +1,8 @@
-//! Documents with their journals: read, and gone through again.
+//! Documents with their journals: read, and gone through again; and how a call on them ends.
 #![tactic(auto)]
 
 mod replaying;
+mod status;
 
 pub use replaying::{Again, app_names, journals_read, replay_all, topos_of};
+pub use status::{Status, status_line};
