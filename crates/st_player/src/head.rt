@@ -127,7 +127,7 @@ dialog td { padding: 3px 10px 3px 0; } dialog td + td { white-space: normal; } k
   html, body { height: auto; } body { display: block; background: none; font-size: 11px; }
   header > button, header nav button:not([aria-selected=true]), .controls, #slide, aside nav, #panel-entity, #panel-promises .kept { display: none !important; }
   aside { display: block; }
-  #picture { height: 92mm; } footer { break-inside: avoid; }
+  #picture { height: 110mm; } #room { overflow: visible; } #net { min-height: 0 !important; } footer { break-inside: avoid; }
   #panel-promises:not(:has(tr:not(.kept) td)) { display: none !important; } aside { border: 0; } #said, #lists { max-height: none; overflow: visible; min-height: 0; }
   #lists > div, #lists > div[hidden] { display: block; } #lists { columns: 3; } #panel-entity { display: none !important; }
   * { print-color-adjust: exact; -webkit-print-color-adjust: exact; }
