@@ -21,8 +21,8 @@ use Rattle.st_journal.specs.JournalReading.{AreJournalsOf, journals_in}
 use Rattle.st_journal.proofs.ReplayLemmas.{wrong_is_illegal}
 use Rattle.st_words.specs.declared.job.FatTree.{FatTree}
 use Rattle.st_words.specs.declared.job.Form.{Form}
-use Rattle.st_top.specs.declared.answer.Status.{Status}
-use Rattle.st_top.specs.declared.answer.Status.TheVariants.{Ok, Usage, ReadFault, TooLong, BadInput, JournalFull, Illegal, WriteFault, OutOfMemory}
+use Rattle.st_replay.specs.declared.status.Status.{Status}
+use Rattle.st_replay.specs.declared.status.Status.TheVariants.{Ok, Usage, ReadFault, TooLong, BadInput, JournalFull, Illegal, WriteFault, OutOfMemory}
 use Rattle.st_top.specs.declared.answer.Outcome.{Outcome}
 use Rattle.st_top.specs.declared.ending.Ending.{Ending}
 use Rattle.st_replay.specs.declared.replaying.Again.{Again}
@@ -39,7 +39,8 @@ use Rattle.st_serial.specs.Kept.{groups_of}
 use Rattle.st_top.specs.Answer.{Results, SourceState, SinkState, ComesOf, EndsAtEnd, EndsOn, EndsOnBytes, EndsBy, EndsOnDoc, EndsOnReplay, EndsOnRun, EndsOnRunDoc, HasWritten, IsUnread, StopsTooLong}
 use Rattle.st_top.specs.Completeness.{CanBeDoneBy, CanBeDoneOn, CanBeRead, IsAfterReadFault, IsFaultless}
 use Rattle.st_replay.specs.Again.{IsAgain}
-use Rattle.st_top.specs.Ending.{IsCalledFor, IsEndOnBytes, IsEndOnDoc, IsEndOnReplay, IsToldAgain, TellsFault, WritesEnding, results_in, told}
+use Rattle.st_top.specs.Ending.{IsCalledFor, IsEndOnBytes, IsEndOnDoc, IsEndOnReplay, IsToldAgain, TellsFault, WritesEnding, results_in}
+use Rattle.st_replay.specs.Statuses.{told}
 use Rattle.st_top.proofs.PlayedRuns.{run_well}
 use Rattle.st_replay.proofs.Replays.{again_kept, legal_amid, one_each}
 

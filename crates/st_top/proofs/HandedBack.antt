@@ -9,8 +9,8 @@ use Rattle.st_event.specs.Legal.{IsLegal, AtEach}
 use Rattle.st_event.specs.Network.{KeepsPromises}
 use Rattle.st_grammar.specs.declared.doc.Doc.{Doc}
 use Rattle.st_grammar.specs.Sound.{IsSoundDoc}
-use Rattle.st_top.specs.declared.answer.Status.{Status}
-use Rattle.st_top.specs.declared.answer.Status.TheVariants as statuses
+use Rattle.st_replay.specs.declared.status.Status.{Status}
+use Rattle.st_replay.specs.declared.status.Status.TheVariants as statuses
 use Rattle.st_top.specs.declared.task.Showing.{Showing}
 use Rattle.st_top.specs.declared.task.Task.TheVariants.{Serial}
 use Rattle.st_serial.specs.Serial.{GroupState, Run, groups_in, journals_from, logs_from, serial_end, serial_logs, serial_run}

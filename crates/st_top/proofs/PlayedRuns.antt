@@ -18,8 +18,8 @@ use Rattle.st_serial.specs.Most.{HasRoom, IsWithinMost, most}
 use Rattle.st_run.specs.declared.playing.Played.{Played}
 use Rattle.st_run.specs.CarriedOut.{AreNumbers}
 use Rattle.st_run.specs.Running.{IsFullIn, IsRunOf}
-use Rattle.st_top.specs.declared.answer.Status.{Status}
-use Rattle.st_top.specs.declared.answer.Status.TheVariants.{Ok, JournalFull, OutOfMemory}
+use Rattle.st_replay.specs.declared.status.Status.{Status}
+use Rattle.st_replay.specs.declared.status.Status.TheVariants.{Ok, JournalFull, OutOfMemory}
 use Rattle.st_top.specs.Answer.{EndsOnRunDoc, Results}
 use Rattle.st_top.specs.Ending.{IsToldOfRun}
 use Rattle.st_replay.specs.Replaying.{AreLegal, HasFewEntries}

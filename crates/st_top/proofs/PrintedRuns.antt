@@ -30,11 +30,10 @@ use Rattle.st_token.proofs.ReadTokens.{came_from, chosen}
 use Rattle.st_entry.specs.Words.{Words}
 use Rattle.st_grammar.specs.declared.doc.Doc.{Doc}
 use Rattle.st_grammar.specs.declared.doc.JournalAt.{JournalAt}
-use Rattle.st_grammar.specs.declared.doc.Script.{Script}
 use Rattle.st_grammar.specs.Draft.{Draft, nothing as no_draft}
 use Rattle.st_grammar.specs.Lines.{header_line, keyword_line, tokens_line, line_of}
 use Rattle.st_grammar.specs.Reading.{begins_journal, is_journal_word, declared_on, doc_of, doc_with, document_of, first_journal, headed, input_of, journals_at, lines_read, place_behind}
-use Rattle.st_grammar.specs.Sound.{IsSoundDoc, IsSoundGroup, IsSoundScript}
+use Rattle.st_grammar.specs.Sound.{IsSoundDoc, IsSoundGroup}
 use Rattle.st_doc.specs.Printed.{doc_lines, printed_doc, without_journals}
 use Rattle.st_doc.proofs.PrintedDocs.{printed_back}
 use Rattle.st_journal.specs.JournalLines.{group_names}
@@ -44,12 +43,13 @@ use Rattle.st_journal.specs.ReadingBack.{AreNames, AreNumbered, AreTopologies, I
 use Rattle.st_journal.proofs.PrintedBack.{each_prints_back}
 use Rattle.st_replay.specs.Again.{histories_of}
 use Rattle.st_replay.specs.Replaying.{app_names, AreLegal, Replay, journal_bytes, journal_line, replay_of, replay_with}
+use Rattle.st_replay.proofs.Names.{names_spelled}
 use Rattle.st_top.specs.Output.{journals_text}
 use Rattle.st_serial.specs.Kept.{groups_of}
 use Rattle.st_words.specs.declared.job.Form.{Form}
 use Rattle.st_words.specs.declared.job.Form.TheVariants as forms
-use Rattle.st_top.specs.declared.answer.Status.{Status}
-use Rattle.st_top.specs.declared.answer.Status.TheVariants as statuses
+use Rattle.st_replay.specs.declared.status.Status.{Status}
+use Rattle.st_replay.specs.declared.status.Status.TheVariants as statuses
 use Rattle.st_top.specs.Answer.{Results, EndsOnReplay}
 use Rattle.st_top.specs.PrintedRuns.{IsRun, PrintedRunsAreReplayed, placed, run_text}
 use Rattle.st_top.proofs.Endings.{none_illegal}
@@ -339,10 +339,6 @@ same_names : (groups : List Parts) → map (λ (g : Parts). g.name) groups ≡ g
 same_names [] = refl
 same_names (parts ∷ groups) = ap (λ names. parts.name ∷ names) (same_names groups)
 
-apps_named : (groups : List Parts) (apps : List Script) → AllByRecursion (IsSoundScript groups) apps → are_names (map (λ (script : Script). script.name) apps) ≡ true
-apps_named groups [] all = refl
-apps_named groups (app ∷ apps) all = both_true (is_name app.name) (are_names (map (λ (script : Script). script.name) apps)) all.0.name (apps_named groups apps all.1)
-
 topologies : (doc : Doc) → IsSoundDoc doc → AreTopologies (groups_of doc)
 topologies doc s =
     let each = recursion_from_All IsSoundGroup doc.groups s.groups in
@@ -352,7 +348,7 @@ topologies doc s =
     }
 
 applications : (doc : Doc) → IsSoundDoc doc → AreNames (app_names doc)
-applications doc s = record { spelled = apps_named doc.groups doc.apps (recursion_from_All (IsSoundScript doc.groups) doc.apps s.apps); new = s.app_names }
+applications doc s = record { spelled = names_spelled doc s; new = s.app_names }
 
 -- so a run that is printed is read back
 

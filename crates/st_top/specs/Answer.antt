@@ -1,20 +1,16 @@
 -- How a call ends, and what that says of what was read, of the journals, and of what was written.
-use Rattle.std.specs.Prelude.{◌≡◌, ℕ, ◌+◌, ◌≤◌, List, [], ◌∷◌, length, Option, Some, None, Result, Ok as read_ok, Err, codes, decimal, slice_get, ◌⊎◌}
+use Rattle.std.specs.Prelude.{◌≡◌, ℕ, ◌+◌, ◌≤◌, List, [], length, Option, Some, None, Result, Ok as read_ok, Err, ◌⊎◌}
 use Rattle.std.specs.Io.KnownBytes.{Consumes, Appends, Keeps, IsAtEnd}
 use Rattle.st_io.specs.declared.reading.TheConstants.{MAX_BYTES}
 use Rattle.st_io.specs.Outside.{Rose}
 use Rattle.st_io.specs.Output.{AppendsPrefix}
-use Rattle.st_text.specs.Words.{line}
-use Rattle.st_net.specs.declared.parts.Parts.{Parts}
 use Rattle.st_event.specs.declared.act.Log.{Log}
 use Rattle.st_event.specs.declared.journal.Journal.{Journal}
 use Rattle.st_grammar.specs.declared.doc.Doc.{Doc}
 use Rattle.st_grammar.specs.Reading.{document_of}
-use Rattle.st_token.specs.declared.fault.FaultKind.{FaultKind}
-use Rattle.st_token.specs.declared.fault.FaultKind.TheVariants as kinds
 use Rattle.st_token.specs.declared.fault.LineFault.{LineFault}
-use Rattle.st_top.specs.declared.answer.Status.{Status}
-use Rattle.st_top.specs.declared.answer.Status.TheVariants.{Ok, Usage, ReadFault, TooLong, BadInput, JournalFull, Illegal, WriteFault, OutOfMemory}
+use Rattle.st_replay.specs.declared.status.Status.{Status}
+use Rattle.st_replay.specs.declared.status.Status.TheVariants.{Ok, Usage, ReadFault, TooLong, BadInput, JournalFull, Illegal, WriteFault, OutOfMemory}
 use Rattle.st_words.specs.declared.job.FatTree.{FatTree}
 use Rattle.st_words.specs.declared.job.Form.{Form}
 use Rattle.st_doc.specs.Printed.{printed_doc}
@@ -31,46 +27,7 @@ use Rattle.st_top.specs.Output.{shown, check_text}
 use Rattle.st_serial.specs.Kept.{AreKept, groups_of}
 use Rattle.st_run.specs.Running.{IsRunOf}
 use Rattle.st_replay.specs.Replaying.{Replay, replay_of, IsFirstIllegal}
-
-abbrev pub kind_word : FaultKind → List ℕ
-kind_word kinds.Header = codes "header"
-kind_word kinds.Byte = codes "byte"
-kind_word kinds.Word = codes "word"
-kind_word kinds.Count = codes "count"
-kind_word kinds.Name = codes "name"
-kind_word kinds.Unknown = codes "unknown"
-kind_word kinds.Twice = codes "twice"
-kind_word kinds.Number = codes "number"
-kind_word kinds.Value = codes "value"
-kind_word kinds.Cross = codes "cross"
-kind_word kinds.Loop = codes "loop"
-kind_word kinds.Pair = codes "pair"
-kind_word kinds.Limit = codes "limit"
-
--- the name of a group by its number; no bytes where there is none
-abbrev pub name_or_none : Option Parts → List ℕ
-name_or_none None = []
-name_or_none (Some parts) = parts.name
-
-abbrev pub group_name : List Parts → ℕ → List ℕ
-group_name groups n = name_or_none (slice_get groups n)
-
--- the line that tells of a status, where the groups of the document are these; there is none of a status that is no fault, or after which nothing
--- can be written
-abbrev pub status_line : List Parts → Status → List ℕ
-status_line groups Ok = []
-status_line groups Usage = line (codes "fault") (codes "usage" ∷ [])
-status_line groups ReadFault = line (codes "fault") (codes "read" ∷ [])
-status_line groups TooLong = line (codes "fault") (codes "long" ∷ [])
-status_line groups (BadInput n kind) = line (codes "fault") (codes "input" ∷ codes "line" ∷ decimal n ∷ kind_word kind ∷ [])
-status_line groups (JournalFull group) = line (codes "fault") (codes "full" ∷ group_name groups group ∷ [])
-status_line groups (Illegal group entry) = line (codes "fault") (codes "illegal" ∷ group_name groups group ∷ decimal entry ∷ [])
-status_line groups WriteFault = []
-status_line groups OutOfMemory = []
-
--- that of a fault before a document was read
-abbrev pub fault_line : Status → List ℕ
-fault_line status = status_line [] status
+use Rattle.st_replay.specs.Statuses.{fault_line, status_line}
 
 -- what a call hands back: the journals that the groups kept, and the logs of the applications
 pub record Results : Type 0 where

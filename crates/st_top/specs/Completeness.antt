@@ -3,8 +3,8 @@ use Rattle.std.specs.Prelude.{◌≡◌, ℕ, ◌-◌, ◌^◌, ◌<◌, ◌≤�
 use Rattle.st_io.specs.declared.reading.TheConstants.{MAX_BYTES}
 use Rattle.st_grammar.specs.declared.doc.Doc.{Doc}
 use Rattle.st_grammar.specs.Reading.{document_of}
-use Rattle.st_top.specs.declared.answer.Status.{Status}
-use Rattle.st_top.specs.declared.answer.Status.TheVariants.{Ok, Usage, ReadFault, TooLong, BadInput, JournalFull, Illegal, WriteFault, OutOfMemory}
+use Rattle.st_replay.specs.declared.status.Status.{Status}
+use Rattle.st_replay.specs.declared.status.Status.TheVariants.{Ok, Usage, ReadFault, TooLong, BadInput, JournalFull, Illegal, WriteFault, OutOfMemory}
 use Rattle.st_top.specs.declared.task.Task.{Task}
 use Rattle.st_top.specs.declared.task.Task.TheVariants.{Serial, Count, Print}
 use Rattle.st_top.specs.declared.task.Reading.{Reading}

@@ -1,13 +1,12 @@
 -- How a call is to end, before anything is written.
 use Rattle.std.specs.Prelude.{◌≡◌, ℕ, List, [], map, Some, None, Result}
 use Rattle.st_io.specs.declared.writing.Written.{Written}
-use Rattle.st_io.specs.declared.writing.Written.TheVariants as ways
 use Rattle.st_io.specs.Output.{Writes}
 use Rattle.st_grammar.specs.declared.doc.Doc.{Doc}
 use Rattle.st_token.specs.declared.fault.LineFault.{LineFault}
 use Rattle.st_top.specs.declared.answer.Outcome.{Outcome}
-use Rattle.st_top.specs.declared.answer.Status.{Status}
-use Rattle.st_top.specs.declared.answer.Status.TheVariants as statuses
+use Rattle.st_replay.specs.declared.status.Status.{Status}
+use Rattle.st_replay.specs.declared.status.Status.TheVariants as statuses
 use Rattle.st_top.specs.declared.ending.Ending.{Ending}
 use Rattle.st_top.specs.declared.task.Task.{Task}
 use Rattle.st_top.specs.declared.task.Showing.{Showing}
@@ -22,9 +21,10 @@ use Rattle.st_serial.specs.Serial.{serial_end, serial_full, serial_logs}
 use Rattle.st_replay.specs.Again.{histories_of}
 use Rattle.st_top.specs.Output.{shown}
 use Rattle.st_replay.specs.Replaying.{Replay}
+use Rattle.st_replay.specs.Statuses.{fault_line, status_line, told}
 use Rattle.st_serial.specs.Kept.{groups_of}
 use Rattle.st_run.specs.declared.playing.Played.{Played}
-use Rattle.st_top.specs.Answer.{Results, SourceState, SinkState, EndsOnDoc, EndsOn, EndsOnRun, EndsOnRunDoc, EndsOnReplay, EndsOnBytes, ComesOf, no_results, fault_line, status_line}
+use Rattle.st_top.specs.Answer.{Results, SourceState, SinkState, EndsOnDoc, EndsOn, EndsOnRun, EndsOnRunDoc, EndsOnReplay, EndsOnBytes, ComesOf, no_results}
 
 -- what an ending hands back
 abbrev pub results_in : Ending → Results
@@ -81,12 +81,6 @@ IsToldAgain form doc (again.Worlds worlds) statuses.Ok text = text ≡ shown (In
 IsToldAgain form doc (again.Worlds worlds) _ text = ⊥
 IsToldAgain form doc (again.Illegal n entry) (statuses.Illegal group number) text = (group ≡ n) × (number ≡ entry) × (text ≡ status_line doc.groups (statuses.Illegal group number))
 IsToldAgain form doc (again.Illegal n entry) _ text = ⊥
-
--- the status that is told once writing ended so
-abbrev pub told : Written → Status → Status
-told ways.All status = status
-told ways.Failed status = statuses.WriteFault
-told ways.OutOfMemory status = statuses.OutOfMemory
 
 -- the text of an ending was being written, and the outcome tells how that ended
 pub record WritesEnding (ending : Ending) (before now : SinkState) (outcome : Outcome) : Type 0 where

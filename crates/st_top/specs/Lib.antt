@@ -1,6 +1,5 @@
 pub mod Ways
 pub mod Output
-pub mod Exit
 pub mod Answer
 pub mod Completeness
 pub mod PrintedRuns

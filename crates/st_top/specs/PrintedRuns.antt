@@ -9,8 +9,8 @@ use Rattle.st_grammar.specs.Sound.{IsSoundDoc}
 use Rattle.st_journal.specs.ReadingBack.{AreNumbered, IsJournalAmong}
 use Rattle.st_words.specs.declared.job.Form.{Form}
 use Rattle.st_words.specs.declared.job.Form.TheVariants as forms
-use Rattle.st_top.specs.declared.answer.Status.{Status}
-use Rattle.st_top.specs.declared.answer.Status.TheVariants.{Ok}
+use Rattle.st_replay.specs.declared.status.Status.{Status}
+use Rattle.st_replay.specs.declared.status.Status.TheVariants.{Ok}
 use Rattle.st_top.specs.declared.task.Showing.TheVariants.{In}
 use Rattle.st_top.specs.declared.task.Reading.TheVariants.{Journals}
 use Rattle.st_replay.specs.Again.{histories_of}

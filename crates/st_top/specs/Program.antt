@@ -4,8 +4,8 @@ use Rattle.std.specs.Process.{exit_status}
 use Rattle.std.specs.declared.process.ExitCode.{ExitCode}
 use Rattle.std.specs.Vec.Iter.{into_iter_items}
 use Rattle.std.specs.declared.vec.IntoIter.{IntoIter}
-use Rattle.st_top.specs.declared.answer.Status.{Status}
-use Rattle.st_top.specs.Exit.{exit_code_of}
+use Rattle.st_replay.specs.declared.status.Status.{Status}
+use Rattle.st_replay.specs.Statuses.{exit_code_of}
 use Rattle.st_top.specs.Answer.{Results, SourceState, SinkState, EndsWith}
 
 -- the words after the program's name, which stands first; none where the arguments can't be had

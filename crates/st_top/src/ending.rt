@@ -6,15 +6,16 @@ ghost use Rattle.st_grammar.specs.Reading.{document_of};
 ghost use Rattle.st_grammar.specs.Sound.{IsSoundDoc};
 ghost use Rattle.st_top.specs.declared.task.Task.TheVariants.{Serial as serial_task, Count as count_task, Print as print_task};
 ghost use Rattle.st_serial.specs.Serial.{serial_end, serial_logs, states_of};
-ghost use Rattle.st_top.specs.declared.answer.Status.TheVariants.{BadInput as bad_input_lem};
+ghost use Rattle.st_replay.specs.declared.status.Status.TheVariants.{BadInput as bad_input_lem};
 ghost use Rattle.st_top.specs.Ending.{TellsFault, IsToldOf, IsEndOnDoc, IsEndOn};
 
-use crate::answer::{Journals, Logs, Status, status_line};
+use crate::answer::{Journals, Logs};
 use crate::output::{check_text, shown_text};
 use crate::results::{journals_of, logs_of};
 use crate::task::{Showing, Task};
 use st_doc::{Doc, DocKind, DocRead, print_doc, read_doc};
 use st_event::Log;
+use st_replay::{Status, status_line};
 use st_serial::{Ran, serial_done};
 use st_text::Text;
 use st_world::World;

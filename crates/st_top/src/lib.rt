@@ -12,8 +12,9 @@ mod results;
 mod task;
 mod top;
 
-pub use answer::{Journals, Logs, Outcome, Status};
+pub use answer::{Journals, Logs, Outcome};
 pub use program::{ended, run_program};
+pub use st_replay::Status;
 pub use top::{statesman, statesman_alone};
 
 #[cfg(test)]

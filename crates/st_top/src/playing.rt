@@ -12,14 +12,14 @@ ghost use Rattle.st_serial.specs.Kept.{groups_of};
 ghost use Rattle.st_top.specs.Ending.{IsEndOnRun, IsEndOnRunDoc, IsToldOfRun};
 ghost use Rattle.st_top.specs.Output.{shown};
 
-use crate::answer::{Journals, Logs, Status, status_line};
+use crate::answer::{Journals, Logs};
 use crate::ending::{Ending, bad_input};
 use crate::output::shown_text;
 use crate::task::Showing;
 use st_crew::Gate;
 use st_doc::{Doc, DocRead, read_doc};
 use st_event::{Journal, Log};
-use st_replay::{Again, replay_all, topos_of};
+use st_replay::{Again, Status, replay_all, status_line, topos_of};
 use st_run::{Played, run_scripts};
 use st_text::Text;
 use st_words::Form;

@@ -3,7 +3,7 @@
 ghost use Rattle.std.specs.Prelude.{◌≡◌, drop, map, string_bytes, IfOk};
 ghost use Rattle.std.specs.Process.{exit_status};
 ghost use Rattle.std.specs.Vec.Iter.{into_iter_items};
-ghost use Rattle.st_top.specs.Exit.{exit_code_of};
+ghost use Rattle.st_replay.specs.Statuses.{exit_code_of};
 ghost use Rattle.st_top.specs.Program.{words_in, ProgramEnds};
 
 use crate::answer::Outcome;

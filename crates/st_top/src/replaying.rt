@@ -9,7 +9,7 @@ ghost use Rattle.st_replay.specs.Replaying.{replay_of, replay_with, HasFewEntrie
 ghost use Rattle.st_serial.specs.Kept.{groups_of};
 ghost use Rattle.st_top.specs.Ending.{IsEndOnReplay, IsToldAgain};
 
-use crate::answer::{Journals, Logs, Status, status_line};
+use crate::answer::{Journals, Logs};
 use crate::ending::{Ending, bad_input};
 use crate::output::shown_text;
 use crate::task::Showing;
@@ -17,7 +17,7 @@ use st_doc::{Doc, DocRead, read_doc};
 use st_event::Journal;
 use st_journal::JournalsRead;
 use st_net::GroupTopo;
-use st_replay::{Again, journals_read, replay_all, topos_of};
+use st_replay::{Again, Status, journals_read, replay_all, status_line, topos_of};
 use st_text::Text;
 use st_words::Form;
 use std::alloc::{AllocError, Global};

@@ -5,16 +5,17 @@ ghost use Rattle.st_io.specs.declared.reading.TheConstants.{MAX_BYTES};
 ghost use Rattle.st_top.specs.Ways.{way_of, reads, is_read_on, is_run, tree_doc as tree_doc_lem};
 ghost use Rattle.st_top.specs.Answer.{EndsBy, EndsWith, IsUnread};
 ghost use Rattle.st_top.specs.Completeness.{CanBeDone, CanBeDoneBy, IsAfterReadFault, IsFaultless};
-ghost use Rattle.st_top.specs.Ending.{IsEndOnDoc, IsEndOnBytes, IsCalledFor, WritesEnding, told as told_lem};
+ghost use Rattle.st_top.specs.Ending.{IsEndOnDoc, IsEndOnBytes, IsCalledFor, WritesEnding};
 
-use crate::answer::{Outcome, Status};
+use crate::answer::Outcome;
 use crate::ending::{Ending, doc_ending, fault_ending, task_ending};
 use crate::playing::run_ending;
 use crate::replaying::replay_ending;
 use crate::task::{Reading, Showing, Task};
 use st_crew::Gate;
 use st_gen::generate;
-use st_io::{ReadEnd, Sink, Source, Written, read_all, write_all};
+use st_io::{ReadEnd, Sink, Source, read_all, write_all};
+use st_replay::Status;
 use st_words::{FatTree, Form, Job, read_words};
 use std::alloc::{AllocError, Global};
 use std::sync::Wait;
@@ -107,17 +108,6 @@ fn prepare<S: Source>(alloc: Global, words: &[String], source: &mut S) -> Result
     }
 }
 
-/// The status that is told once writing ended so.
-fn told(written: Written, status: Status) -> Status
-    ensures { result ≡ told_lem written status }
-{
-    match written {
-        Written::All => status,
-        Written::Failed => Status::WriteFault,
-        Written::OutOfMemory => Status::OutOfMemory,
-    }
-}
-
 /// Writes the text of an ending.
 fn write_ending<K: Sink>(ending: Ending, sink: &mut K) -> Outcome
     ensures { WritesEnding ending
@@ -127,7 +117,7 @@ fn write_ending<K: Sink>(ending: Ending, sink: &mut K) -> Outcome
 {
     let written = write_all(sink, ending.text.bytes());
     Outcome {
-        status: told(written, ending.status),
+        status: ending.status.told(written),
         journals: ending.journals,
         logs: ending.logs,
     }

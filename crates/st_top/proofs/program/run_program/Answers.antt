@@ -1,10 +1,10 @@
 use Rattle.std.proofs.Common.{◌≡◌, refl, ap, ◌∙◌, inl, map, subst}
 use Rattle.std.specs.Prelude.{string_bytes}
 use Rattle.std.proofs.KnownBytes.{Keeps-refl}
-use Rattle.st_top.specs.declared.answer.Status.TheVariants.{OutOfMemory}
+use Rattle.st_replay.specs.declared.status.Status.TheVariants.{OutOfMemory}
 use Rattle.st_top.specs.Answer.{EndsWith, Results, SinkState, SourceState, no_results}
 use Rattle.st_top.specs.Program.{words_in}
-use Rattle.st_top.specs.Exit.{exit_code_of}
+use Rattle.st_replay.specs.Statuses.{exit_code_of}
 use Rattle.st_top.proofs.program.run_program.Goals as goal
 
 pub returns-in-Err : goal.returns-in-Err
