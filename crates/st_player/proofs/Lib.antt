@@ -1,4 +1,5 @@
 pub mod AskedLemmas
+pub mod ChangeLemmas
 pub mod CutLemmas
 pub mod FarCuts
 pub mod GroupParts
@@ -17,6 +18,7 @@ pub mod StateLemmas
 pub mod StateParts
 pub mod ToldCuts
 pub mod ToldEntries
+pub mod Untouched
 pub mod WeighLemmas
 mod WorkedCalls
 mod WorkedCuts

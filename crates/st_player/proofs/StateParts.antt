@@ -34,7 +34,7 @@ same_knowledge Blocked Blocked is = refl
 same_knowledge Waiting Waiting is = refl
 same_knowledge _ _ is = cc
 
-same_flag : (a b : Bool) → is_same_flag a b ≡ true → a ≡ b
+pub same_flag : (a b : Bool) → is_same_flag a b ≡ true → a ≡ b
 same_flag true true is = refl
 same_flag false false is = refl
 same_flag true false is = cc

@@ -16,3 +16,4 @@ pub mod Snapshots
 pub mod States
 pub mod Steps
 pub mod ToldRefusals
+pub mod Touched

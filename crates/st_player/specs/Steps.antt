@@ -1,9 +1,10 @@
 -- Of no concern to callers: snapshots, sets and cuts as they are kept.
-use Rattle.std.specs.Prelude.{◌≡◌, ◌<◌, ◌≤◌, ◌-◌, ◌∷◌, ◌++◌, ℕ, Bool, List, [], Option, Some, None, length, map}
+use Rattle.std.specs.Prelude.{◌≡◌, ◌<◌, ◌≤◌, ◌-◌, ◌∷◌, ◌++◌, ℕ, All, Bool, true, List, [], Option, Some, None, length, map}
 use Rattle.serde_json.specs.View.{view}
 use Rattle.serde_json.specs.declared.value.Value.{Value}
 use Rattle.st_net.specs.declared.entity.Entity.{Entity}
 use Rattle.st_net.specs.declared.entity.Row.{Row}
+use Rattle.st_net.specs.declared.promise.Promise.{Promise}
 use Rattle.st_net.specs.Groups.{Group}
 use Rattle.st_net.specs.Merge.{alters}
 use Rattle.st_net.specs.Promises.{is_kept}
@@ -19,11 +20,16 @@ use Rattle.st_player.specs.Cuts.{Stands}
 use Rattle.st_player.specs.Pictures.{size_of}
 use Rattle.st_player.specs.Snapshots.{Shown, states_of}
 
--- the promises that hold while these entities are up
+-- every promise holds while these entities are up
+abbrev pub AllKept : Group → (Entity → Bool) → Type 0
+AllKept g up = All (λ (p : Promise). is_kept g up p ≡ true) g.promises
+
+-- the promises that hold while these entities are up, and that all do where that is said
 pub record IsHeld (g : Group) (up : Entity → Bool) (held : Held) : Type 0 where
   pub of : MarksOf g held.up
   pub up_is : is_in held.up ≡ up
   pub kept : held.kept.items ≡ map (is_kept g up) g.promises
+  pub whole : held.all ≡ true → AllKept g up
 
 -- what a snapshot shows
 abbrev pub shown_in : Snapshot → Shown

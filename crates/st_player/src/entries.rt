@@ -1,4 +1,4 @@
-//! What is told of one entry of a journal: its line, what it is about, why it refuses, and what differs after it.
+//! What is told of one entry of a journal: its line, what it is about, and why it refuses.
 
 ghost use Rattle.std.specs.Prelude.{◌≡◌, ℕ, ◌<◌, ◌^◌, ◌++◌, ◌∷◌, [], IfOk, OnOk, codes, drop, length, map, option_map, true};
 ghost use Rattle.std.specs.Option.{option_copied};
@@ -6,29 +6,20 @@ ghost use Rattle.serde_json.specs.Data.{put as put_lem, string};
 ghost use Rattle.serde_json.specs.View.{view, members_view};
 ghost use Rattle.st_text.specs.Words.{spaced};
 ghost use Rattle.st_net.specs.Groups.{are_names};
-ghost use Rattle.st_net.specs.Numbered.{nth};
-ghost use Rattle.st_event.specs.Moments.{commands, reports};
 ghost use Rattle.st_event.specs.Proposals.{pending, first_rows};
 ghost use Rattle.st_entry.specs.Entries.{event_words, reply_words};
 ghost use Rattle.st_entry.specs.Keywords.{reply_mark};
-ghost use Rattle.st_player.specs.Entries.{about as about_lem, asked_of, entry_words as entry_words_lem, has_row_on as has_row_on_lem, is_about as is_about_lem, line_of, lost_from, named_by as named_by_lem, rows_about as rows_about_lem, told_data, turned_data, turned_of, with_changes, with_counts, with_words};
-ghost use Rattle.st_player.specs.Fields.{changes_from};
-ghost use Rattle.st_player.specs.Json.{put_some};
-ghost use Rattle.st_player.specs.Plain.{is_plain};
+ghost use Rattle.st_player.specs.Entries.{about as about_lem, asked_of, entry_words as entry_words_lem, has_row_on as has_row_on_lem, is_about as is_about_lem, line_of, lost_from, named_by as named_by_lem, rows_about as rows_about_lem, with_words};
 ghost use Rattle.st_player.specs.Refusals.{refusal_of, refused_of};
-ghost use Rattle.st_player.specs.Steps.{shown_in};
 
-use crate::fields::{Fields, change_json};
 use crate::playback::Playback;
 use crate::refusals::cause_json;
-use crate::safe_json::{Json, JsonList, JsonObject};
-use crate::snapshot::{Held, Snapshot};
-use crate::state::State;
+use crate::safe_json::{Json, JsonObject};
+use crate::touched::{command_entity, report_entity};
 use st_entry::{print_event, print_reply};
 use st_event::{Cause, Entry, Event, Reply, Verdict};
 use st_net::{Entity, GroupTopo, Name, Row};
 use st_text::{Text, Word, print_word};
-use st_wire::Took;
 use st_world::World;
 use std::alloc::{AllocError, Global};
 
@@ -92,26 +83,6 @@ fn rows_about<'a>(world: &'a World, entry: &'a Entry) -> &'a [Row]
         (Event::Submit { rows, .. }, _) => rows.as_slice(),
         (Event::Check, Reply::Decided(_)) => oldest_rows(world),
         _ => &[],
-    }
-}
-
-/// The entity that a command of this number is for.
-fn command_entity(world: &World, command: u32) -> Option<Entity>
-    ensures { result ≡ option_map (λ c. c.entity) (nth (commands world.now.history.group world.now.history.past) command) }
-{
-    match world.wire().command(command) {
-        Took::Got(command) => Some(command.entity),
-        Took::NoSuch { .. } => None,
-    }
-}
-
-/// The entity that a report of this number is of.
-fn report_entity(world: &World, report: u32) -> Option<Entity>
-    ensures { result ≡ option_map (λ r. r.entity) (nth (reports world.now.history.group world.now.history.past) report) }
-{
-    match world.wire().report(report) {
-        Took::Got(report) => Some(report.entity),
-        Took::NoSuch { .. } => None,
     }
 }
 
@@ -229,21 +200,6 @@ fn put_words(
     object.put_some("refused", refused(alloc, world, entry)?)
 }
 
-/// The states that differ, with the numbers of their entities.
-fn changes(alloc: Global, old: &[State], new: &[State]) -> Result<JsonList, AllocError>
-    requires count { length old.now ≡ length new.now }
-    requires few { length old.now < 2 ^ 32 }
-    ensures { IfOk result (λ list. map view list ≡ changes_from 0 old.now new.now) }
-{
-    let mut list = JsonList::new(alloc);
-    for (i, state) in old.iter().enumerate() {
-        if Fields::between(state, &new[i]).any() {
-            list.push(change_json(alloc, i as u32, state, &new[i])?)?;
-        }
-    }
-    Ok(list)
-}
-
 /// The numbers of the promises that hold before and not after.
 pub(crate) fn lost(alloc: Global, before: &[bool], after: &[bool]) -> Result<Vec<u32>, AllocError>
     requires count { length before.now ≡ length after.now }
@@ -257,86 +213,4 @@ pub(crate) fn lost(alloc: Global, before: &[bool], after: &[bool]) -> Result<Vec
         }
     }
     Ok(numbers)
-}
-
-/// Which promises ceased to hold, and which hold again; nothing where none did.
-fn turned(alloc: Global, lost: &[u32], back: &[u32]) -> Result<Option<Json>, AllocError>
-    ensures { IfOk result (λ turned. option_map view turned ≡ turned_data lost.now back.now) }
-{
-    if lost.is_empty() && back.is_empty() {
-        return Ok(None);
-    }
-    let mut object = JsonObject::new(alloc);
-    object.put_numbers("lost", lost)?;
-    object.put_numbers("back", back)?;
-    Ok(Some(Json::object(object)))
-}
-
-/// Puts which promises turned in a set.
-fn put_turned(
-    object: &mut JsonObject,
-    alloc: Global,
-    key: &str,
-    old: &Held,
-    new: &Held,
-) -> Result<(), AllocError>
-    requires key { is_plain key.now ≡ true }
-    requires count { length old.now.kept.items ≡ length new.now.kept.items }
-    requires few { length old.now.kept.items < 2 ^ 32 }
-    ensures { OnOk result (members_view object.new ≡ put_some key.now (turned_of old.now.kept.items new.now.kept.items) (members_view object.old)) }
-{
-    let lost_now = lost(alloc, old.kept.as_slice(), new.kept.as_slice())?;
-    let back = lost(alloc, new.kept.as_slice(), old.kept.as_slice())?;
-    object.put_some(key, turned(alloc, lost_now.as_slice(), back.as_slice())?)
-}
-
-/// Puts what differs between two snapshots.
-fn put_changes(
-    object: &mut JsonObject,
-    alloc: Global,
-    old: &Snapshot,
-    new: &Snapshot,
-) -> Result<(), AllocError>
-    requires states { length old.now.states.items ≡ length new.now.states.items }
-    requires network { length old.now.network.kept.items ≡ length new.now.network.kept.items }
-    requires sure { length old.now.sure.kept.items ≡ length new.now.sure.kept.items }
-    requires few { length old.now.states.items < 2 ^ 32 }
-    requires few_in_network { length old.now.network.kept.items < 2 ^ 32 }
-    requires few_sure { length old.now.sure.kept.items < 2 ^ 32 }
-    ensures { OnOk result (members_view object.new ≡ with_counts (shown_in old.now) (shown_in new.now) (with_changes (shown_in old.now) (shown_in new.now) (members_view object.old))) }
-{
-    let list = changes(alloc, old.states.as_slice(), new.states.as_slice())?;
-    object.put_list("set", list)?;
-    put_turned(object, alloc, "network", &old.network, &new.network)?;
-    put_turned(object, alloc, "sure", &old.sure, &new.sure)?;
-    object.put_where(
-        old.version != new.version,
-        "version",
-        Json::number(u64::from(new.version)),
-    )?;
-    object.put_where(
-        old.pending != new.pending,
-        "pending",
-        Json::number(u64::from(new.pending)),
-    )
-}
-
-/// An entry of these words, with what differs between two snapshots.
-pub(crate) fn entry_json(
-    words: JsonObject,
-    alloc: Global,
-    old: &Snapshot,
-    new: &Snapshot,
-) -> Result<Json, AllocError>
-    requires states { length old.now.states.items ≡ length new.now.states.items }
-    requires network { length old.now.network.kept.items ≡ length new.now.network.kept.items }
-    requires sure { length old.now.sure.kept.items ≡ length new.now.sure.kept.items }
-    requires few { length old.now.states.items < 2 ^ 32 }
-    requires few_in_network { length old.now.network.kept.items < 2 ^ 32 }
-    requires few_sure { length old.now.sure.kept.items < 2 ^ 32 }
-    ensures { IfOk result (λ json. view json ≡ told_data (shown_in old.now) (shown_in new.now) (members_view words)) }
-{
-    let mut object = words;
-    put_changes(&mut object, alloc, old, new)?;
-    Ok(Json::object(object))
 }

@@ -31,7 +31,7 @@ pub(crate) struct Fields {
 }
 
 /// Whether two answers are one.
-fn is_same_flag(a: bool, b: bool) -> bool
+pub(crate) fn is_same_flag(a: bool, b: bool) -> bool
     ensures { result ≡ is_same_flag_lem a b }
 {
     if a { b } else { !b }

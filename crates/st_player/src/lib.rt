@@ -4,6 +4,7 @@
 
 mod answer;
 mod calling;
+mod changes;
 mod cuts;
 mod entries;
 mod fields;
@@ -17,6 +18,7 @@ mod safe_json;
 mod snapshot;
 mod state;
 mod tail;
+mod touched;
 mod weighing;
 
 pub use answer::{Status, fault_line};

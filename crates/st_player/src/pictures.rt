@@ -16,13 +16,16 @@ ghost use Rattle.st_player.specs.Fields.{state_data};
 ghost use Rattle.st_player.specs.Pictures.{device_data, entries_data, fitting, group_data, groups_data, is_same_state as is_same_state_lem, kind_in as kind_in_lem, kinds_of as kinds_of_lem, link_data, lost_data, opening_data, picture as picture_lem, promise_data, room_of, size_of as size_of_lem, with_entries, with_parts, with_states};
 ghost use Rattle.st_player.specs.Snapshots.{shown_of};
 ghost use Rattle.st_player.specs.Steps.{shown_in, IsSnapshot, PushesFitting};
+ghost use Rattle.st_player.specs.Touched.{Touches};
 
-use crate::entries::{entry_json, entry_words, lost};
+use crate::changes::next_snapshot;
+use crate::entries::{entry_words, lost};
 use crate::fields::{Fields, state_json};
 use crate::playback::Playback;
 use crate::safe_json::{Json, JsonList, JsonObject};
-use crate::snapshot::{Snapshot, first_snapshot, next_snapshot};
+use crate::snapshot::{Snapshot, first_snapshot};
 use crate::state::State;
+use crate::touched::{Touched, touched_by};
 use st_event::{Entry, Journal};
 use st_net::{Entity, GroupTopo, Name};
 use st_promise::Book;
@@ -89,37 +92,41 @@ fn push_fitting(
 fn tell_entry(
     alloc: Global,
     behind: &Playback,
-    before: &Snapshot,
+    before: Snapshot,
     words: JsonObject,
+    touched: Touched,
 ) -> Result<Telling, AllocError>
-    requires { (h : history_lem) × (h.group ≡ behind.now.group) × IsSnapshot h before.now }
+    requires { (h : history_lem) × Touches h behind.now touched × IsSnapshot h before }
     ensures shown { IfOk result (λ telling. IsSnapshot behind.now telling.shown) }
-    ensures told { IfOk result (λ telling. view telling.told ≡ told_data (shown_in before.now) (shown_in telling.shown) (members_view words)) }
+    ensures told { IfOk result (λ telling. view telling.told ≡ told_data (shown_in before) (shown_in telling.shown) (members_view words)) }
 {
-    behind.world().is_legal();
-    let shown = next_snapshot(alloc, behind, before)?;
-    let told = entry_json(words, alloc, before, &shown)?;
-    Ok(Telling { shown, told })
+    let mut object = words;
+    let shown = next_snapshot(&mut object, alloc, behind, before, touched)?;
+    Ok(Telling {
+        shown,
+        told: Json::object(object),
+    })
 }
 
 /// Goes through the next entry of a legal journal, and tells of it.
 fn next_step(
     alloc: Global,
     playback: Playback,
-    before: &Snapshot,
+    before: Snapshot,
     apps: &[Name],
     entry: &Entry,
 ) -> Result<Step, AllocError>
     requires next { IsNext playback.group playback.past entry.now }
-    requires before { IsSnapshot playback before.now }
+    requires before { IsSnapshot playback before }
     requires apps { are_names apps.now ≡ true }
     ensures playback { IfOk result (λ step. step.playback ≡ with_entry playback entry.now) }
     ensures shown { IfOk result (λ step. IsSnapshot step.playback step.shown) }
     ensures told { IfOk result (λ step. view step.told ≡ entry_data playback.group apps.now playback.past entry.now) }
 {
+    let touched = touched_by(playback.world(), entry);
     let words = entry_words(alloc, &playback, apps, entry)?;
     let behind = playback.enter(alloc, entry)?;
-    let telling = tell_entry(alloc, &behind, before, words)?;
+    let telling = tell_entry(alloc, &behind, before, words, touched)?;
     Ok(Step {
         playback: behind,
         shown: telling.shown,
@@ -146,7 +153,7 @@ fn entries_json(
     let mut shown = shown;
     let mut left = room;
     for entry in entries {
-        let step = next_step(alloc, playback, &shown, apps, entry)?;
+        let step = next_step(alloc, playback, shown, apps, entry)?;
         match push_fitting(&mut list, alloc, step.told, left)? {
             Some(rest) => left = rest,
             None => return Ok(list),

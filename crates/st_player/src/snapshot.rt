@@ -1,8 +1,8 @@
 //! Snapshots of a group on its way through its journal: what is shown of it after an entry. Entries are told by two of them.
 
 ghost use Rattle.std.specs.Prelude.{◌≡◌, IfOk};
+ghost use Rattle.std.specs.List.{list_all};
 ghost use Rattle.st_net.specs.Sets.{MarksOf, is_in};
-ghost use Rattle.st_event.specs.History.{History as history_lem};
 ghost use Rattle.st_event.specs.Observed.{actual, sure as sure_lem};
 ghost use Rattle.st_player.specs.Snapshots.{states_of as states_of_lem};
 ghost use Rattle.st_player.specs.Steps.{IsHeld, IsSnapshot};
@@ -10,16 +10,16 @@ ghost use Rattle.st_player.specs.Steps.{IsHeld, IsSnapshot};
 use crate::playback::Playback;
 use crate::state::State;
 use st_control::Control;
-use st_net::{Entity, EntitySet};
-use st_promise::is_same_set;
+use st_net::EntitySet;
 use st_world::World;
 use std::alloc::{AllocError, Global};
 
-/// A set of entities that are up, and whether each promise holds in it.
+/// A set of entities that are up, whether each promise holds in it, and whether all do.
 #[derive(Drop)]
 pub(crate) struct Held {
     pub(crate) up: EntitySet,
     pub(crate) kept: Vec<bool>,
+    pub(crate) all: bool,
 }
 
 /// What is shown of a group: the states of its entities in order, the promises that hold in the network and in the sure set, the version,
@@ -55,34 +55,21 @@ fn states_of(alloc: Global, playback: &Playback) -> Result<Vec<State>, AllocErro
     Ok(states)
 }
 
+/// Whether all of these are set.
+fn are_all(marks: &[bool]) -> bool
+    ensures { result ≡ list_all (λ mark. mark) marks.now }
+{
+    marks.iter().all(|mark| *mark)
+}
+
 /// Judges each promise in a set.
-fn judge(control: &Control, up: EntitySet) -> Result<Held, AllocError>
+pub(crate) fn judge(control: &Control, up: EntitySet) -> Result<Held, AllocError>
     requires { MarksOf control.now.group up }
     ensures { IfOk result (IsHeld control.now.group (is_in up)) }
 {
     let kept = control.held_in(&up)?;
-    Ok(Held { up, kept })
-}
-
-/// The same, where a set was judged before: only another one is judged again.
-fn judge_again(
-    alloc: Global,
-    control: &Control,
-    before: &Held,
-    up: EntitySet,
-) -> Result<Held, AllocError>
-    requires before { IsHeld control.now.group (is_in before.now.up) before.now }
-    requires marks { MarksOf control.now.group up }
-    ensures { IfOk result (IsHeld control.now.group (is_in up)) }
-{
-    if is_same_set(control.topo(), &before.up, &up) {
-        Ok(Held {
-            up,
-            kept: before.kept.as_slice().to_vec(alloc)?,
-        })
-    } else {
-        judge(control, up)
-    }
+    let all = are_all(kept.as_slice());
+    Ok(Held { up, kept, all })
 }
 
 /// The snapshot of a group whose promises were judged.
@@ -107,7 +94,7 @@ fn snapshot_with(
     })
 }
 
-/// The first snapshot of a group.
+/// The snapshot of a group, asked for as a whole.
 pub(crate) fn first_snapshot(alloc: Global, playback: &Playback) -> Result<Snapshot, AllocError>
     ensures { IfOk result (IsSnapshot playback.now) }
 {
@@ -115,21 +102,5 @@ pub(crate) fn first_snapshot(alloc: Global, playback: &Playback) -> Result<Snaps
     let control = world.control();
     let network = judge(control, world.up_set()?)?;
     let sure = judge(control, control.sure()?)?;
-    snapshot_with(alloc, playback, network, sure)
-}
-
-/// The snapshot of a group after one more entry. Promises are judged again only where a set has changed.
-pub(crate) fn next_snapshot(
-    alloc: Global,
-    playback: &Playback,
-    before: &Snapshot,
-) -> Result<Snapshot, AllocError>
-    requires { (h : history_lem) × (h.group ≡ playback.now.group) × IsSnapshot h before.now }
-    ensures { IfOk result (IsSnapshot playback.now) }
-{
-    let world = playback.world();
-    let control = world.control();
-    let network = judge_again(alloc, control, &before.network, world.up_set()?)?;
-    let sure = judge_again(alloc, control, &before.sure, control.sure()?)?;
     snapshot_with(alloc, playback, network, sure)
 }

@@ -4,7 +4,7 @@
 ghost use Rattle.std.specs.Prelude.{◌≡◌, Some, None};
 ghost use Rattle.st_net.specs.Groups.{IsEntityOf};
 ghost use Rattle.st_event.specs.Agents.{agent_of};
-ghost use Rattle.st_event.specs.Observed.{actual, observed as observed_lem};
+ghost use Rattle.st_event.specs.Observed.{actual, observed as observed_lem, sure};
 ghost use Rattle.st_event.specs.Moments.{stamp as stamp_lem};
 ghost use Rattle.st_event.specs.Proposals.{target as target_lem};
 ghost use Rattle.st_net.specs.Merge.{vals_in};
@@ -186,6 +186,17 @@ fn knowledge_of(world: &World, entity: Entity) -> Knowledge
         SendStep::Settled => Knowledge::Settled,
         SendStep::Blocked { .. } => Knowledge::Blocked,
         SendStep::Command(_) => Knowledge::Waiting,
+    }
+}
+
+/// Whether an entity is sure.
+pub(crate) fn is_sure(world: &World, entity: Entity) -> bool
+    requires { IsEntityOf world.now.history.group entity }
+    ensures { result ≡ sure world.now.history.group world.now.history.past entity }
+{
+    match knowledge_of(world, entity) {
+        Knowledge::Sure => true,
+        _ => false,
     }
 }
 
