@@ -249,16 +249,16 @@ open_stays g past entry (Link k) s ends =
 abbrev state_from : Entity → Bool → Vals → ℕ → Report → ℕ → Vals → Bool → Bool → Option AppId → Option AppId → Option Bool → State
 state_from e b v h r s t barred failed low high opened = record {
   carriage =
-    if b then Busy
-    else (if not b && carries e v (level_of e v h b) then Up
-    else (if v.v0 == 0 then Off
-    else (if nat_lt (level_of e v h b) (greatest e) then Failed
-    else Drained)));
+      if b then Busy
+      else (if not b && carries e v (level_of e v h b) then Up
+      else (if v.v0 == 0 then Off
+      else (if nat_lt (level_of e v h b) (greatest e) then Failed
+      else Drained)));
   knowledge =
-    if is_sure_by e r s t then Sure
-    else (if is_settled_by r s t then Settled
-    else (if barred then Blocked
-    else Waiting));
+      if is_sure_by e r s t then Sure
+      else (if is_settled_by r s t then Settled
+      else (if barred then Blocked
+      else Waiting));
   untold = failed;
   target = t;
   seen = r.vals;
@@ -284,7 +284,7 @@ state_stays g past entry e goal s ends =
     s.failed_is (observed g past e).number ∙ ap (λ (r : Report). failed_since (entry ∷ past) e r.number) s.observed_is in
     let opened = open_stays g past entry e s ends in
     let same : state_from e (busy g past e) (vals g past e) (health g past e) (observed g past e) (stamp g past e) (vals_in g (target g past) e) (is_blocked (reply g past (Send e))) (failed_since past e (observed g past e).number) (holder past e Low) (holder past e High) (open_of g past e)
-        ≡ state_from e (busy g (entry ∷ past) e) (vals g (entry ∷ past) e) (health g (entry ∷ past) e) (observed g (entry ∷ past) e) (stamp g (entry ∷ past) e) (vals_in g (target g (entry ∷ past)) e) (is_blocked (reply g (entry ∷ past) (Send e))) (failed_since (entry ∷ past) e (observed g (entry ∷ past) e).number) (holder (entry ∷ past) e Low) (holder (entry ∷ past) e High) (open_of g (entry ∷ past) e) =
+    ≡ state_from e (busy g (entry ∷ past) e) (vals g (entry ∷ past) e) (health g (entry ∷ past) e) (observed g (entry ∷ past) e) (stamp g (entry ∷ past) e) (vals_in g (target g (entry ∷ past)) e) (is_blocked (reply g (entry ∷ past) (Send e))) (failed_since (entry ∷ past) e (observed g (entry ∷ past) e).number) (holder (entry ∷ past) e Low) (holder (entry ∷ past) e High) (open_of g (entry ∷ past) e) =
     λ i. state_from e (s.busy_is i) (s.vals_is i) (s.health_is i) (s.observed_is i) (s.stamp_is i) (vals_in g (goal i) e) (barred i) (failed i) (s.holder_is Low i) (s.holder_is High i) (opened i) in
     state_is g past e ∙ (same ∙ sym (state_is g (entry ∷ past) e))
 

@@ -14,7 +14,7 @@ use Rattle.st_event.specs.declared.journal.Entry.{Entry}
 use Rattle.st_event.specs.History.{History}
 use Rattle.st_event.specs.Moments.{commands, reports}
 use Rattle.st_event.specs.Observed.{actual, sure}
-use Rattle.st_player.specs.declared.changes.Turned.{Turned}
+use Rattle.st_player.specs.declared.turns.Turned.{Turned}
 use Rattle.st_player.specs.declared.snapshot.Held.{Held}
 use Rattle.st_player.specs.declared.state.State.{State}
 use Rattle.st_player.specs.declared.touched.Touched.{Touched}

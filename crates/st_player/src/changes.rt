@@ -1,42 +1,31 @@
 //! What differs after an entry. A snapshot is brought up to date where the entry can have touched it, and what differs there is told: the
 //! states, the promises that turned in the network and in the sure set, the version, and how many proposals wait.
 
-ghost use Rattle.std.specs.Prelude.{◌≡◌, ◌<◌, ◌^◌, ◌==◌, ◌+◌, ◌++◌, IfOk, IfSome, OnOk, codes, length, map, not, option_map, true};
+ghost use Rattle.std.specs.Prelude.{◌≡◌, ◌<◌, ◌==◌, ◌+◌, ◌++◌, IfOk, OnOk, codes, length, map, not, true};
 ghost use Rattle.serde_json.specs.View.{view, members_view};
 ghost use Rattle.st_net.specs.declared.entity.Entity.TheVariants.{Device};
 ghost use Rattle.st_net.specs.Groups.{IsEntityOf};
 ghost use Rattle.st_net.specs.InOrder.{entities_of};
-ghost use Rattle.st_net.specs.Sets.{HasSameMarks, IsMarkIn, MarksOf, is_in};
 ghost use Rattle.st_event.specs.History.{History as history_lem};
-ghost use Rattle.st_event.specs.Observed.{actual, sure as sure_lem};
 ghost use Rattle.st_player.specs.declared.touched.Touched.TheVariants.{Near};
-ghost use Rattle.st_player.specs.Entries.{turned_data, turned_of, with_changes, with_counts};
+ghost use Rattle.st_player.specs.Entries.{with_changes, with_counts};
 ghost use Rattle.st_player.specs.Fields.{changes_from};
 ghost use Rattle.st_player.specs.Json.{number_data, put_list as put_list_lem, put_where as put_where_lem};
 ghost use Rattle.st_player.specs.Plain.{is_plain};
 ghost use Rattle.st_player.specs.Snapshots.{states_of as states_of_lem};
-ghost use Rattle.st_player.specs.Steps.{AllKept, IsHeld, IsSnapshot, shown_in};
-ghost use Rattle.st_player.specs.Touched.{IsRenewed, IsTurned, Touches, change_at, set_at as set_at_lem};
+ghost use Rattle.st_player.specs.Steps.{IsSnapshot, shown_in};
+ghost use Rattle.st_player.specs.Touched.{IsRenewed, Touches, change_at};
 
-use crate::entries::lost;
-use crate::fields::{Fields, change_json, is_same_flag};
+use crate::fields::{Fields, change_json};
 use crate::playback::Playback;
 use crate::safe_json::{Json, JsonList, JsonObject};
-use crate::snapshot::{Held, Snapshot, judge};
-use crate::state::{State, is_sure};
+use crate::snapshot::Snapshot;
+use crate::state::State;
 use crate::touched::Touched;
-use st_control::Control;
-use st_net::{Entity, EntitySet, GroupTopo};
-use st_promise::{is_same_set, is_within};
+use crate::turns::{next_network, next_sure};
+use st_net::Entity;
 use st_world::World;
 use std::alloc::{AllocError, Global};
-
-/// The promises that hold in a set, and which of them turned; nothing where none did.
-#[derive(Drop)]
-struct Turned {
-    held: Held,
-    told: Option<Json>,
-}
 
 /// Adds what becomes of the entity of this number, where its state differs.
 fn add_change(
@@ -158,193 +147,6 @@ fn changes(
             renew_all(&mut list, alloc, behind, states)?;
             Ok(list)
         }
-    }
-}
-
-/// Which promises ceased to hold, and which hold again; nothing where none did.
-fn turned_json(alloc: Global, lost: &[u32], back: &[u32]) -> Result<Option<Json>, AllocError>
-    ensures { IfOk result (λ turned. option_map view turned ≡ turned_data lost.now back.now) }
-{
-    if lost.is_empty() && back.is_empty() {
-        return Ok(None);
-    }
-    let mut object = JsonObject::new(alloc);
-    object.put_numbers("lost", lost)?;
-    object.put_numbers("back", back)?;
-    Ok(Some(Json::object(object)))
-}
-
-/// Which promises turned, by those that held before.
-fn turned_from(alloc: Global, before: &[bool], held: Held) -> Result<Turned, AllocError>
-    requires count { length before.now ≡ length held.kept.items }
-    requires few { length before.now < 2 ^ 32 }
-    ensures held { IfOk result (λ turned. turned.held ≡ held) }
-    ensures told { IfOk result (λ turned. option_map view turned.told ≡ turned_of before.now held.kept.items) }
-{
-    let lost_now = lost(alloc, before, held.kept.as_slice())?;
-    let back = lost(alloc, held.kept.as_slice(), before)?;
-    let told = turned_json(alloc, lost_now.as_slice(), back.as_slice())?;
-    Ok(Turned { held, told })
-}
-
-/// Whether a set in which all promises hold is within another: then they hold in that one too.
-fn shows_all(topo: &GroupTopo, within: &Held, up: &EntitySet) -> bool
-    requires within { IsHeld topo.now (is_in within.now.up) within.now }
-    requires marks { MarksOf topo.now up.now }
-    ensures { result ≡ true → AllKept topo.now (is_in up.now) }
-{
-    topo.is_sound();
-    within.all && is_within(topo, &within.up, up)
-}
-
-/// Whether all promises are shown to hold in a set: by a set beside it, where one is given, or else by the set before it.
-fn is_shown(topo: &GroupTopo, beside: Option<&Held>, before: &Held, up: &EntitySet) -> bool
-    requires beside { IfSome beside (λ held. IsHeld topo.now (is_in held.now.up) held.now) }
-    requires before { IsHeld topo.now (is_in before.now.up) before.now }
-    requires marks { MarksOf topo.now up.now }
-    ensures { result ≡ true → AllKept topo.now (is_in up.now) }
-{
-    match beside {
-        Some(beside) => shows_all(topo, beside, up),
-        None => shows_all(topo, before, up),
-    }
-}
-
-/// The promises that hold in a set where others held before. They are judged, but where all held, and all are shown to hold.
-fn turn(
-    alloc: Global,
-    control: &Control,
-    before: Held,
-    up: EntitySet,
-    is_shown: bool,
-) -> Result<Turned, AllocError>
-    requires before { IsHeld control.now.group (is_in before.up) before }
-    requires marks { MarksOf control.now.group up }
-    requires shown { is_shown ≡ true → AllKept control.now.group (is_in up) }
-    ensures { IfOk result (IsTurned control.now.group (is_in up) before) }
-{
-    let Held { kept, all, .. } = before;
-    if is_shown && all {
-        let held = Held { up, kept, all };
-        return Ok(Turned { held, told: None });
-    }
-    control.topo().is_sound();
-    let held = judge(control, up)?;
-    let turned = turned_from(alloc, kept.as_slice(), held)?;
-    Ok(turned)
-}
-
-/// The same where the set may be as before.
-fn turn_to(
-    alloc: Global,
-    control: &Control,
-    before: Held,
-    up: EntitySet,
-) -> Result<Turned, AllocError>
-    requires before { IsHeld control.now.group (is_in before.up) before }
-    requires marks { MarksOf control.now.group up }
-    ensures { IfOk result (IsTurned control.now.group (is_in up) before) }
-{
-    if is_same_set(control.topo(), &before.up, &up) {
-        return Ok(Turned {
-            held: before,
-            told: None,
-        });
-    }
-    turn(alloc, control, before, up, false)
-}
-
-/// Puts an entity into a set, or takes it out.
-fn set_at(set: &mut EntitySet, at: Entity, is: bool)
-    requires { IsMarkIn set.old at }
-    ensures members { is_in set.new ≡ set_at_lem (is_in set.old) at is }
-    ensures same { HasSameMarks set.old set.new }
-{
-    if is {
-        set.put(at);
-    } else {
-        set.remove(at);
-    }
-}
-
-/// A copy of a set, into which an entity is put or from which it is taken.
-fn moved_set(alloc: Global, set: &EntitySet, at: Entity, is: bool) -> Result<EntitySet, AllocError>
-    requires { IsMarkIn set.now at }
-    ensures members { IfOk result (λ moved. is_in moved ≡ set_at_lem (is_in set.now) at is) }
-    ensures same { IfOk result (HasSameMarks set.now) }
-{
-    let mut moved = set.copy(alloc)?;
-    set_at(&mut moved, at, is);
-    Ok(moved)
-}
-
-/// The same where one entity may have come in or gone out. None is judged where all held and it came in, or where all hold in a set beside it
-/// that is within it.
-fn turn_at(
-    alloc: Global,
-    control: &Control,
-    beside: Option<&Held>,
-    before: Held,
-    at: Entity,
-    is: bool,
-) -> Result<Turned, AllocError>
-    requires beside { IfSome beside (λ held. IsHeld control.now.group (is_in held.now.up) held.now) }
-    requires before { IsHeld control.now.group (is_in before.up) before }
-    requires entity { IsEntityOf control.now.group at }
-    ensures { IfOk result (IsTurned control.now.group (set_at_lem (is_in before.up) at is) before) }
-{
-    if is_same_flag(before.up.has(at), is) {
-        return Ok(Turned {
-            held: before,
-            told: None,
-        });
-    }
-    let up = moved_set(alloc, &before.up, at, is)?;
-    let is_shown = is_shown(control.topo(), beside, &before, &up);
-    turn(alloc, control, before, up, is_shown)
-}
-
-/// The promises that hold in the sure set.
-fn next_sure(
-    alloc: Global,
-    world: &World,
-    before: Held,
-    touched: Touched,
-) -> Result<Turned, AllocError>
-    requires { (h : history_lem) × Touches h world.now.history touched × IsHeld h.group (sure_lem h.group h.past) before }
-    ensures { IfOk result (IsTurned world.now.history.group (sure_lem world.now.history.group world.now.history.past) before) }
-{
-    let control = world.control();
-    match touched {
-        Touched::Nothing => Ok(Turned {
-            held: before,
-            told: None,
-        }),
-        Touched::Near(at) => turn_at(alloc, control, None, before, at, is_sure(world, at)),
-        Touched::All => turn_to(alloc, control, before, control.sure()?),
-    }
-}
-
-/// The promises that hold in the network, beside these of the sure set.
-fn next_network(
-    alloc: Global,
-    world: &World,
-    sure: &Held,
-    before: Held,
-    touched: Touched,
-) -> Result<Turned, AllocError>
-    requires touches { (h : history_lem) × Touches h world.now.history touched × IsHeld h.group (actual h.group h.past) before }
-    requires sure { IsHeld world.now.history.group (is_in sure.now.up) sure.now }
-    ensures { IfOk result (IsTurned world.now.history.group (actual world.now.history.group world.now.history.past) before) }
-{
-    let control = world.control();
-    match touched {
-        Touched::Nothing => Ok(Turned {
-            held: before,
-            told: None,
-        }),
-        Touched::Near(at) => turn_at(alloc, control, Some(sure), before, at, world.is_up(at)),
-        Touched::All => turn_to(alloc, control, before, world.up_set()?),
     }
 }
 

@@ -19,6 +19,7 @@ mod snapshot;
 mod state;
 mod tail;
 mod touched;
+mod turns;
 mod weighing;
 
 pub use answer::{Status, fault_line};

@@ -100,12 +100,10 @@ fn tell_entry(
     ensures shown { IfOk result (λ telling. IsSnapshot behind.now telling.shown) }
     ensures told { IfOk result (λ telling. view telling.told ≡ told_data (shown_in before) (shown_in telling.shown) (members_view words)) }
 {
-    let mut object = words;
-    let shown = next_snapshot(&mut object, alloc, behind, before, touched)?;
-    Ok(Telling {
-        shown,
-        told: Json::object(object),
-    })
+    let mut members = words;
+    let shown = next_snapshot(&mut members, alloc, behind, before, touched)?;
+    let told = Json::object(members);
+    Ok(Telling { shown, told })
 }
 
 /// Goes through the next entry of a legal journal, and tells of it.

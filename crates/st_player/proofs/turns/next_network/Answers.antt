@@ -9,7 +9,7 @@ use Rattle.st_player.specs.declared.touched.Touched.TheVariants.{Nothing, Near}
 use Rattle.st_player.specs.Touched.{IsTurned, Touches, set_at}
 use Rattle.st_player.proofs.ChangeLemmas.{held_same, set_moved, turned_none}
 use Rattle.st_player.proofs.SnapshotLemmas.{held_in_own, held_of}
-use Rattle.st_player.proofs.changes.next_network.Goals as goal
+use Rattle.st_player.proofs.turns.next_network.Goals as goal
 
 pub turn_at-requires-clause-beside : goal.turn_at-requires-clause-beside
 turn_at-requires-clause-beside c = held_of c.args.world.now.history.group c.control-control.result.now.group _ _ c.args.sure.now (sym c.control-control.ensures.group) refl c.requires.sure

@@ -8,7 +8,7 @@ use Rattle.st_player.specs.Touched.{IsTurned}
 use Rattle.st_player.proofs.ChangeLemmas.{set_same, turned_none}
 use Rattle.st_player.proofs.SnapshotLemmas.{held_of}
 use Rattle.st_player.proofs.StateParts.{same_flag}
-use Rattle.st_player.proofs.changes.turn_at.Goals as goal
+use Rattle.st_player.proofs.turns.turn_at.Goals as goal
 
 pub returns-then-is_same_flag : goal.returns-then-is_same_flag
 returns-then-is_same_flag c =

@@ -12,7 +12,7 @@ use Rattle.st_player.specs.declared.touched.Touched.TheVariants.{Nothing, Near}
 use Rattle.st_player.specs.Touched.{IsTurned, Touches, set_at}
 use Rattle.st_player.proofs.ChangeLemmas.{held_same, set_moved, turned_none}
 use Rattle.st_player.proofs.SnapshotLemmas.{held_in_own}
-use Rattle.st_player.proofs.changes.next_sure.Goals as goal
+use Rattle.st_player.proofs.turns.next_sure.Goals as goal
 
 pub turn_at-requires-clause-before : goal.turn_at-requires-clause-before
 turn_at-requires-clause-before c = held_in_own c.requires.0.group c.control-control.result.now.group _ c.args.before (c.requires.1.group ∙ sym c.control-control.ensures.group) c.requires.2

@@ -2,7 +2,7 @@ use Rattle.std.proofs.Common.{refl, sym}
 use Rattle.st_net.specs.Sets.{is_in}
 use Rattle.st_player.proofs.ChangeLemmas.{turned_none}
 use Rattle.st_player.proofs.SnapshotLemmas.{held_of}
-use Rattle.st_player.proofs.changes.turn_to.Goals as goal
+use Rattle.st_player.proofs.turns.turn_to.Goals as goal
 
 pub returns-then-is_same_set : goal.returns-then-is_same_set
 returns-then-is_same_set c =

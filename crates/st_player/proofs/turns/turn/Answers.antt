@@ -4,7 +4,7 @@ use Rattle.st_player.specs.declared.snapshot.Held.{Held}
 use Rattle.st_player.specs.Entries.{turned_of}
 use Rattle.st_player.specs.Steps.{IsHeld}
 use Rattle.st_player.proofs.ChangeLemmas.{kept_alike, turned_none}
-use Rattle.st_player.proofs.changes.turn.Goals as goal
+use Rattle.st_player.proofs.turns.turn.Goals as goal
 
 pub returns-then-all : goal.returns-then-all
 returns-then-all c =

@@ -1,7 +1,7 @@
 use Rattle.std.proofs.Common.{◌∙◌, Bool, ap, sym}
 use Rattle.st_net.specs.Sets.{is_in}
 use Rattle.st_player.specs.Touched.{set_at}
-use Rattle.st_player.proofs.changes.set_at.Goals as goal
+use Rattle.st_player.proofs.turns.set_at.Goals as goal
 
 pub returns-then-is-clause-members : goal.returns-then-is-clause-members
 returns-then-is-clause-members c = c.put.ensures.members ∙ ap (λ (b : Bool). set_at (is_in c.args.set.now) c.args.at b) (sym c.if-is.true)

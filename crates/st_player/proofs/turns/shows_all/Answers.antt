@@ -1,6 +1,6 @@
 use Rattle.st_net.specs.Sets.{is_in}
 use Rattle.st_player.proofs.ChangeLemmas.{all_within}
-use Rattle.st_player.proofs.changes.shows_all.Goals as goal
+use Rattle.st_player.proofs.turns.shows_all.Goals as goal
 
 pub returns-then-within : goal.returns-then-within
 returns-then-within c is =
