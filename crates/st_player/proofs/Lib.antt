@@ -6,7 +6,6 @@ pub mod GroupParts
 pub mod PartLemmas
 pub mod PassLemmas
 pub mod PictureLemmas
-pub mod PlainLemmas
 pub mod PlayLemmas
 pub mod PlaybackLemmas
 pub mod PlayedBack

@@ -1,6 +1,7 @@
 -- What a text comes to, by what its document and its journals come to.
 use Rattle.std.proofs.Common.{◌≡◌, ◌∙◌, ℕ, List, [], ◌++◌, ap, sym, subst}
 use Rattle.std.specs.Prelude.{Result, Ok}
+use Rattle.st_net.specs.declared.parts.Parts.{Parts}
 use Rattle.st_net.specs.Groups.{Group}
 use Rattle.st_event.specs.declared.journal.Journal.{Journal}
 use Rattle.st_token.specs.declared.fault.LineFault.{LineFault}
@@ -16,11 +17,11 @@ use Rattle.st_replay.proofs.Replays.{again_legal, one_each}
 use Rattle.st_player.specs.declared.playing.Played.{Played}
 use Rattle.st_io.specs.declared.reading.ReadEnd.{ReadEnd}
 use Rattle.st_io.specs.Input.{ReadsInput}
-use Rattle.st_player.specs.declared.answer.Status.{Status}
-use Rattle.st_player.specs.declared.answer.Status.TheVariants as ends
-use Rattle.st_player.specs.Answers.{fault_line}
+use Rattle.st_replay.specs.declared.status.Status.{Status}
+use Rattle.st_replay.specs.declared.status.Status.TheVariants as ends
+use Rattle.st_replay.specs.Statuses.{status_line}
 use Rattle.st_player.specs.Calls.{ComesOf, ComesOfSource, Stream}
-use Rattle.st_player.specs.Playing.{IsFault, PlaysRead, PlaysRun, group_name}
+use Rattle.st_player.specs.Playing.{IsFault, PlaysRead, PlaysRun}
 
 -- the journals that a document was read with, or their fault
 pub journals_play : (from : ℕ) (bytes : List ℕ) (doc : Doc) (groups : List Group) (read : Result (List Journal) LineFault) (played : Played) → groups ≡ groups_of doc
@@ -43,11 +44,11 @@ went_well doc topos journals (Worlds worlds) same each is =
 went_well doc topos journals (Illegal group entry) same each is = subst (λ (gs : List Group). IsFirstIllegal gs journals group entry) same is
 
 -- the line of the first entry that is not legal
-pub illegal_plays : (from : ℕ) (doc : Doc) (journals : List Journal) (group entry : ℕ) (name : List ℕ) (played : Played) → name ≡ group_name doc.groups group → IsFirstIllegal (groups_of doc) journals group entry → IsFault name (ends.Illegal group entry) played
+pub illegal_plays : (from : ℕ) (doc : Doc) (journals : List Journal) (group entry : ℕ) (groups : List Parts) (played : Played) → groups ≡ doc.groups → IsFirstIllegal (groups_of doc) journals group entry → IsFault groups (ends.Illegal group entry) played
     → PlaysRun from (record { doc = doc; journals = journals }) played.status played.text
-illegal_plays from doc journals group entry name played named first is =
+illegal_plays from doc journals group entry groups played same first is =
     subst (λ (s : Status). PlaysRun from (record { doc = doc; journals = journals }) s played.text) (sym is.status_is)
-    (first, is.text_is ∙ ap (λ (n : List ℕ). fault_line n (ends.Illegal group entry)) named)
+    (first, is.text_is ∙ ap (λ (ps : List Parts). status_line ps (ends.Illegal group entry)) same)
 
 -- what a source comes to that was read so
 pub source_comes : (from : ℕ) (old new : Stream) (bytes : List ℕ) (end : ReadEnd) (played : Played) → ReadsInput old.bytes new.bytes old.faults new.faults bytes end → ComesOf from bytes end played → ComesOfSource from old new played

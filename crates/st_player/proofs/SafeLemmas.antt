@@ -1,21 +1,20 @@
 -- Values of JSON stay safe where one is put to others.
-use Rattle.std.proofs.Common.{◌≡◌, ◌∙◌, ℕ, zero, suc, ◌<◌, ◌%◌, ◌/◌, true, false, Bool, cond, List, [], ◌∷◌, ◌++◌, refl, sym, ap, arith, Ordering, Less, Equal, Greater, nat_cmp, subst, String, Global, Result, Ok, Err, OnOk, OnErr}
+use Rattle.std.proofs.Common.{◌≡◌, ◌∙◌, ℕ, true, false, Bool, List, [], ◌∷◌, ◌++◌, refl, sym, ap, arith, Ordering, Less, Equal, Greater, nat_cmp, subst, String, Global, Result, Ok, Err, OnOk, OnErr}
 use Rattle.std.specs.Prelude.{◌&&◌, ◌||◌, ◌==◌, decimal}
 use Rattle.std.specs.Cmp.Lexicographic.{slice_cmp}
-use Rattle.std.specs.Fmt.{digits, digits_onto, digit_glyph}
 use Rattle.std.specs.Ordering.{match_ordering}
-use Rattle.std.specs.Str.{IsAscii, IsUtf8}
 use Rattle.std.proofs.lemmas.Bool.Decides.{nat_tests}
 use Rattle.std.proofs.lemmas.List.Folds.{list_all-append}
-use Rattle.std.proofs.lemmas.Str.{IsUtf8-from_ascii}
 use Rattle.json.specs.Print.{escape, escape_byte, quoted}
 use Rattle.serde_json.specs.Data.{Data, Items, Members, object, string, no_items, item, no_members, member, put}
 use Rattle.std.specs.declared.alloc.AllocError.{AllocError}
 use Rattle.serde_json.specs.declared.value.Value.{Value}
 use Rattle.serde_json.specs.View.{items_of, items_view, members_view, view}
 use Rattle.serde_json.specs.Written.{compact_text, items_text, members_text, has_float, items_have_float, members_have_float, comma_if}
+use Rattle.st_entry.specs.Plain.{is_plain_byte, is_plain}
+use Rattle.st_entry.proofs.Plain.{number_plain}
 use Rattle.st_player.specs.Json.{number_data, list_data}
-use Rattle.st_player.specs.Plain.{is_plain_byte, is_plain, is_shown_byte, is_shown}
+use Rattle.st_player.specs.Shown.{is_shown_byte, is_shown}
 use Rattle.st_player.specs.Safe.{IsSafe, are_items_shown, are_members_shown, AreSafeItems, AreSafeMembers}
 
 pub both : (a b : Bool) → (a && b) ≡ true → (a ≡ true) × (b ≡ true)
@@ -29,30 +28,6 @@ neither false b h = (refl, h)
 pub shown_join : (xs ys : List ℕ) → is_shown xs ≡ true → is_shown ys ≡ true → is_shown (xs ++ ys) ≡ true
 shown_join xs ys first second = list_all-append is_shown_byte xs ys ∙ rw (first, second) refl
 
--- numbers
-digit_shown : (d : ℕ) → d < 10 → is_shown_byte (digit_glyph false d) ≡ true
-digit_shown d small = grind (arith, nat_tests)
-
-last_digit_shown : (n : ℕ) → is_shown_byte (digit_glyph false (n % 10)) ≡ true
-last_digit_shown n = digit_shown (n % 10) (omega arith)
-
-either_shown : (b : Bool) (xs ys : List ℕ) → is_shown xs ≡ true → is_shown ys ≡ true → is_shown (cond b xs ys) ≡ true
-either_shown true xs ys first second = first
-either_shown false xs ys first second = second
-
-digits_shown : (k n : ℕ) (acc : List ℕ) → is_shown acc ≡ true → is_shown (digits_onto k 10 false n acc) ≡ true
-digits_shown zero n acc shown = shown
-digits_shown (suc k) n acc shown =
-    let more : is_shown (digit_glyph false (n % 10) ∷ acc) ≡ true = rw (last_digit_shown n) shown in
-    either_shown (n / 10 == 0) (digit_glyph false (n % 10) ∷ acc) (digits_onto k 10 false (n / 10) (digit_glyph false (n % 10) ∷ acc)) more (digits_shown k (n / 10) (digit_glyph false (n % 10) ∷ acc) more)
-
-number_shown : (n : ℕ) → is_shown (decimal n) ≡ true
-unfolding digits
-number_shown n = digits_shown 64 n [] refl
-
-pub number_safe : (n : ℕ) → IsSafe (number_data n)
-number_safe n = record { exact = refl; shown = number_shown n }
-
 -- texts
 byte_escape : (b : ℕ) → is_plain_byte b ≡ true → escape_byte b ≡ b ∷ []
 unfolding escape_byte
@@ -62,11 +37,14 @@ escape_plain : (text : List ℕ) → is_plain text ≡ true → escape text ≡ 
 escape_plain [] h = refl
 escape_plain (b ∷ more) h = let parts = both (is_plain_byte b) (is_plain more) h in rw (byte_escape b parts.0) (ap (λ xs. b ∷ xs) (escape_plain more parts.1))
 
+byte_shown : (b : ℕ) → is_plain_byte b ≡ true → is_shown_byte b ≡ true
+byte_shown b h = rw h refl
+
 plain_shown : (text : List ℕ) → is_plain text ≡ true → is_shown text ≡ true
 plain_shown [] h = refl
 plain_shown (b ∷ more) h =
     let parts = both (is_plain_byte b) (is_plain more) h in
-    rw ((both (is_shown_byte b) _ parts.0).0) (plain_shown more parts.1)
+    rw (byte_shown b parts.0) (plain_shown more parts.1)
 
 pub quoted_shown : (text : List ℕ) → is_plain text ≡ true → is_shown (quoted text) ≡ true
 quoted_shown text h = ap is_shown (ap (λ e. 34 ∷ (e ++ 34 ∷ [])) (escape_plain text h)) ∙ shown_join text (34 ∷ []) (plain_shown text h) refl
@@ -74,16 +52,9 @@ quoted_shown text h = ap is_shown (ap (λ e. 34 ∷ (e ++ 34 ∷ [])) (escape_pl
 pub text_safe : (text : List ℕ) → is_plain text ≡ true → IsSafe (string text)
 text_safe text h = record { exact = refl; shown = quoted_shown text h }
 
-byte_ascii : (b : ℕ) → is_plain_byte b ≡ true → b < 128
-byte_ascii b h = grind (arith, nat_tests)
-
-plain_ascii : (text : List ℕ) → is_plain text ≡ true → IsAscii text
-plain_ascii [] plain i = omega arith
-plain_ascii (b ∷ bs) plain zero = byte_ascii b (both (is_plain_byte b) (is_plain bs) plain).0
-plain_ascii (b ∷ bs) plain (suc i) = plain_ascii bs (both (is_plain_byte b) (is_plain bs) plain).1 i
-
-pub plain_utf8 : (text : List ℕ) → is_plain text ≡ true → IsUtf8 text
-plain_utf8 text h = IsUtf8-from_ascii text (plain_ascii text h)
+-- numbers
+pub number_safe : (n : ℕ) → IsSafe (number_data n)
+number_safe n = record { exact = refl; shown = plain_shown (decimal n) (number_plain n) }
 
 -- lists
 comma_shown : (b : Bool) → is_shown (comma_if b) ≡ true

@@ -1,9 +1,10 @@
 -- Worked examples: what words ask for, what a call says at its end, and which bytes a page's data can have.
 use Rattle.std.proofs.Common.{◌≡◌, true, false, [], ◌∷◌, Some, None, refl, codes}
 use Rattle.st_io.specs.declared.writing.Written.TheVariants as ways
-use Rattle.st_player.specs.declared.answer.Status.TheVariants as ends
-use Rattle.st_player.specs.Calls.{from_of, told}
-use Rattle.st_player.specs.Plain.{is_plain, is_plain_byte, is_shown, is_shown_byte}
+use Rattle.st_replay.specs.declared.status.Status.TheVariants as ends
+use Rattle.st_replay.specs.Statuses.{told}
+use Rattle.st_player.specs.Calls.{from_of}
+use Rattle.st_player.specs.Shown.{is_shown, is_shown_byte}
 
 -- no words are from the start
 no_words : from_of [] ≡ Some 0
@@ -89,24 +90,12 @@ before_less_than = refl
 greater_than : is_shown_byte 62 ≡ true
 greater_than = refl
 
--- a quote and a backslash are shown, and want an escape
+-- a quote and a backslash are shown, though they are not plain
 quote_shown : is_shown_byte 34 ≡ true
 quote_shown = refl
 
-quote_plain : is_plain_byte 34 ≡ false
-quote_plain = refl
-
 backslash_shown : is_shown_byte 92 ≡ true
 backslash_shown = refl
-
-backslash_plain : is_plain_byte 92 ≡ false
-backslash_plain = refl
-
-letter_plain : is_plain_byte 97 ≡ true
-letter_plain = refl
-
-less_than_plain : is_plain_byte 60 ≡ false
-less_than_plain = refl
 
 -- each byte of a text counts
 text_shown : is_shown (codes "report a : reported 1") ≡ true
@@ -114,12 +103,3 @@ text_shown = refl
 
 text_not_shown : is_shown (codes "ends </script>") ≡ false
 text_not_shown = refl
-
-text_plain : is_plain (codes "a1.firmware=2") ≡ true
-text_plain = refl
-
-text_quoted : is_plain (codes "say \"a\"") ≡ false
-text_quoted = refl
-
-empty_plain : is_plain [] ≡ true
-empty_plain = refl

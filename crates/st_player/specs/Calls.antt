@@ -7,14 +7,13 @@ use Rattle.std.specs.Vec.Iter.{into_iter_items}
 use Rattle.st_io.specs.declared.reading.ReadEnd.{ReadEnd}
 use Rattle.st_io.specs.declared.reading.ReadEnd.TheVariants as reads
 use Rattle.st_io.specs.declared.writing.Written.{Written}
-use Rattle.st_io.specs.declared.writing.Written.TheVariants as ways
 use Rattle.st_io.specs.Input.{ReadsInput}
 use Rattle.st_io.specs.Output.{Writes}
 use Rattle.st_text.specs.Numbers.{number_of}
-use Rattle.st_player.specs.declared.answer.Status.{Status}
-use Rattle.st_player.specs.declared.answer.Status.TheVariants as ends
+use Rattle.st_replay.specs.Statuses.{exit_code_of, told}
+use Rattle.st_replay.specs.declared.status.Status.{Status}
+use Rattle.st_replay.specs.declared.status.Status.TheVariants as ends
 use Rattle.st_player.specs.declared.playing.Played.{Played}
-use Rattle.st_player.specs.Answers.{exit_code_of}
 use Rattle.st_player.specs.Playing.{IsFault, Plays}
 
 -- how many entries stand before the page: `--from N`, or no words; other words are none of the player's
@@ -55,12 +54,6 @@ pub record ComesOfNone (old new : Stream) (played : Played) : Type 0 where
 abbrev pub IsCalledFor : Option ℕ → Stream → Stream → Played → Type 0
 IsCalledFor None old new played = ComesOfNone old new played
 IsCalledFor (Some from) old new played = ComesOfSource from old new played
-
--- the status that is told once writing ended so
-abbrev pub told : Written → Status → Status
-told ways.All status = status
-told ways.Failed status = ends.WriteFault
-told ways.OutOfMemory status = ends.OutOfMemory
 
 -- what was called for was written, as far as the status tells
 pub record WritesCalled (from : Option ℕ) (source_old source_new sink_old sink_new : Stream) (status : Status) : Type 0 where

@@ -1,4 +1,3 @@
-pub mod Answers
 pub mod Calls
 pub mod Cuts
 pub mod Entries
@@ -7,11 +6,11 @@ pub mod Inside
 pub mod Json
 pub mod Laws
 pub mod Pictures
-pub mod Plain
 pub mod PlayedBack
 pub mod Playing
 pub mod Refusals
 pub mod Safe
+pub mod Shown
 pub mod Snapshots
 pub mod States
 pub mod Steps

@@ -1,16 +1,16 @@
 -- What a text comes to: its page, or the first fault, as a replay tells it.
-use Rattle.std.specs.Prelude.{◌≡◌, ℕ, List, [], ◌++◌, map, slice_get, Option, Some, None, Result, Ok, Err}
+use Rattle.std.specs.Prelude.{◌≡◌, ℕ, List, [], ◌++◌, map, Result, Ok, Err}
 use Rattle.serde_json.specs.Written.{compact_text}
 use Rattle.st_net.specs.declared.parts.Parts.{Parts}
 use Rattle.st_token.specs.declared.fault.LineFault.{LineFault}
 use Rattle.st_serial.specs.Kept.{groups_of}
 use Rattle.st_replay.specs.Replaying.{AreLegal, IsFirstIllegal, Replay, app_names, replay_of}
-use Rattle.st_player.specs.declared.answer.Status.{Status}
-use Rattle.st_player.specs.declared.answer.Status.TheVariants as ends
+use Rattle.st_replay.specs.Statuses.{status_line}
+use Rattle.st_replay.specs.declared.status.Status.{Status}
+use Rattle.st_replay.specs.declared.status.Status.TheVariants as ends
 use Rattle.st_player.specs.declared.playing.Played.{Played}
 use Rattle.st_player.specs.declared.head.TheConstants.{HEAD}
 use Rattle.st_player.specs.declared.tail.TheConstants.{TAIL}
-use Rattle.st_player.specs.Answers.{fault_line}
 use Rattle.st_player.specs.Pictures.{picture}
 
 -- the page with this data
@@ -21,24 +21,16 @@ page_with data_text = HEAD.now ++ data_text ++ TAIL.now
 abbrev pub page_of : ℕ → Replay → List ℕ
 page_of from run = page_with (compact_text (picture (app_names run.doc) from (groups_of run.doc) (map (λ journal. journal.entries) run.journals)))
 
--- the name of a group by its number; no bytes where there is none
-abbrev pub name_or_none : Option Parts → List ℕ
-name_or_none None = []
-name_or_none (Some parts) = parts.name
-
-abbrev pub group_name : List Parts → ℕ → List ℕ
-group_name groups n = name_or_none (slice_get groups n)
-
 -- a run comes to its page where each journal is legal, and else to the line of the first entry that is not
 abbrev pub PlaysRun : ℕ → Replay → Status → List ℕ → Type 0
 PlaysRun from run ends.Ok text = AreLegal (groups_of run.doc) run.journals × (text ≡ page_of from run)
-PlaysRun from run (ends.Illegal group entry) text = IsFirstIllegal (groups_of run.doc) run.journals group entry × (text ≡ fault_line (group_name run.doc.groups group) (ends.Illegal group entry))
+PlaysRun from run (ends.Illegal group entry) text = IsFirstIllegal (groups_of run.doc) run.journals group entry × (text ≡ status_line run.doc.groups (ends.Illegal group entry))
 PlaysRun from run _ text = ⊥
 
--- a fault comes to its line, where the group that it names has this name
-pub record IsFault (name : List ℕ) (status : Status) (played : Played) : Type 0 where
+-- a fault comes to its line, where the groups of the document are these
+pub record IsFault (groups : List Parts) (status : Status) (played : Played) : Type 0 where
   pub status_is : played.status ≡ status
-  pub text_is : played.text ≡ fault_line name status
+  pub text_is : played.text ≡ status_line groups status
 
 -- a text comes to what its run does, or to the line of its first bad line
 abbrev pub PlaysRead : ℕ → Result Replay LineFault → Played → Type 0

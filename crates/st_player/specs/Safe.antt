@@ -3,7 +3,7 @@ use Rattle.std.specs.Prelude.{◌≡◌, Bool, true, false, ◌&&◌}
 use Rattle.json.specs.Print.{quoted}
 use Rattle.serde_json.specs.Data.{Data, Items, no_items, item, Members, no_members, member}
 use Rattle.serde_json.specs.Written.{compact_text, has_float, items_have_float, members_have_float}
-use Rattle.st_player.specs.Plain.{is_shown}
+use Rattle.st_player.specs.Shown.{is_shown}
 
 pub record IsSafe (d : Data) : Type 0 where
   pub exact : has_float d ≡ false

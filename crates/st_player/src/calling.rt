@@ -3,12 +3,12 @@
 ghost use Rattle.std.specs.Prelude.{◌≡◌, drop, map, string_bytes, IfOk};
 ghost use Rattle.std.specs.Process.{exit_status};
 ghost use Rattle.std.specs.Vec.Iter.{into_iter_items};
-ghost use Rattle.st_player.specs.Answers.{exit_code_of};
-ghost use Rattle.st_player.specs.Calls.{ComesOfSource, Ends, IsCalledFor, ProgramEnds, from_in as from_in_lem, from_of as from_of_lem, told as told_lem};
+ghost use Rattle.st_replay.specs.Statuses.{exit_code_of};
+ghost use Rattle.st_player.specs.Calls.{ComesOfSource, Ends, IsCalledFor, ProgramEnds, from_in as from_in_lem, from_of as from_of_lem};
 
-use crate::answer::Status;
 use crate::playing::{Played, fault, play};
-use st_io::{ReadEnd, Sink, Source, Written, read_all, write_all};
+use st_io::{ReadEnd, Sink, Source, read_all, write_all};
+use st_replay::Status;
 use st_text::number;
 use std::alloc::{AllocError, Global};
 use std::env::Args;
@@ -64,8 +64,8 @@ fn play_source<S: Source>(alloc: Global, from: u32, source: &mut S) -> Result<Pl
     let input = read_all(alloc, source)?;
     match input.end {
         ReadEnd::End => play(alloc, input.bytes.as_slice(), from),
-        ReadEnd::Failed => fault(alloc, b"", Status::ReadFault),
-        ReadEnd::TooLong => fault(alloc, b"", Status::TooLong),
+        ReadEnd::Failed => fault(alloc, &[], Status::ReadFault),
+        ReadEnd::TooLong => fault(alloc, &[], Status::TooLong),
     }
 }
 
@@ -81,18 +81,7 @@ fn prepare<S: Source>(
 {
     match from {
         Some(from) => play_source(alloc, from, source),
-        None => fault(alloc, b"", Status::Usage),
-    }
-}
-
-/// The status that is told once writing ended so.
-fn told(written: Written, status: Status) -> Status
-    ensures { result ≡ told_lem written status }
-{
-    match written {
-        Written::All => status,
-        Written::Failed => Status::WriteFault,
-        Written::OutOfMemory => Status::OutOfMemory,
+        None => fault(alloc, &[], Status::Usage),
     }
 }
 
@@ -111,7 +100,7 @@ pub fn player<S: Source, K: Sink>(
         (record { bytes = K.held sink.new; faults = K.faults sink.new }) result }
 {
     match prepare(alloc, from, source) {
-        Ok(played) => told(write_all(sink, played.text.bytes()), played.status),
+        Ok(played) => played.status.told(write_all(sink, played.text.bytes())),
         Err(_) => Status::OutOfMemory,
     }
 }

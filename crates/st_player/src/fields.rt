@@ -3,8 +3,8 @@
 ghost use Rattle.std.specs.Prelude.{◌≡◌, IfOk, OnOk, true};
 ghost use Rattle.serde_json.specs.Data.{no_members, put as put_lem};
 ghost use Rattle.serde_json.specs.View.{view, members_view};
+ghost use Rattle.st_entry.specs.Plain.{is_plain};
 ghost use Rattle.st_player.specs.Json.{put_where};
-ghost use Rattle.st_player.specs.Plain.{is_plain};
 ghost use Rattle.st_player.specs.Fields.{all_fields, fields_between, has_field, is_same_flag as is_same_flag_lem, is_same_holder as is_same_holder_lem, is_same_open as is_same_open_lem, vals_data, holder_data, put_open as put_open_lem, with_standing, with_values, with_numbers, with_holders, with_fields, state_data, change_data};
 
 use crate::safe_json::{Json, JsonObject};

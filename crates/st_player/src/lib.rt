@@ -2,7 +2,6 @@
 //! groups' worlds, entry by entry, and stands in the page's data; the page's script only shows it.
 #![tactic(auto)]
 
-mod answer;
 mod calling;
 mod changes;
 mod cuts;
@@ -22,9 +21,9 @@ mod touched;
 mod turns;
 mod weighing;
 
-pub use answer::{Status, fault_line};
 pub use calling::{player, run_player};
 pub use playing::{Played, play};
+pub use st_replay::Status;
 
 #[cfg(test)]
 mod tests;

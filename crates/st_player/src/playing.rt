@@ -9,9 +9,8 @@ ghost use Rattle.st_grammar.specs.Sound.{IsSoundDoc};
 ghost use Rattle.st_journal.specs.JournalReading.{AreJournalsOf};
 ghost use Rattle.st_serial.specs.Kept.{groups_of};
 ghost use Rattle.st_replay.specs.Replaying.{AreLegal, HasFewEntries, replay_with};
-ghost use Rattle.st_player.specs.Playing.{IsFault, Plays, PlaysRead, PlaysRun, group_name as group_name_lem, page_of, page_with};
+ghost use Rattle.st_player.specs.Playing.{IsFault, Plays, PlaysRead, PlaysRun, page_of, page_with};
 
-use crate::answer::{Status, fault_line};
 use crate::head::HEAD;
 use crate::pictures::picture;
 use crate::safe_json::Json;
@@ -20,7 +19,7 @@ use st_doc::{Doc, DocRead, read_doc};
 use st_event::Journal;
 use st_journal::JournalsRead;
 use st_net::{GroupTopo, Parts};
-use st_replay::{Again, app_names, journals_read, replay_all, topos_of};
+use st_replay::{Again, Status, app_names, journals_read, replay_all, status_line, topos_of};
 use st_text::Text;
 use std::alloc::{AllocError, Global};
 
@@ -78,24 +77,14 @@ fn show(alloc: Global, doc: &Doc, journals: &[Journal], from: u32) -> Result<Pla
     })
 }
 
-/// What a fault comes to, of the group of this name where it tells of one.
-pub(crate) fn fault(alloc: Global, name: &[u8], status: Status) -> Result<Played, AllocError>
-    ensures { IfOk result (IsFault name.now status) }
+/// What a fault comes to, where the groups of the document are these; none where it was not read.
+pub(crate) fn fault(alloc: Global, groups: &[Parts], status: Status) -> Result<Played, AllocError>
+    ensures { IfOk result (IsFault groups.now status) }
 {
     Ok(Played {
         status,
-        text: fault_line(alloc, name, status)?,
+        text: status_line(alloc, groups, status)?,
     })
-}
-
-/// The name of a group by its number; no bytes where there is none.
-fn group_name(groups: &[Parts], n: u32) -> &[u8]
-    ensures { result.now ≡ group_name_lem groups.now n }
-{
-    match groups.get(n as usize) {
-        Some(parts) => parts.name.bytes(),
-        None => b"",
-    }
 }
 
 /// What a document with its journals comes to, whose groups are these: its page, or the line that names the first entry that is not legal.
@@ -118,8 +107,8 @@ fn play_journals(
             show(alloc, doc, journals, from)
         }
         Again::Illegal { group, entry } => {
-            let name = group_name(doc.groups.as_slice(), group);
-            fault(alloc, name, Status::Illegal { group, entry })
+            let status = Status::Illegal { group, entry };
+            fault(alloc, doc.groups.as_slice(), status)
         }
     }
 }
@@ -136,7 +125,7 @@ fn play_doc(alloc: Global, bytes: &[u8], doc: &Doc, from: u32) -> Result<Played,
         JournalsRead::Journals(journals) => {
             play_journals(alloc, doc, topos, journals.as_slice(), from)
         }
-        JournalsRead::Fault { line, kind } => fault(alloc, b"", Status::BadInput { line, kind }),
+        JournalsRead::Fault { line, kind } => fault(alloc, &[], Status::BadInput { line, kind }),
     }
 }
 
@@ -154,7 +143,7 @@ pub fn play(alloc: Global, bytes: &[u8], from: u32) -> Result<Played, AllocError
                 line: found.line,
                 kind: found.kind,
             };
-            fault(alloc, b"", status)
+            fault(alloc, &[], status)
         }
     }
 }

@@ -5,8 +5,9 @@ ghost use Rattle.std.specs.Prelude.{◌≡◌, ◌++◌, ◌∷◌, [], IfOk, On
 ghost use Rattle.serde_json.specs.Data.{object as object_lem, string, no_members, put as put_lem};
 ghost use Rattle.serde_json.specs.View.{view, members_view};
 ghost use Rattle.serde_json.specs.Written.{compact_text};
-ghost use Rattle.st_player.specs.Plain.{is_plain, is_shown};
+ghost use Rattle.st_entry.specs.Plain.{is_plain};
 ghost use Rattle.st_player.specs.Json.{number_data, flag_data, list_data, numbers_data, number_or_null, put_list as put_list_lem, put_some as put_some_lem, put_where as put_where_lem};
+ghost use Rattle.st_player.specs.Shown.{is_shown};
 
 use serde_json::{Map, Value, put};
 use std::alloc::{AllocError, Global};

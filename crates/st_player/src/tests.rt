@@ -1,11 +1,11 @@
 //! Small texts are played, and what they come to is compared whole: the data of the pages, and the lines of faults. The whole page is the
 //! stored run of the program.
 
-use crate::answer::Status;
 use crate::head::HEAD;
 use crate::playing::{Played, play};
 use crate::tail::TAIL;
 use st_io::MAX_BYTES;
+use st_replay::Status;
 use std::alloc::{AllocError, Global};
 use std::test::Fail;
 

@@ -1,5 +1,5 @@
 use Rattle.std.proofs.Common.{ℕ, Option, refl, inr, subst}
-use Rattle.st_player.specs.declared.answer.Status.TheVariants.{OutOfMemory}
+use Rattle.st_replay.specs.declared.status.Status.TheVariants.{OutOfMemory}
 use Rattle.st_player.specs.Calls.{Ends, Stream}
 use Rattle.st_player.proofs.calling.run_player.Goals as goal
 

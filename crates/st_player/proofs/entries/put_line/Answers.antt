@@ -5,8 +5,9 @@ use Rattle.st_text.proofs.PrintLemmas.{ok_by}
 use Rattle.st_entry.specs.Entries.{event_words, reply_words}
 use Rattle.st_entry.specs.Keywords.{reply_mark}
 use Rattle.std.specs.Prelude.{◌++◌, ◌∷◌}
-use Rattle.st_player.specs.Plain.{is_plain}
-use Rattle.st_player.proofs.PlainLemmas.{words_plain, rest_plain, unspaced}
+use Rattle.st_entry.specs.Plain.{is_plain}
+use Rattle.st_entry.proofs.Lines.{unspaced}
+use Rattle.st_entry.proofs.Plain.{words_plain, rest_plain}
 use Rattle.st_player.proofs.entries.put_line.Goals as goal
 
 pub put_text-requires-clause-text : goal.put_text-requires-clause-text

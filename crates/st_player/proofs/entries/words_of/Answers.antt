@@ -2,7 +2,7 @@ use Rattle.std.proofs.Common.{◌∙◌, ap, sym, [], ◌∷◌, ◌++◌, appen
 use Rattle.st_text.specs.Words.{spaced}
 use Rattle.st_entry.specs.Entries.{event_words, reply_words}
 use Rattle.st_entry.specs.Keywords.{reply_mark}
-use Rattle.st_player.proofs.PlainLemmas.{spaced_both}
+use Rattle.st_entry.proofs.Lines.{spaced_both}
 use Rattle.st_player.proofs.entries.words_of.Goals as goal
 
 pub returns : goal.returns

@@ -1,4 +1,4 @@
-use Rattle.st_player.proofs.PlainLemmas.{name_plain}
+use Rattle.st_entry.proofs.Plain.{name_plain}
 use Rattle.st_player.proofs.pictures.apps_json.Goals as goal
 
 pub text-requires : goal.text-requires

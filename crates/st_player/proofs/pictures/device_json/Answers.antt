@@ -1,4 +1,4 @@
-use Rattle.st_player.proofs.PlainLemmas.{name_plain}
+use Rattle.st_entry.proofs.Plain.{name_plain}
 use Rattle.st_player.proofs.pictures.device_json.Goals as goal
 
 pub put_text-requires-clause-text : goal.put_text-requires-clause-text

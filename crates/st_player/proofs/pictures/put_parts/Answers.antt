@@ -1,6 +1,6 @@
 use Rattle.std.proofs.Common.{rules}
 use Rattle.st_player.specs.Pictures.{with_parts}
-use Rattle.st_player.proofs.PlainLemmas.{name_plain}
+use Rattle.st_entry.proofs.Plain.{name_plain}
 use Rattle.st_player.proofs.pictures.put_parts.Goals as goal
 
 pub put_text-requires-clause-text : goal.put_text-requires-clause-text

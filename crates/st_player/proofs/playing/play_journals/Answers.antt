@@ -1,8 +1,6 @@
-use Rattle.std.proofs.Common.{◌∙◌, List, ap, subst}
+use Rattle.std.proofs.Common.{subst}
 use Rattle.std.proofs.lemmas.Result.{IfOk-weaker}
-use Rattle.st_net.specs.declared.parts.Parts.{Parts}
 use Rattle.st_replay.specs.declared.replaying.Again.{Again}
-use Rattle.st_player.specs.Playing.{group_name}
 use Rattle.st_player.proofs.ReplayLemmas.{IsWell, illegal_plays, went_well}
 use Rattle.st_player.proofs.playing.play_journals.Goals as goal
 
@@ -18,5 +16,4 @@ returns-in-Illegal c =
     let group = c.in-Illegal.group in
     let well = went_well doc c.args.topos.items journals _ c.requires.groups c.requires.each c.in_ok-worlds.ensures in
     let first = subst (λ (a : Again). IsWell doc journals a) c.in-Illegal.is well in
-    let named = c.group_name-name.ensures ∙ ap (λ (groups : List Parts). group_name groups group) c.as_slice.ensures in
-    IfOk-weaker _ _ _ (λ played is. illegal_plays c.args.from doc journals group c.in-Illegal.entry _ played named first is) c.fault.ensures
+    IfOk-weaker _ _ _ (λ played is. illegal_plays c.args.from doc journals group c.in-Illegal.entry _ played c.as_slice.ensures first is) c.fault.ensures

@@ -2,7 +2,8 @@ use Rattle.std.proofs.Common.{◌≡◌, subst, sym, rules}
 use Rattle.serde_json.specs.Data.{Data, string}
 use Rattle.serde_json.specs.View.{view}
 use Rattle.st_player.specs.Safe.{IsSafe}
-use Rattle.st_player.proofs.SafeLemmas.{text_safe, plain_utf8}
+use Rattle.st_entry.proofs.Plain.{plain_utf8}
+use Rattle.st_player.proofs.SafeLemmas.{text_safe}
 use Rattle.st_player.proofs.safe_json.Json.text.Goals as goal
 
 pub invariant_of-result : goal.invariant_of-result
