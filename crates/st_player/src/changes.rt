@@ -11,7 +11,7 @@ ghost use Rattle.st_player.specs.declared.touched.Touched.TheVariants.{Near};
 ghost use Rattle.st_player.specs.Entries.{with_changes, with_counts};
 ghost use Rattle.st_player.specs.Fields.{changes_from};
 ghost use Rattle.st_player.specs.Json.{number_data, put_list as put_list_lem, put_where as put_where_lem};
-ghost use Rattle.st_player.specs.Plain.{is_plain};
+ghost use Rattle.st_entry.specs.Plain.{is_plain};
 ghost use Rattle.st_player.specs.Snapshots.{states_of as states_of_lem};
 ghost use Rattle.st_player.specs.Steps.{IsSnapshot, shown_in};
 ghost use Rattle.st_player.specs.Touched.{IsRenewed, Touches, change_at};
