@@ -1,12 +1,10 @@
 //! Checks of a world, of proposals that give one switch after another a new firmware: each is decided by a step, or judged away from
 //! the world and committed.
 
-use crate::group::Switches;
-use crate::worlds::open;
+use st_bench_groups::{Outcome, Switches, check, commit, open_world, submit};
 use st_control::{Begin, Judged, judge_basis};
-use st_event::{Event, Reply, Rows, Verdict};
-use st_net::{AppId, Entity, GroupTopo, Row, Var};
-use st_world::{Committed, Stepped, World};
+use st_net::GroupTopo;
+use st_world::World;
 use std::alloc::{AllocError, Global};
 use std::thread::Threads;
 
@@ -31,14 +29,6 @@ pub struct Decided {
     pub refused: u32,
 }
 
-/// What came of a proposal.
-#[derive(Clone, Copy)]
-pub enum Outcome {
-    Accepted,
-    Refused,
-    Undecided,
-}
-
 impl Decided {
     fn none() -> Decided {
         Decided {
@@ -57,54 +47,6 @@ impl Decided {
     }
 }
 
-/// What a verdict says.
-pub fn outcome_of(verdict: &Verdict) -> Outcome {
-    match verdict {
-        Verdict::Accepted { .. } => Outcome::Accepted,
-        Verdict::Refused(_) => Outcome::Refused,
-    }
-}
-
-fn outcome_of_step(stepped: &Stepped) -> Outcome {
-    match stepped {
-        Stepped::Did(Reply::Decided(receipt)) => outcome_of(&receipt.verdict),
-        _ => Outcome::Undecided,
-    }
-}
-
-fn outcome_of_commit(committed: &Committed) -> Outcome {
-    match committed {
-        Committed::Did(receipt) => outcome_of(&receipt.verdict),
-        _ => Outcome::Undecided,
-    }
-}
-
-/// Gives a switch this firmware.
-pub fn row_of(switch: u32, firmware: u32) -> Row {
-    Row {
-        entity: Entity::Device(switch),
-        var: Var::Firmware,
-        value: firmware,
-    }
-}
-
-/// Proposes that a switch gets this firmware.
-pub fn submit(
-    alloc: Global,
-    world: &mut World,
-    switch: u32,
-    firmware: u32,
-) -> Result<(), AllocError> {
-    let row = row_of(switch, firmware);
-    let rows = Rows::from_slice(alloc, [row].as_slice())?;
-    let app = AppId(0);
-    let event = Event::Submit { app, rows };
-    if world.fits(&event) {
-        world.step(event)?;
-    }
-    Ok(())
-}
-
 /// What is found of the oldest proposal away from its world; None where none waits.
 fn judged(
     rt: &(impl Threads + Sync),
@@ -115,21 +57,6 @@ fn judged(
         Begin::Basis(basis) => Ok(Some(judge_basis(rt, alloc, basis)?)),
         Begin::Idle => Ok(None),
     }
-}
-
-/// Decides the oldest proposal by a step.
-pub fn check(world: &mut World) -> Result<Outcome, AllocError> {
-    let stepped = world.step(Event::Check)?;
-    Ok(outcome_of_step(&stepped))
-}
-
-/// Decides a proposal that was judged away from its world.
-pub fn commit(world: &mut World, judged: &Judged) -> Result<Outcome, AllocError> {
-    if !world.may_commit(judged) {
-        return Ok(Outcome::Undecided);
-    }
-    let committed = world.commit(judged)?;
-    Ok(outcome_of_commit(&committed))
 }
 
 /// Takes so many bases of one proposal.
@@ -218,6 +145,6 @@ pub fn decide(
     way: Way,
     times: u32,
 ) -> Result<Decided, AllocError> {
-    let mut world = open(alloc, topo)?;
+    let mut world = open_world(alloc, topo)?;
     run(rt, alloc, &mut world, way, times)
 }

@@ -3,40 +3,26 @@
 #![tactic(auto)]
 
 mod checks;
-mod crew;
 mod cuts;
 mod document;
-mod group;
-mod holds;
 mod network;
-mod off_lock;
 mod promises;
 mod proposals;
-mod random;
-mod reads;
-mod tree;
-mod under_lock;
 mod work;
 mod worlds;
 
 use checks::{Decided, Way, decide};
-use crew::{Checked, Crew, Judging};
 use cuts::least_cuts;
 use document::print_document;
-use group::group_of;
-use holds::{Holds, Spans, time_holds};
 use network::Network;
-use off_lock::check_off_lock;
 use promises::{Judged, judge, start, wide};
 use proposals::{Outage, Proposed, propose};
-use reads::{Audience, Shown, read_beside};
+use st_bench_groups::group_of;
 use st_net::GroupTopo;
 use std::alloc::{AllocError, Global};
 use std::rt::Runtime;
-use std::sync::Wait;
 use std::thread::Threads;
 use std::{env, io};
-use under_lock::check_under_lock;
 use work::{Task, work_of};
 use worlds::{Course, Driven, drive};
 
@@ -122,81 +108,9 @@ fn repeat_checks(
     println!(rt; "{word} bases {bases} accepted {accepted} refused {refused}")
 }
 
-/// Lets threads read so often beside a writer, and prints how many reads and publications there were.
-fn repeat_reads(
-    rt: &(impl Runtime + Threads + Wait + Sync),
-    alloc: Global,
-    word: &str,
-    topo: &GroupTopo,
-    audience: Audience,
-    times: u32,
-) -> io::Result<()> {
-    let Shown {
-        reads,
-        publications,
-    } = read_beside(rt, alloc, topo, audience, times)?;
-    println!(rt; "{word} reads {reads} publications {publications}")
-}
-
-/// Decides so many proposals by threads, and prints what came of them and how long it took, in microseconds.
-fn repeat_crew(
-    rt: &(impl Runtime + Threads + Wait + Sync),
-    alloc: Global,
-    word: &str,
-    topo: &GroupTopo,
-    crew: Crew,
-    times: u32,
-) -> io::Result<()> {
-    let Checked { tally, time } = match crew.judging {
-        Judging::OffLock => check_off_lock(rt, alloc, topo, crew.threads, times)?,
-        Judging::UnderLock => check_under_lock(rt, alloc, topo, crew.threads, times)?,
-    };
-    println!(rt;
-        "{word} accepted {} refused {} gone {} microseconds {}",
-        tally.accepted,
-        tally.refused,
-        tally.gone,
-        time.as_micros()
-    )
-}
-
-/// Prints how long the parts of some checks took in all, in microseconds.
-fn print_spans(rt: &impl Runtime, word: &str, came: &str, spans: Spans) -> io::Result<()> {
-    let Spans {
-        checks,
-        shown,
-        begin,
-        judge,
-        commit,
-        unmarked,
-        step,
-    } = spans;
-    print!(rt; "{word} {came} {checks} shown {shown} microseconds")?;
-    print!(rt; " begin {} judge {}", begin.as_micros(), judge.as_micros())?;
-    print!(rt;
-        " commit {} unmarked {}",
-        commit.as_micros(),
-        unmarked.as_micros()
-    )?;
-    println!(rt; " step {}", step.as_micros())
-}
-
-/// Checks so many proposals part by part, and prints how long the parts took, where they accepted and where they refused.
-fn repeat_holds(
-    rt: &(impl Runtime + Threads + Sync),
-    alloc: Global,
-    word: &str,
-    topo: &GroupTopo,
-    times: u32,
-) -> io::Result<()> {
-    let Holds { accepted, refused } = time_holds(rt, alloc, topo, times)?;
-    print_spans(rt, word, "accepted", accepted)?;
-    print_spans(rt, word, "refused", refused)
-}
-
 /// Does a work on a group so often, and prints what its last time found.
 fn repeat_on(
-    rt: &(impl Runtime + Threads + Wait + Sync),
+    rt: &(impl Runtime + Threads + Sync),
     alloc: Global,
     word: &str,
     topo: GroupTopo,
@@ -211,15 +125,12 @@ fn repeat_on(
         Task::Propose(outage) => repeat_proposals(rt, alloc, word, &topo, outage, times),
         Task::Drive(course) => repeat_driven(rt, alloc, word, topo, course, times),
         Task::Check(way) => repeat_checks(rt, alloc, word, topo, way, times),
-        Task::Read(audience) => repeat_reads(rt, alloc, word, &topo, audience, times),
-        Task::CheckBy(crew) => repeat_crew(rt, alloc, word, &topo, crew, times),
-        Task::Hold => repeat_holds(rt, alloc, word, &topo, times),
     }
 }
 
 /// Does a work so often, and prints what its last time found.
 fn repeat(
-    rt: &(impl Runtime + Threads + Wait + Sync),
+    rt: &(impl Runtime + Threads + Sync),
     alloc: Global,
     word: &str,
     times: u32,
@@ -232,7 +143,7 @@ fn repeat(
 }
 
 fn run(
-    rt: &(impl Runtime + Threads + Wait + Sync),
+    rt: &(impl Runtime + Threads + Sync),
     alloc: Global,
     first: &str,
     second: &str,
@@ -264,6 +175,3 @@ fn main(rt: HostRuntime) -> io::Result<()> {
     }
     Ok(())
 }
-
-#[cfg(test)]
-mod tests;

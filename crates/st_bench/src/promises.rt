@@ -1,9 +1,8 @@
 //! Promises judged: the needs of a group, and a change that takes one device down.
-ghost use Rattle.std.specs.Prelude.{IfOk};
-ghost use Rattle.st_net.specs.Sets.{MarksOf};
 ghost use Rattle.st_promise.specs.Book.{AreNeedsOf};
 
-use st_net::{Broken, Entity, EntitySet, GroupTopo};
+use st_bench_groups::up_first;
+use st_net::{Broken, GroupTopo};
 use st_promise::{Book, judge_wide};
 use std::alloc::{AllocError, Global};
 use std::thread::Threads;
@@ -14,20 +13,6 @@ pub struct Judged {
     pub promises: u64,
     pub needs: u64,
     pub broken: Option<u32>,
-}
-
-/// All links, and so many devices.
-pub fn first(alloc: Global, topo: &GroupTopo, devices: u32) -> Result<EntitySet, AllocError>
-    ensures { IfOk result (MarksOf topo.now) }
-{
-    let mut up = EntitySet::none(alloc, topo)?;
-    for device in 0..topo.device_count().min(devices) {
-        up.put(Entity::Device(device));
-    }
-    for link in 0..topo.link_count() {
-        up.put(Entity::Link(link));
-    }
-    Ok(up)
 }
 
 fn sum(needs: &[u64]) -> u64 {
@@ -71,8 +56,8 @@ pub fn start(alloc: Global, topo: &GroupTopo, times: u32) -> Result<Judged, Allo
 /// Judges so often, and once at least, a change that takes the last device down.
 pub fn judge(alloc: Global, topo: &GroupTopo, times: u32) -> Result<Judged, AllocError> {
     let mut book = Book::start(alloc, topo)?;
-    let before = first(alloc, topo, u32::MAX)?;
-    let after = first(alloc, topo, topo.device_count().saturating_sub(1))?;
+    let before = up_first(alloc, topo, u32::MAX)?;
+    let after = up_first(alloc, topo, topo.device_count().saturating_sub(1))?;
     let mut broken = number_of(&book.judge_pairs(topo, &before, &after)?);
     for _ in 1..times {
         broken = number_of(&book.judge_pairs(topo, &before, &after)?);
@@ -94,8 +79,8 @@ fn judge_needs(
 ) -> Result<Option<u32>, AllocError>
     requires { AreNeedsOf topo.now needs.now }
 {
-    let before = first(alloc, topo, u32::MAX)?;
-    let after = first(alloc, topo, topo.device_count().saturating_sub(1))?;
+    let before = up_first(alloc, topo, u32::MAX)?;
+    let after = up_first(alloc, topo, topo.device_count().saturating_sub(1))?;
     let mut broken = None;
     for _ in 0..times {
         let wide = judge_wide(rt, alloc, topo, needs, &before, &after)?;

@@ -2,8 +2,7 @@
 ghost use Rattle.std.specs.Prelude.{IfOk};
 ghost use Rattle.st_net.specs.Sets.{MarksOf};
 
-use crate::group::Switches;
-use crate::promises::first;
+use st_bench_groups::{Switches, take_down, up_first};
 use st_net::{Entity, EntitySet, GroupTopo};
 use st_promise::Book;
 use std::alloc::{AllocError, Global};
@@ -51,21 +50,11 @@ fn first_tor(topo: &GroupTopo) -> u32 {
     0
 }
 
-/// Takes a device down.
-pub fn take_down(topo: &GroupTopo, up: &mut EntitySet, device: u32)
-    requires { MarksOf topo.now up.old }
-    ensures { MarksOf topo.now up.new }
-{
-    if device < topo.device_count() {
-        up.remove(Entity::Device(device));
-    }
-}
-
 /// What is up before each proposal.
 fn standing(alloc: Global, topo: &GroupTopo, outage: Outage) -> Result<EntitySet, AllocError>
     ensures { IfOk result (MarksOf topo.now) }
 {
-    let mut up = first(alloc, topo, u32::MAX)?;
+    let mut up = up_first(alloc, topo, u32::MAX)?;
     match outage {
         Outage::Nothing => {}
         Outage::Links => take_links_down(topo, &mut up),

@@ -1,9 +1,8 @@
 //! Worlds that are driven: locks asked for, reports heard, and rounds of a group in which every entity failed.
-ghost use Rattle.std.specs.Prelude.{◌≡◌, [], IfOk};
 
+use st_bench_groups::open_world;
 use st_event::Event;
 use st_net::{AppId, Entity, GroupTopo, Prio, Vals};
-use st_wire::LossPlan;
 use st_world::World;
 use std::alloc::{AllocError, Global};
 
@@ -138,14 +137,6 @@ fn run(world: &mut World, course: Course, times: u32) -> Result<Driven, AllocErr
     })
 }
 
-/// A world of this group, in which no message is lost.
-pub fn open(alloc: Global, topo: GroupTopo) -> Result<World, AllocError>
-    ensures { IfOk result (λ world. world.history ≡ record { group = topo; past = [] }) }
-{
-    let plan = LossPlan::from_lines(alloc, Vec::new(alloc));
-    World::start(alloc, topo, plan)
-}
-
 /// Drives a world of this group so often, and says how it stands then.
 pub fn drive(
     alloc: Global,
@@ -153,6 +144,6 @@ pub fn drive(
     course: Course,
     times: u32,
 ) -> Result<Driven, AllocError> {
-    let mut world = open(alloc, topo)?;
+    let mut world = open_world(alloc, topo)?;
     run(&mut world, course, times)
 }

@@ -70,7 +70,7 @@ fn parts_are_told_by_what_came(rt: HostRuntime) -> Result<(), Fail> {
 
 #[test]
 fn words_name_crews(rt: HostRuntime) -> Result<(), Fail> {
-    let (work, group) = work_of("under-lock-4-100-full-group");
+    let (work, group) = work_of("under-lock-4-100-full-group").ok_or("no work")?;
     assert_eq!(rt; (work.percent, group), (100, "full-group"));
     let Task::CheckBy(Crew { threads, judging }) = work.task else {
         return Err(Fail::new("no crew"));

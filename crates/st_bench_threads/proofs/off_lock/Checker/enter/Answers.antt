@@ -1,7 +1,7 @@
 -- The act fits the group of the one room.
 use Rattle.std.proofs.Common.{ℕ, sym, subst}
 use Rattle.st_service.specs.Acts.{CanDo}
-use Rattle.st_bench.proofs.off_lock.Checker.enter.Goals as goal
+use Rattle.st_bench_threads.proofs.off_lock.Checker.enter.Goals as goal
 
 pub step_app-requires-clause-act : goal.step_app-requires-clause-act
 step_app-requires-clause-act g c = λ κs lives.

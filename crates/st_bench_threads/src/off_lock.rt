@@ -3,10 +3,8 @@ ghost use Rattle.std.specs.Prelude.{ℕ, ◌≡◌, ◌+◌, ◌<◌, ◌≤◌,
 ghost use Rattle.st_net.specs.Groups.{Group};
 ghost use Rattle.st_service.specs.Acts.{CanDo};
 
-use crate::checks::{Outcome, outcome_of, row_of};
 use crate::crew::{Checked, Tally, Turns};
-use crate::group::Switches;
-use crate::worlds::open;
+use st_bench_groups::{Outcome, Switches, open_world, outcome_of, row_of};
 use st_crew::NoGate;
 use st_event::{Act, Rows};
 use st_net::GroupTopo;
@@ -220,7 +218,7 @@ pub fn check_off_lock<R: Threads + Wait + Clock + Sync>(
     threads: u8,
     proposals: u32,
 ) -> io::Result<Checked> {
-    let world = open(alloc, topo.copy(alloc)?)?;
+    let world = open_world(alloc, topo.copy(alloc)?)?;
     let blank = Blank::new(u64::from(threads) + 2);
     check_named::<Brand, Brand, R>(
         rt,

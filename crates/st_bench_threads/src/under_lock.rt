@@ -1,9 +1,7 @@
 //! Checks of one world by threads under its lock: each thread proposes under the lock, and steps a Check under it.
 
-use crate::checks::{Outcome, check, submit};
 use crate::crew::{Checked, Tally, Turns};
-use crate::group::Switches;
-use crate::worlds::open;
+use st_bench_groups::{Outcome, Switches, check, open_world, submit};
 use st_net::GroupTopo;
 use st_world::World;
 use std::alloc::{AllocError, Global};
@@ -77,7 +75,7 @@ pub fn check_under_lock<R: Threads + Wait + Clock + Sync>(
     proposals: u32,
 ) -> io::Result<Checked> {
     let switches = Switches::of(alloc, topo)?;
-    let world = Mutex::new(open(alloc, topo.copy(alloc)?)?);
+    let world = Mutex::new(open_world(alloc, topo.copy(alloc)?)?);
     let steppers = steppers_of(alloc, &world, &switches, u32::from(threads), proposals)?;
     let start = Instant::now(rt)?;
     let work = |stepper: Stepper<'_>| -> Result<Tally, AllocError> { stepper.work(rt) };

@@ -1,5 +1,5 @@
 -- The names of this run are those of its lines, its group and its world.
-use Rattle.st_bench.proofs.off_lock.check_off_lock.Given as goal
+use Rattle.st_bench_threads.proofs.off_lock.check_off_lock.Given as goal
 
 abbrev pub ghosts-check_named-J-Naming : goal.ghosts-check_named-J-Naming
 ghosts-check_named-J-Naming g a = record {

@@ -1,7 +1,7 @@
 -- There is a room for the one world.
 use Rattle.std.proofs.Common.{◌≡◌, ◌∙◌, length, arith}
 use Rattle.std.proofs.lemmas.Result.{IfOk-weaker}
-use Rattle.st_bench.proofs.off_lock.opened.Goals as goal
+use Rattle.st_bench_threads.proofs.off_lock.opened.Goals as goal
 
 pub returns-clause-rooms : goal.returns-clause-rooms
 returns-clause-rooms g c =

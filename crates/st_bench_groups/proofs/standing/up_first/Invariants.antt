@@ -1,5 +1,5 @@
 use Rattle.st_net.specs.Sets.{MarksOf}
-use Rattle.st_bench.proofs.promises.first.Given as goal
+use Rattle.st_bench_groups.proofs.standing.up_first.Given as goal
 
 abbrev pub invariant-loop-device : goal.invariant-loop-device
 invariant-loop-device l = MarksOf l.topo l.up

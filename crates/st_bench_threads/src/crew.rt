@@ -1,6 +1,6 @@
 //! Threads that check the proposals of one group: which proposals each makes, and what comes of them.
 
-use crate::checks::Outcome;
+use st_bench_groups::Outcome;
 use std::alloc::AllocError;
 use std::time::Duration;
 

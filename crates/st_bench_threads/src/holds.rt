@@ -2,11 +2,7 @@
 ghost use Rattle.st_net.specs.Sets.{MarksOf};
 ghost use Rattle.st_promise.specs.Book.{IsBookOf};
 
-use crate::checks::{Outcome, check, commit, submit};
-use crate::group::Switches;
-use crate::promises::first;
-use crate::proposals::take_down;
-use crate::worlds::open;
+use st_bench_groups::{Outcome, Switches, check, commit, open_world, submit, take_down, up_first};
 use st_control::{Begin, judge_basis};
 use st_net::{EntitySet, GroupTopo};
 use st_promise::{Book, judge_wide};
@@ -94,8 +90,8 @@ struct Twins {
 impl Twins {
     fn open(alloc: Global, topo: &GroupTopo) -> Result<Twins, AllocError> {
         Ok(Twins {
-            away: open(alloc, topo.copy(alloc)?)?,
-            stepped: open(alloc, topo.copy(alloc)?)?,
+            away: open_world(alloc, topo.copy(alloc)?)?,
+            stepped: open_world(alloc, topo.copy(alloc)?)?,
         })
     }
 }
@@ -152,7 +148,7 @@ fn judge_unmarked<R: Threads + Clock + Sync>(
 ) -> io::Result<()>
     requires { IsBookOf topo.now book.now.of }
 {
-    let before = first(alloc, topo, u32::MAX)?;
+    let before = up_first(alloc, topo, u32::MAX)?;
     let mut after = before.copy(alloc)?;
     take_down(topo, &mut after, switch);
     spans.shown = count_shown(topo, book, &after)?;
