@@ -1,8 +1,9 @@
 //! Promises judged: the needs of a group, and a change that takes one device down.
-ghost use Rattle.st_promise.specs.Book.{AreNeedsOf};
+ghost use Rattle.st_net.specs.Sets.{MarksOf};
+ghost use Rattle.st_promise.specs.Book.{AreNeedsOf, IsBookOf};
 
 use st_bench_groups::up_first;
-use st_net::{Broken, GroupTopo};
+use st_net::{Broken, EntitySet, GroupTopo};
 use st_promise::{Book, judge_wide};
 use std::alloc::{AllocError, Global};
 use std::thread::Threads;
@@ -30,14 +31,19 @@ fn number_of(broken: &Option<Broken>) -> Option<u32> {
     }
 }
 
+/// What there is to tell where promises need so much and this one breaks.
+fn judged(needs: &[u64], broken: Option<u32>) -> Judged {
+    Judged {
+        promises: needs.len() as u64,
+        needs: sum(needs),
+        broken,
+    }
+}
+
 /// What a book tells at its start.
 fn start_once(alloc: Global, topo: &GroupTopo) -> Result<Judged, AllocError> {
     let book = Book::start(alloc, topo)?;
-    Ok(Judged {
-        promises: book.needs().len() as u64,
-        needs: sum(book.needs()),
-        broken: None,
-    })
+    Ok(judged(book.needs(), None))
 }
 
 /// Makes a book of a group so often, and tells of the last. Where none is made there is nothing to tell.
@@ -53,20 +59,32 @@ pub fn start(alloc: Global, topo: &GroupTopo, times: u32) -> Result<Judged, Allo
     Ok(judged)
 }
 
+/// Judges a change so often, and once at least, by the promises of a book: the number of the promise that it breaks.
+fn judge_again(
+    book: &mut Book,
+    topo: &GroupTopo,
+    before: &EntitySet,
+    after: &EntitySet,
+    times: u32,
+) -> Result<Option<u32>, AllocError>
+    requires book { IsBookOf topo.now book.old.of }
+    requires before { MarksOf topo.now before.now }
+    requires after { MarksOf topo.now after.now }
+{
+    let mut broken = None;
+    for _ in 0..times.max(1) {
+        broken = number_of(&book.judge_pairs(topo, before, after)?);
+    }
+    Ok(broken)
+}
+
 /// Judges so often, and once at least, a change that takes the last device down.
 pub fn judge(alloc: Global, topo: &GroupTopo, times: u32) -> Result<Judged, AllocError> {
     let mut book = Book::start(alloc, topo)?;
     let before = up_first(alloc, topo, u32::MAX)?;
     let after = up_first(alloc, topo, topo.device_count().saturating_sub(1))?;
-    let mut broken = number_of(&book.judge_pairs(topo, &before, &after)?);
-    for _ in 1..times {
-        broken = number_of(&book.judge_pairs(topo, &before, &after)?);
-    }
-    Ok(Judged {
-        promises: book.needs().len() as u64,
-        needs: sum(book.needs()),
-        broken,
-    })
+    let broken = judge_again(&mut book, topo, &before, &after, times)?;
+    Ok(judged(book.needs(), broken))
 }
 
 /// Judges the same change so often in as many threads as there are processors, by promises that need so much.
@@ -98,9 +116,5 @@ pub fn wide(
 ) -> Result<Judged, AllocError> {
     let book = Book::start(alloc, topo)?;
     let broken = judge_needs(rt, alloc, topo, book.needs(), times)?;
-    Ok(Judged {
-        promises: book.needs().len() as u64,
-        needs: sum(book.needs()),
-        broken,
-    })
+    Ok(judged(book.needs(), broken))
 }

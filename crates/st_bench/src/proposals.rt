@@ -1,6 +1,7 @@
 //! Proposals judged one after another: each takes another switch down, and is undone before the next.
 ghost use Rattle.std.specs.Prelude.{IfOk};
 ghost use Rattle.st_net.specs.Sets.{MarksOf};
+ghost use Rattle.st_promise.specs.Book.{IsBookOf};
 
 use st_bench_groups::{Switches, take_down, up_first};
 use st_net::{Entity, EntitySet, GroupTopo};
@@ -63,6 +64,44 @@ fn standing(alloc: Global, topo: &GroupTopo, outage: Outage) -> Result<EntitySet
     Ok(up)
 }
 
+/// Whether promises stand in the way of taking a device down.
+fn is_refused(
+    alloc: Global,
+    topo: &GroupTopo,
+    book: &mut Book,
+    before: &EntitySet,
+    device: u32,
+) -> Result<bool, AllocError>
+    requires book { IsBookOf topo.now book.old.of }
+    requires before { MarksOf topo.now before.now }
+    ensures book { IsBookOf topo.now book.new.of }
+{
+    let mut after = before.copy(alloc)?;
+    take_down(topo, &mut after, device);
+    Ok(book.judge_pairs(topo, before, &after)?.is_some())
+}
+
+/// Judges so many proposals, of one switch after another in turn, and counts those that are refused.
+fn count_refused(
+    alloc: Global,
+    topo: &GroupTopo,
+    book: &mut Book,
+    before: &EntitySet,
+    times: u32,
+) -> Result<u32, AllocError>
+    requires book { IsBookOf topo.now book.old.of }
+    requires before { MarksOf topo.now before.now }
+{
+    let switches = Switches::of(alloc, topo)?;
+    let mut refused = 0u32;
+    for time in 0..times {
+        if is_refused(alloc, topo, book, before, switches.in_turn(time))? {
+            refused = refused.wrapping_add(1);
+        }
+    }
+    Ok(refused)
+}
+
 /// Judges so many proposals, of one switch after another in turn.
 pub fn propose(
     alloc: Global,
@@ -70,17 +109,9 @@ pub fn propose(
     outage: Outage,
     times: u32,
 ) -> Result<Proposed, AllocError> {
-    let switches = Switches::of(alloc, topo)?;
     let before = standing(alloc, topo, outage)?;
     let mut book = Book::start(alloc, topo)?;
-    let mut refused = 0u32;
-    for time in 0..times {
-        let mut after = before.copy(alloc)?;
-        take_down(topo, &mut after, switches.in_turn(time));
-        if book.judge_pairs(topo, &before, &after)?.is_some() {
-            refused = refused.wrapping_add(1);
-        }
-    }
+    let refused = count_refused(alloc, topo, &mut book, &before, times)?;
     Ok(Proposed {
         promises: book.needs().len() as u64,
         proposals: times,
