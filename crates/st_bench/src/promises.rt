@@ -32,7 +32,7 @@ fn number_of(broken: &Option<Broken>) -> Option<u32> {
 }
 
 /// What there is to tell where promises need so much and this one breaks.
-fn judged(needs: &[u64], broken: Option<u32>) -> Judged {
+fn told_of(needs: &[u64], broken: Option<u32>) -> Judged {
     Judged {
         promises: needs.len() as u64,
         needs: sum(needs),
@@ -43,7 +43,7 @@ fn judged(needs: &[u64], broken: Option<u32>) -> Judged {
 /// What a book tells at its start.
 fn start_once(alloc: Global, topo: &GroupTopo) -> Result<Judged, AllocError> {
     let book = Book::start(alloc, topo)?;
-    Ok(judged(book.needs(), None))
+    Ok(told_of(book.needs(), None))
 }
 
 /// Makes a book of a group so often, and tells of the last. Where none is made there is nothing to tell.
@@ -84,7 +84,7 @@ pub fn judge(alloc: Global, topo: &GroupTopo, times: u32) -> Result<Judged, Allo
     let before = up_first(alloc, topo, u32::MAX)?;
     let after = up_first(alloc, topo, topo.device_count().saturating_sub(1))?;
     let broken = judge_again(&mut book, topo, &before, &after, times)?;
-    Ok(judged(book.needs(), broken))
+    Ok(told_of(book.needs(), broken))
 }
 
 /// Judges the same change so often in as many threads as there are processors, by promises that need so much.
@@ -116,5 +116,5 @@ pub fn wide(
 ) -> Result<Judged, AllocError> {
     let book = Book::start(alloc, topo)?;
     let broken = judge_needs(rt, alloc, topo, book.needs(), times)?;
-    Ok(judged(book.needs(), broken))
+    Ok(told_of(book.needs(), broken))
 }
