@@ -1,5 +1,5 @@
-//! Work by threads, or under a lock and off it, on one group, to be timed from outside or by its own clock. The words are pairs of a work and
-//! how often to do it, and each pair prints a line of counts and times, or two.
+//! Work by threads, or part by part, on one group, to be timed. The words are pairs of a work and how often to do it, and each pair
+//! prints a line of counts and of times by the clock, or two.
 #![tactic(auto)]
 
 mod crew;
