@@ -1,3 +1,4 @@
+pub mod EntityLoops
 pub mod Beyond
 pub mod Ups
 pub mod StampLaws

@@ -14,7 +14,7 @@ pub enum Keyword {
     Wire(WireWord),
     /// Begins an application.
     App,
-    /// An act of the application that is begun.
+    /// A command of the application that is begun.
     Act(ActWord),
     /// Applications in the order in which they begin.
     Order,
@@ -38,7 +38,7 @@ pub enum WireWord {
     Hold,
 }
 
-/// The acts of an application.
+/// The commands of an application.
 #[derive(Clone, Copy, Debug, PartialEq, Eq)]
 pub enum ActWord {
     Propose,
@@ -130,7 +130,7 @@ pub fn keyword_of(word: &[u8]) -> Option<Keyword>
         return Some(Keyword::Wire(wire));
     }
     match act_word_of(word) {
-        Some(act) => Some(Keyword::Act(act)),
+        Some(command) => Some(Keyword::Act(command)),
         None => None,
     }
 }

@@ -1,9 +1,7 @@
 pub mod NamePlaces
 pub mod Tests
-pub mod EntityOrder
-pub mod SetLaws
-pub mod EntityLoops
 pub mod InOrder
+pub mod EntityOrder
 pub mod MergeLaws
 pub mod CutLaws
 pub mod WalkLaws

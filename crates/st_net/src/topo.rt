@@ -206,7 +206,12 @@ impl GroupTopo {
         ensures of { IsEntityOf self.now result }
         ensures at { result ≡ slice_index_or (entities_of self.now) place result }
     {
-        Entity::at_place(place, self.device_count())
+        let devices = self.device_count();
+        if place < devices {
+            Entity::Device(place)
+        } else {
+            Entity::Link(place - devices)
+        }
     }
 
     /// The entity of a name: None exactly where no part has it.

@@ -59,10 +59,11 @@ pub fn plan(
     ensures { (g : Group) → IsTableOf g target.now → IfOk result (λ entities. entities.items ≡ unsettled_in g observed.now target.now stamps.now) }
 {
     let mut unsettled = Vec::new(alloc);
-    let devices = target.device_count() as u32;
-    for place in 0..devices + target.link_count() as u32 {
-        let entity = Entity::at_place(place, devices);
-        add_unsettled(&mut unsettled, observed, target, stamps, entity)?;
+    'devices: for i in 0..target.device_count() as u32 {
+        add_unsettled(&mut unsettled, observed, target, stamps, Entity::Device(i))?;
+    }
+    'links: for i in 0..target.link_count() as u32 {
+        add_unsettled(&mut unsettled, observed, target, stamps, Entity::Link(i))?;
     }
     Ok(unsettled)
 }

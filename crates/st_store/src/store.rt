@@ -183,7 +183,7 @@ impl Store {
         self.observed.as_slice()
     }
 
-    /// The last version of the target, which is how many overlays it has.
+    /// How many proposals were accepted.
     pub fn version(&self) -> u32
         ensures version { result ≡ self.now.version }
         ensures counted { IsCounted self.now }
