@@ -1,15 +1,16 @@
--- Lists with an item for each entity: one item replaced, and lists that are pushed item by item.
-use Rattle.std.proofs.Common.{◌≡◌, ℕ, zero, suc, ◌+◌, ◌<◌, ◌≤◌, List, [], ◌∷◌, ◌++◌, length, get_or, set, take, drop, refl, sym, ap, ◌∙◌, subst, arith}
-use Rattle.std.proofs.Math.Seq.{take-nil, drop-nil}
-use Rattle.std.proofs.Math.ListN.{drop_of_length-le}
-use Rattle.std.specs.Prelude.{Bool, true, false, ◌==◌, ◌≢◌, if◌then◌else◌, slice_index_or}
+-- Lists with an item for each entity: one item replaced, and lists that are made place by place.
+use Rattle.std.proofs.Common.{◌≡◌, ℕ, zero, suc, ◌+◌, ◌<◌, ◌≤◌, List, [], ◌∷◌, ◌++◌, length, get_or, map, set, take, drop, refl, sym, ap, ◌∙◌, subst, arith}
+use Rattle.std.specs.Prelude.{Bool, true, false, ◌==◌, ◌≢◌, if◌then◌else◌}
 use Rattle.std.proofs.lemmas.Bool.Decides.{nat_tests}
-use Rattle.std.proofs.lemmas.List.{get_or-set_same, get_or-set_other, get_or_default, take-set-le, drop-set-lt, drop-set-add, length-append, length-drop, take-append-le, drop-append-le}
+use Rattle.std.proofs.lemmas.List.{get_or-set_same, get_or-set_other, get_or-map, get_or_default, get_or_past, take-set-le, take_all, drop-set-lt, drop-set-add, length-map, length-take, length-drop}
 use Rattle.st_net.specs.declared.entity.Entity.{Entity}
 use Rattle.st_net.specs.declared.entity.Entity.TheVariants.{Device, Link}
 use Rattle.st_net.specs.Entities.{is_same_entity}
 use Rattle.st_net.specs.Groups.{Group, IsEntityOf}
-use Rattle.st_net.specs.InOrder.{entity_count, place_in, item_in}
+use Rattle.st_net.specs.Sets.{is_of}
+use Rattle.st_net.specs.InOrder.{entities_of, entity_count, place_in, item_in}
+use Rattle.st_net.proofs.EntityOrder.{entities_count, at_place}
+use Rattle.st_net.proofs.SetLaws.{not_less, own_is}
 
 take_at : {X : Type 0} (n : ℕ) (xs : List X) (i : ℕ) (d : X) → i < n → get_or (take n xs) i d ≡ get_or xs i d
 take_at zero xs i d lt = absurd (omega arith)
@@ -77,54 +78,41 @@ item_in-set {X} g items default (Link i) (Link j) x here count = by_number (i ==
     by_number false other = drop_set_other (length g.devices) items i j x (default (Link j)) other
     by_number true is = subst (λ (k : ℕ). get_or (drop (length g.devices) (set items (length g.devices + i) x)) k (default (Link j)) ≡ x) (same_number i j is) (drop_set_same (length g.devices) items i x (default (Link j)) (omega arith))
 
--- a list that has what its default says, one item longer
-push_default : {X : Type 0} (xs : List X) (x d : X) (j : ℕ) → (j ≡ length xs → x ≡ d) → slice_index_or xs j d ≡ d → slice_index_or (xs ++ x ∷ []) j d ≡ d
-push_default [] x d zero here was = here refl
-push_default [] x d (suc j) here was = refl
-push_default (y ∷ ys) x d zero here was = was
-push_default (y ∷ ys) x d (suc j) here was = push_default ys x d j (λ same. here (omega (arith, same))) was
+-- an entity that the group does not have has no item
+pub item_beyond : {X : Type 0} (g : Group) (items : List X) (default : Entity → X) (e : Entity) → length items ≡ entity_count g → is_of g e ≡ false → item_in g items default e ≡ default e
+item_beyond g items default (Device i) count beyond =
+    let far = not_less i (length g.devices) beyond in
+    let n = length-take (length g.devices) items in
+    get_or_past (take (length g.devices) items) i (default (Device i)) (omega (arith, far, n))
+item_beyond g items default (Link i) count beyond =
+    let far = not_less i (length g.links) beyond in
+    let n = length-drop (length g.devices) items in
+    get_or_past (drop (length g.devices) items) i (default (Link i)) (omega (arith, far, n, count))
 
-take_all : {X : Type 0} (n : ℕ) (xs : List X) → length xs ≤ n → take n xs ≡ xs
-take_all n [] few = take-nil n
-take_all zero (x ∷ xs) few = absurd (omega arith)
-take_all (suc n) (x ∷ xs) few = ap (◌∷◌ x) (take_all n xs (omega arith))
+-- a list that has of each entity of the group what the default says has the default of every entity
+items_count : {X : Type 0} (g : Group) (default : Entity → X) → length (map default (entities_of g)) ≡ entity_count g
+items_count g default = length-map (entities_of g) default ∙ entities_count g
 
--- the first items of a list for all entities, each as its default says
-pub record AreDefaults {X : Type 0} (g : Group) (default : Entity → X) (n : ℕ) (items : List X) : Type 0 where
-  pub devices : (j : ℕ) → slice_index_or (take (length g.devices) items) j (default (Device j)) ≡ default (Device j)
-  pub links : (j : ℕ) → slice_index_or (drop (length g.devices) items) j (default (Link j)) ≡ default (Link j)
-  pub count : length items ≡ n
+items_default : {X : Type 0} (g : Group) (default : Entity → X) (e : Entity) → item_in g (map default (entities_of g)) default e ≡ default e
+items_default {X} g default e = by_own (is_of g e) refl
+  where
+    within : (here : IsEntityOf g e) → place_in g e < length (entities_of g)
+    within here = let all = entities_count g in let low = place_within g e here in omega (arith, all, low)
 
-pub none_yet : {X : Type 0} (g : Group) (default : Entity → X) → AreDefaults g default 0 []
-none_yet g default = record {
-  devices = λ j. rw (take-nil (length g.devices)) refl;
-  links = λ j. rw (drop-nil (length g.devices)) refl;
-  count = refl;
-}
+    in_place : (here : IsEntityOf g e) → get_or (map default (entities_of g)) (place_in g e) (default e) ≡ default e
+    in_place here = get_or-map default (entities_of g) (place_in g e) e (default e) (within here) ∙ ap default (at_place g e here)
 
-pub push_device : {X : Type 0} (g : Group) (default : Entity → X) (n : ℕ) (items more : List X) (x : X) → n < length g.devices → AreDefaults g default n items → x ≡ default (Device n) → more ≡ items ++ x ∷ [] → AreDefaults g default (n + 1) more
-push_device g default n items more x low are is pushed =
-    let short : length items ≤ length g.devices = let c = are.count in omega arith in
-    let all : take (length g.devices) items ≡ items = take_all (length g.devices) items short in
-    rw pushed (record {
-      devices = λ j. rw (take_all (length g.devices) (items ++ x ∷ []) (let c = are.count in let l = length-append items (x ∷ []) in omega (arith, c, l, low)))
-          (push_default items x (default (Device j)) j (λ here. is ∙ ap (λ (k : ℕ). default (Device k)) (sym (here ∙ are.count))) (rw (← all) (are.devices j)));
-      links = λ j. rw (drop_of_length-le (items ++ x ∷ []) {i = length g.devices} (let c = are.count in let l = length-append items (x ∷ []) in omega (arith, c, l, low))) refl;
-      count = let c = are.count in let l = length-append items (x ∷ []) in omega (arith, c, l);
-    })
+    by_own : (own : Bool) → is_of g e ≡ own → item_in g (map default (entities_of g)) default e ≡ default e
+    by_own true is = item_in_at g (map default (entities_of g)) default e (default e) (own_is g e is) (items_count g default) ∙ in_place (own_is g e is)
+    by_own false is = item_beyond g (map default (entities_of g)) default e (items_count g default) is
 
-pub push_link : {X : Type 0} (g : Group) (default : Entity → X) (n : ℕ) (items more : List X) (x : X) → AreDefaults g default (length g.devices + n) items → x ≡ default (Link n) → more ≡ items ++ x ∷ [] → AreDefaults g default (length g.devices + n + 1) more
-push_link g default n items more x are is pushed =
-    let long : length g.devices ≤ length items = let c = are.count in omega arith in
-    let behind : length (drop (length g.devices) items) ≡ n = let c = are.count in let l = length-drop (length g.devices) items in omega (arith, c, l) in
-    rw pushed (record {
-      devices = λ j. rw (take-append-le (length g.devices) items (x ∷ []) long) (are.devices j);
-      links = λ j. rw (drop-append-le (length g.devices) items (x ∷ []) long)
-          (push_default (drop (length g.devices) items) x (default (Link j)) j (λ here. is ∙ ap (λ (k : ℕ). default (Link k)) (sym (here ∙ behind))) (are.links j));
-      count = let c = are.count in let l = length-append items (x ∷ []) in omega (arith, c, l);
-    })
+-- a list with an item for each entity of the group, each as the default says
+pub record AreDefaults {X : Type 0} (g : Group) (default : Entity → X) (items : List X) : Type 0 where
+  pub count : length items ≡ entity_count g
+  pub each : (e : Entity) → item_in g items default e ≡ default e
 
--- such a list has the default of each entity
-pub all_default : {X : Type 0} (g : Group) (default : Entity → X) (n : ℕ) (items : List X) → AreDefaults g default n items → (e : Entity) → item_in g items default e ≡ default e
-all_default g default n items are (Device i) = are.devices i
-all_default g default n items are (Link i) = are.links i
+-- a list that is made place by place has an item for each once the place is behind all entities
+pub all_default : {X : Type 0} (g : Group) (default : Entity → X) (n : ℕ) (items : List X) → n ≡ length (entities_of g) → items ≡ map default (take n (entities_of g)) → AreDefaults g default items
+all_default g default n items all made =
+    let whole : items ≡ map default (entities_of g) = made ∙ ap (map default) (take_all n (entities_of g) (omega arith)) in
+    rw whole (record { count = items_count g default; each = items_default g default })

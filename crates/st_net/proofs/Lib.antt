@@ -1,7 +1,9 @@
 pub mod NamePlaces
 pub mod Tests
-pub mod InOrder
 pub mod EntityOrder
+pub mod SetLaws
+pub mod EntityLoops
+pub mod InOrder
 pub mod MergeLaws
 pub mod CutLaws
 pub mod WalkLaws

@@ -1,9 +1,14 @@
 -- Sets of entities: tests, and the marks that a set keeps.
-use Rattle.std.specs.Prelude.{◌≡◌, ◌<◌, Bool, true, false, List, length, slice_index_or, if◌then◌else◌}
+use Rattle.std.specs.Prelude.{◌≡◌, ◌<◌, nat_lt, Bool, true, false, List, length, slice_index_or, if◌then◌else◌}
 use Rattle.st_net.specs.declared.entity.Entity.{Entity}
 use Rattle.st_net.specs.declared.entity.Entity.TheVariants.{Device, Link}
 use Rattle.st_net.specs.Entities.{is_same_entity}
 use Rattle.st_net.specs.Groups.{Group}
+
+-- whether an entity is one of the group's
+abbrev pub is_of : Group → Entity → Bool
+is_of g (Device i) = nat_lt i (length g.devices)
+is_of g (Link i) = nat_lt i (length g.links)
 
 -- a mark for each device and each link
 pub record Marks : Type 0 where

@@ -1,9 +1,9 @@
 //! Entities, their variables and the values of these, and rows that set one variable. A document names them, applications
 //! ask for rows of them, and all definitions speak of them.
 
-ghost use Rattle.std.specs.Prelude.{◌≡◌, ◌<◌, ◌^◌};
+ghost use Rattle.std.specs.Prelude.{◌≡◌, ℕ, ◌+◌, ◌<◌, ◌^◌, slice_index_or};
 ghost use Rattle.st_net.specs.Entities.{value_of, value_set, is_same_entity, is_same_var, is_same_vals, place_of, power_of};
-ghost use Rattle.st_net.specs.InOrder.{place_behind as place_behind_lem};
+ghost use Rattle.st_net.specs.InOrder.{entities_among, place_behind as place_behind_lem};
 
 /// A device or a link of a group, by its number from 0 in the order of declaration. Devices come first in the order of
 /// entities.
@@ -79,6 +79,17 @@ impl Entity {
         match self {
             Entity::Device(i) => i as usize,
             Entity::Link(i) => devices + i as usize,
+        }
+    }
+
+    /// The entity at a place from 0 in the order of entities, the first of which are so many devices.
+    pub fn at_place(place: u32, devices: u32) -> Entity
+        ensures { (links : ℕ) → place < devices + links → result ≡ slice_index_or (entities_among devices links) place result }
+    {
+        if place < devices {
+            Entity::Device(place)
+        } else {
+            Entity::Link(place - devices)
         }
     }
 

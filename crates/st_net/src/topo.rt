@@ -206,12 +206,7 @@ impl GroupTopo {
         ensures of { IsEntityOf self.now result }
         ensures at { result ≡ slice_index_or (entities_of self.now) place result }
     {
-        let devices = self.device_count();
-        if place < devices {
-            Entity::Device(place)
-        } else {
-            Entity::Link(place - devices)
-        }
+        Entity::at_place(place, self.device_count())
     }
 
     /// The entity of a name: None exactly where no part has it.

@@ -1,12 +1,16 @@
-use Rattle.std.proofs.Common.{arith}
-use Rattle.st_net.proofs.EntityOrder.{entities_count, device_at, link_at}
+use Rattle.std.proofs.Common.{◌≡◌, length, get_or, arith}
+use Rattle.st_net.specs.InOrder.{entities_of}
+use Rattle.st_net.proofs.EntityOrder.{entities_count, stands_among, own_at}
 use Rattle.st_net.proofs.topo.GroupTopo.entity_at.Goals as goal
 
-pub returns-then-place-devices-clause-at : goal.returns-then-place-devices-clause-at
-returns-then-place-devices-clause-at c = device_at c.args.self.now c.args.place _ (omega (arith, c.device_count-devices.ensures, c.if-place-devices.true))
+stands : (c : goal.After-at_place) → c.at_place.result ≡ get_or (entities_of c.args.self.now) c.args.place c.at_place.result
+stands c =
+    let g = c.args.self.now in
+    let all = entities_count g in
+    stands_among c.device_count.result (length g.devices) (length g.links) c.args.place c.at_place.result c.device_count.ensures (omega (arith, all, c.requires)) c.at_place.ensures
 
-pub returns-else-place-devices-clause-of : goal.returns-else-place-devices-clause-of
-returns-else-place-devices-clause-of c = let all = entities_count c.args.self.now in omega (arith, all, c.requires, c.device_count-devices.ensures, c.if-place-devices.false)
+pub returns-clause-of : goal.returns-clause-of
+returns-clause-of c = own_at c.args.self.now c.args.place c.at_place.result c.requires (stands c)
 
-pub returns-else-place-devices-clause-at : goal.returns-else-place-devices-clause-at
-returns-else-place-devices-clause-at c = link_at c.args.self.now c.args.place c.device_count-devices.result _ c.device_count-devices.ensures c.if-place-devices.false c.requires
+pub returns-clause-at : goal.returns-clause-at
+returns-clause-at c = stands c
