@@ -2,7 +2,6 @@ pub mod ChangeLaws
 pub mod RoomLaws
 pub mod EntryLaws
 pub mod VersionLaws
-pub mod OpeningLaws
 pub mod ReportLaws
 pub mod MergeSteps
 pub mod QueueLaws

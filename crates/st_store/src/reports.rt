@@ -40,11 +40,8 @@ pub fn opening_reports(alloc: Global, topo: &GroupTopo) -> Result<Vec<Report>, A
     ensures opening { IfOk result (λ reports. report_in topo.now reports.items ≡ opening_report topo.now) }
 {
     let mut reports = Vec::new(alloc);
-    'devices: for i in 0..topo.device_count() {
-        reports.push(report_at_opening(topo, Entity::Device(i)))?;
-    }
-    'links: for i in 0..topo.link_count() {
-        reports.push(report_at_opening(topo, Entity::Link(i)))?;
+    for place in 0..topo.entity_count() {
+        reports.push(report_at_opening(topo, topo.entity_at(place)))?;
     }
     Ok(reports)
 }
