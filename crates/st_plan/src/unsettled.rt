@@ -59,11 +59,10 @@ pub fn plan(
     ensures { (g : Group) → IsTableOf g target.now → IfOk result (λ entities. entities.items ≡ unsettled_in g observed.now target.now stamps.now) }
 {
     let mut unsettled = Vec::new(alloc);
-    'devices: for i in 0..target.device_count() as u32 {
-        add_unsettled(&mut unsettled, observed, target, stamps, Entity::Device(i))?;
-    }
-    'links: for i in 0..target.link_count() as u32 {
-        add_unsettled(&mut unsettled, observed, target, stamps, Entity::Link(i))?;
+    let devices = target.device_count() as u32;
+    for place in 0..devices + target.link_count() as u32 {
+        let entity = Entity::at_place(place, devices);
+        add_unsettled(&mut unsettled, observed, target, stamps, entity)?;
     }
     Ok(unsettled)
 }
