@@ -1,30 +1,10 @@
--- One set of entities within another, found entity by entity.
-use Rattle.std.proofs.Common.{◌≡◌, ℕ, ◌<◌, ◌≤◌, List, [], ◌∷◌, ◌++◌, ◌+◌, length, arith, ap, refl, subst, inl, inr, ◌∙◌, sym}
+-- Marks that are pushed one by one, and sets of entities that are within each other.
+use Rattle.std.proofs.Common.{◌≡◌, ℕ, ◌<◌, List, [], ◌∷◌, ◌++◌, ◌+◌, length, arith, ap, refl, subst, inl, inr, ◌∙◌, sym}
 use Rattle.std.proofs.lemmas.Bool.{cases_lt}
-use Rattle.std.proofs.lemmas.List.{get_or_past, get_or_push, get_or_append_left}
-use Rattle.std.specs.Prelude.{Bool, true, false, slice_index_or, IsTrue}
+use Rattle.std.proofs.lemmas.List.{get_or_push, get_or_append_left}
+use Rattle.std.specs.Prelude.{Bool, true, false, slice_index_or}
 use Rattle.st_net.specs.declared.entity.Entity.{Entity}
-use Rattle.st_net.specs.declared.entity.Entity.TheVariants.{Device, Link}
-use Rattle.st_net.specs.Sets.{Marks, IsWithin, is_in}
-
--- an entity of the one set that the other lacks
-pub not_within : (set other : Entity → Bool) (e : Entity) → set e ≡ true → other e ≡ false → (IsTrue false → IsWithin set other) × (IsWithin set other → IsTrue false)
-not_within set other e inside outside = (λ h. cc, λ within. sym outside ∙ within e inside)
-
--- a mark past the end is none
-no_mark : (marks : List Bool) (i : ℕ) → length marks ≤ i → slice_index_or marks i false ≡ true → ⊥
-no_mark marks i past is = let none : slice_index_or marks i false ≡ false = get_or_past marks i false past in cc
-
--- all of them are looked at
-pub within_all : (set other : Marks) (n m : ℕ) → length set.devices ≤ n → length set.links ≤ m → ((i : ℕ) → i < n → slice_index_or set.devices i false ≡ true → slice_index_or other.devices i false ≡ true) → ((i : ℕ) → i < m → slice_index_or set.links i false ≡ true → slice_index_or other.links i false ≡ true) → IsWithin (is_in set) (is_in other)
-within_all set other n m few_devices few_links devices links (Device i) inside = elim (cases_lt i n) [
-  | inl low ↦ devices i low inside
-  | inr past ↦ absurd (no_mark set.devices i (omega arith) inside)
-]
-within_all set other n m few_devices few_links devices links (Link i) inside = elim (cases_lt i m) [
-  | inl low ↦ links i low inside
-  | inr past ↦ absurd (no_mark set.links i (omega arith) inside)
-]
+use Rattle.st_net.specs.Sets.{IsWithin}
 
 -- marks with one more: what is marked has the fact
 pub marked_more : (P : ℕ → Type 0) (marks : List Bool) (i : ℕ) (b : Bool) → length marks ≡ i → ((k : ℕ) → k < i → slice_index_or marks k false ≡ true → P k) → (b ≡ true → P i) → (k : ℕ) → k < i + 1 → slice_index_or (marks ++ b ∷ []) k false ≡ true → P k

@@ -3,7 +3,7 @@
 ghost use Rattle.std.specs.Prelude.{◌≡◌, ◌↔◌, IsTrue};
 ghost use Rattle.st_net.specs.Sets.{is_in, MarksOf, IsWithin};
 
-use st_net::{Entity, EntitySet, GroupTopo};
+use st_net::{EntitySet, GroupTopo};
 
 /// Whether each entity of one set is in the other.
 pub fn is_within(topo: &GroupTopo, set: &EntitySet, other: &EntitySet) -> bool
@@ -11,14 +11,8 @@ pub fn is_within(topo: &GroupTopo, set: &EntitySet, other: &EntitySet) -> bool
     requires other { MarksOf topo.now other.now }
     ensures { IsTrue result ↔ IsWithin (is_in set.now) (is_in other.now) }
 {
-    'devices: for i in 0..topo.device_count() {
-        let entity = Entity::Device(i);
-        if set.has(entity) && !other.has(entity) {
-            return false;
-        }
-    }
-    'links: for i in 0..topo.link_count() {
-        let entity = Entity::Link(i);
+    for place in 0..topo.entity_count() {
+        let entity = topo.entity_at(place);
         if set.has(entity) && !other.has(entity) {
             return false;
         }
