@@ -1,4 +1,4 @@
-use Rattle.std.proofs.Common.{Bool, ap, sym, ◌∙◌, arith}
+use Rattle.std.proofs.Common.{Bool, ap, sym, arith}
 use Rattle.std.specs.Prelude.{true, false}
 use Rattle.st_net.specs.declared.entity.Entity.{Entity}
 use Rattle.st_net.specs.Sets.{is_in}
