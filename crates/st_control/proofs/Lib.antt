@@ -1,4 +1,3 @@
-pub mod EntityLoops
 pub mod Beyond
 pub mod Ups
 pub mod StampLaws

@@ -13,9 +13,11 @@ use Rattle.st_net.specs.declared.message.Report.{Report}
 use Rattle.st_net.specs.Entities.{is_same_entity, is_same_vals}
 use Rattle.st_net.specs.Groups.{Group, IsEntityOf}
 use Rattle.st_net.specs.Merge.{alters, vals_in}
-use Rattle.st_net.specs.Sets.{Marks, is_in}
-use Rattle.st_net.specs.InOrder.{entity_count, place_in, stamp_in}
+use Rattle.st_net.specs.Sets.{Marks, MarksOf, is_in, is_of}
+use Rattle.st_net.specs.InOrder.{entities_of, entity_count, place_in, stamp_in}
 use Rattle.st_net.proofs.Tests.{same_entity, equal_numbers, less, less_is}
+use Rattle.st_net.proofs.SetLaws.{in_no_set}
+use Rattle.st_net.proofs.EntityLoops.{AreSetBefore, set_all}
 use Rattle.st_event.specs.Standing.{stamp_altered, stamp_renewed}
 
 pub ok_map : {X E : Type 0} (P Q : X → Type 0) (r : Result X E) → ((x : X) → P x → Q x) → IfOk r P → IfOk r Q
@@ -73,6 +75,20 @@ stamp_in-set g stamps (Link i) (Link j) n here count = by_number (i == j) refl
     by_number : (same : Bool) → (i == j) ≡ same → slice_index_or (set stamps (length g.devices + i) n) (length g.devices + j) 0 ≡ (if same then n else slice_index_or stamps (length g.devices + j) 0)
     by_number true is = subst (λ (k : ℕ). slice_index_or (set stamps (length g.devices + i) n) (length g.devices + k) 0 ≡ n) (equal_numbers i j is) (get_or-set_same stamps (length g.devices + i) n 0 (omega arith))
     by_number false other = get_or-set_other stamps (length g.devices + i) (length g.devices + j) n 0 (λ same. differ i j other (omega (arith, same)))
+
+-- the same by the place where the entity stands
+pub stamp_put : (g : Group) (stamps : List ℕ) (place : ℕ) (at : Entity) (n : ℕ) → IsEntityOf g at → place_in g at ≡ place → length stamps ≡ entity_count g → (e : Entity) → stamp_in g (set stamps place n) e ≡ (if is_same_entity at e then n else stamp_in g stamps e)
+stamp_put g stamps place at n here is count e = rw (← is) (stamp_in-set g stamps at e n here count)
+
+-- once all entities were looked at, those of the set are stamped and all else is as it was
+own_case : (own inside : Bool) (n was : ℕ) → (own ≡ false → inside ≡ false) → (if own && inside then n else was) ≡ (if inside then n else was)
+own_case true inside n was none = refl
+own_case false inside n was none = rw (none refl) refl
+
+pub stamped_all : (g : Group) (s : Marks) (place n : ℕ) (old new : List ℕ) → MarksOf g s → place ≡ length (entities_of g) → AreSetBefore g place (is_in s) n (stamp_in g old) (stamp_in g new) → stamp_in g new ≡ (λ e. if is_in s e then n else stamp_in g old e)
+stamped_all g s place n old new marks all known = fun_ext (λ e.
+    set_all g place (is_in s) n (stamp_in g old) (stamp_in g new) all known e
+    ∙ own_case (is_of g e) (is_in s e) n (stamp_in g old e) (in_no_set g s e marks))
 
 -- the report shows that the command of an entity's stamp was carried out, and other values than the target's
 abbrev pub is_other_at : Group → (Entity → Var → ℕ) → Report → (Entity → ℕ) → Entity → Bool

@@ -1,26 +1,16 @@
 -- The sure entities, by tables.
-use Rattle.std.specs.Prelude.{◌≡◌, ℕ, nat_lt, Bool, false, ◌&&◌, List, length}
+use Rattle.std.specs.Prelude.{◌≡◌, ℕ, Bool, ◌&&◌, List}
 use Rattle.st_net.specs.declared.entity.Entity.{Entity}
-use Rattle.st_net.specs.declared.entity.Entity.TheVariants.{Device, Link}
 use Rattle.st_net.specs.declared.entity.Vals.{Vals}
 use Rattle.st_net.specs.declared.message.Report.{Report}
 use Rattle.st_net.specs.Groups.{Group}
 use Rattle.st_net.specs.Merge.{vals_in}
-use Rattle.st_net.specs.Sets.{Marks, MarksOf, is_in}
+use Rattle.st_net.specs.Sets.{Marks, MarksOf, is_in, is_of}
 use Rattle.st_net.specs.Reports.{is_sure_by, is_settled_by}
 use Rattle.st_overlay.specs.Values.{Values, value_in}
 use Rattle.st_net.specs.InOrder.{report_in, stamp_in}
 use Rattle.st_control.specs.declared.settled.Shown.{Shown}
 use Rattle.st_control.specs.declared.settled.Shown.TheVariants.{Settled, Sure}
-
--- the entities of a group, in order, up to a device or a link
-abbrev pub is_device_before : ℕ → Entity → Bool
-is_device_before n (Device i) = nat_lt i n
-is_device_before n (Link i) = false
-
-abbrev pub is_before_link : Group → ℕ → Entity → Bool
-is_before_link g n (Device i) = nat_lt i (length g.devices)
-is_before_link g n (Link i) = nat_lt i n
 
 -- whether an entity is settled, or sure, by its report, its stamp and its target values
 abbrev pub is_shown_by : Shown → Entity → Report → ℕ → Vals → Bool
@@ -34,4 +24,4 @@ shown_by shown g observed stamps values = λ e. is_shown_by shown e (report_in g
 -- a mark for each entity of the group, and the entities of the group that are so are marked
 pub record MarksShown (shown : Shown) (g : Group) (observed : List Report) (stamps : List ℕ) (values : Values) (set : Marks) : Type 0 where
   pub marks : MarksOf g set
-  pub shown_is : (e : Entity) → is_in set e ≡ (is_before_link g (length g.links) e && shown_by shown g observed stamps values e)
+  pub shown_is : (e : Entity) → is_in set e ≡ (is_of g e && shown_by shown g observed stamps values e)

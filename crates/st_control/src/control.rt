@@ -26,7 +26,7 @@ use crate::basis::{Basis, Judged};
 use crate::send::{SendStep, governing_row, shows_other};
 use crate::settled::Shown;
 use crate::stamps::{opening_stamps, stamp_all};
-use crate::sure::{shown_set, take_out};
+use crate::sure::shown_set;
 use crate::twice::Twice;
 use st_event::{Cause, Receipt, Rows, Verdict};
 use st_locks::{Grant, LockTable, Release};
@@ -304,7 +304,7 @@ impl Control {
     {
         let sure = self.sure()?;
         let mut after = sure.copy(self.alloc)?;
-        take_out(&self.topo, &mut after, changed);
+        after.remove_all(changed);
         Ok(SureSets { sure, after })
     }
 

@@ -4,7 +4,7 @@ ghost use Rattle.std.specs.Prelude.{◌≡◌, length, IfOk, if◌then◌else◌
 ghost use Rattle.st_net.specs.Sets.{is_in, MarksOf};
 ghost use Rattle.st_net.specs.InOrder.{entity_count, stamp_in};
 
-use st_net::{Entity, EntitySet, GroupTopo};
+use st_net::{EntitySet, GroupTopo};
 use std::alloc::{AllocError, Global};
 
 /// A stamp of 0 for each entity.
@@ -23,15 +23,9 @@ pub fn stamp_all(topo: &GroupTopo, stamps: &mut [u32], set: &EntitySet, stamp: u
     ensures count { length stamps.new ≡ length stamps.old }
     ensures stamps { stamp_in topo.now stamps.new ≡ (λ e. if is_in set.now e then stamp else stamp_in topo.now stamps.old e) }
 {
-    let devices = topo.device_count();
-    'devices: for i in 0..devices {
-        if set.has(Entity::Device(i)) {
-            stamps[i as usize] = stamp;
-        }
-    }
-    'links: for i in 0..topo.link_count() {
-        if set.has(Entity::Link(i)) {
-            stamps[devices as usize + i as usize] = stamp;
+    for place in 0..topo.entity_count() {
+        if set.has(topo.entity_at(place)) {
+            stamps[place as usize] = stamp;
         }
     }
 }
