@@ -1,49 +1,26 @@
 -- The agents of a group: those of its opening, and those after one of them was changed.
-use Rattle.std.proofs.Common.{◌≡◌, ℕ, ◌+◌, ◌<◌, List, [], ◌∷◌, ◌++◌, length, get_or, set, refl, sym, ap, ◌∙◌, length-set, add_assoc}
+use Rattle.std.proofs.Common.{◌≡◌, ℕ, List, length, get_or, map, set, take, refl, sym, ap, ◌∙◌, length-set}
 use Rattle.std.specs.Prelude.{Bool, true, false, if◌then◌else◌}
 use mathlib.Core.Path.{fun_ext}
 use Rattle.st_net.specs.declared.entity.Entity.{Entity}
-use Rattle.st_net.specs.declared.entity.Entity.TheVariants.{Device, Link}
 use Rattle.st_net.specs.Entities.{is_same_entity}
 use Rattle.st_net.specs.Groups.{Group, IsEntityOf}
 use Rattle.st_net.specs.Agents.{Agent}
-use Rattle.st_net.specs.InOrder.{entity_count, place_in}
+use Rattle.st_net.specs.InOrder.{entities_of, place_in}
 use Rattle.st_net.proofs.Tests.{same_entity}
-use Rattle.st_net.proofs.InOrder.{item_in_at, item_in-set, AreDefaults, none_yet as none_of_any, push_device as push_any_device, push_link as push_any_link, all_default}
+use Rattle.st_net.proofs.InOrder.{item_in_at, item_in-set, all_default}
 use Rattle.st_agent.specs.State.{AgentState}
 use Rattle.st_world.specs.Plant.{IsPlantOf, opening_agent, opening_state, state_in, agent_in, agent_set}
 
--- the agents of the first so many entities, each that of the opening
-pub record AreOpenings (g : Group) (n : ℕ) (agents : List AgentState) : Type 0 where
-  pub are : AreDefaults g (opening_state g) n agents
-  pub count : length agents ≡ n
+-- the agents of a group's opening, made place by place, are one for each entity, in its place
+pub opening_plant : (g : Group) (n : ℕ) (agents : List AgentState) → n ≡ length (entities_of g) → agents ≡ map (opening_state g) (take n (entities_of g)) → IsPlantOf g agents
+opening_plant g n agents all made =
+    let are = all_default g (opening_state g) n agents all made in
+    record { count = are.count; own = λ e. ap (λ (s : AgentState). s.entity) (are.each e) }
 
--- none so far
-pub none_yet : (g : Group) → AreOpenings g 0 []
-none_yet g = record { are = none_of_any g (opening_state g); count = refl }
-
--- one more device's
-pub push_device : (g : Group) (n : ℕ) (agents more : List AgentState) (a : AgentState) → n < length g.devices → AreOpenings g n agents → a ≡ opening_state g (Device n) → more ≡ agents ++ a ∷ [] → AreOpenings g (n + 1) more
-push_device g n agents more a low known is pushed =
-    let next = push_any_device g (opening_state g) n agents more a low known.are is pushed in
-    record { are = next; count = next.count }
-
--- one more link's, behind all devices'
-pub push_link : (g : Group) (n : ℕ) (agents more : List AgentState) (a : AgentState) → AreOpenings g (length g.devices + n) agents → a ≡ opening_state g (Link n) → more ≡ agents ++ a ∷ [] → AreOpenings g (length g.devices + (n + 1)) more
-push_link g n agents more a known is pushed =
-    let next = push_any_link g (opening_state g) n agents more a known.are is pushed in
-    rw (← add_assoc (length g.devices) n 1) (record { are = next; count = next.count })
-
--- such a list of all entities has an agent for each, in its place
-pub opening_plant : (g : Group) (n : ℕ) (agents : List AgentState) → AreOpenings g n agents → n ≡ entity_count g → IsPlantOf g agents
-opening_plant g n agents known all = record {
-  count = known.count ∙ all;
-  own = λ e. ap (λ (s : AgentState). s.entity) (all_default g (opening_state g) n agents known.are e);
-}
-
--- such agents are those of the opening: none was told anything
-pub opening_agents : (g : Group) (n : ℕ) (agents : List AgentState) → AreOpenings g n agents → agent_in g agents ≡ opening_agent g
-opening_agents g n agents known = fun_ext (λ e. ap (λ (s : AgentState). s.agent) (all_default g (opening_state g) n agents known.are e))
+-- and none of them was told anything
+pub opening_agents : (g : Group) (n : ℕ) (agents : List AgentState) → n ≡ length (entities_of g) → agents ≡ map (opening_state g) (take n (entities_of g)) → agent_in g agents ≡ opening_agent g
+opening_agents g n agents all made = fun_ext (λ e. ap (λ (s : AgentState). s.agent) ((all_default g (opening_state g) n agents all made).each e))
 
 -- what stands in the place of an entity of the group is its agent
 pub agent_at : (g : Group) (old items : List AgentState) (place : ℕ) (at : Entity) (s : AgentState) → items ≡ old → IsPlantOf g old → IsEntityOf g at → place ≡ place_in g at → s ≡ get_or items place s → s ≡ record { entity = at; agent = agent_in g old at }

@@ -42,11 +42,8 @@ impl Plant {
         ensures opening { IfOk result (λ plant. agent_in topo.now plant ≡ opening_agent topo.now) }
     {
         let mut agents = Vec::new(alloc);
-        'devices: for i in 0..topo.device_count() {
-            agents.push(opening_agent_of(topo, Entity::Device(i)))?;
-        }
-        'links: for i in 0..topo.link_count() {
-            agents.push(opening_agent_of(topo, Entity::Link(i)))?;
+        for place in 0..topo.entity_count() {
+            agents.push(opening_agent_of(topo, topo.entity_at(place)))?;
         }
         Ok(Plant { agents })
     }

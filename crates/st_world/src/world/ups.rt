@@ -24,18 +24,8 @@ impl World {
         ensures up { IfOk result (λ set. is_in set ≡ actual self.now.history.group self.now.history.past) }
     {
         self.is_legal();
-        let topo = self.control().topo();
-        let mut set = EntitySet::none(self.alloc, topo)?;
-        'devices: for i in 0..topo.device_count() {
-            if self.is_up(Entity::Device(i)) {
-                set.put(Entity::Device(i));
-            }
-        }
-        'links: for i in 0..topo.link_count() {
-            if self.is_up(Entity::Link(i)) {
-                set.put(Entity::Link(i));
-            }
-        }
-        Ok(set)
+        EntitySet::passing(self.alloc, self.control().topo(), |entity| {
+            self.is_up(entity)
+        })
     }
 }
