@@ -26,16 +26,5 @@ pub(crate) fn up_at_opening(alloc: Global, topo: &GroupTopo) -> Result<EntitySet
     ensures of { IfOk result (MarksOf topo.now) }
     ensures up { IfOk result (λ set. is_in set ≡ actual topo.now []) }
 {
-    let mut set = EntitySet::none(alloc, topo)?;
-    'devices: for i in 0..topo.device_count() {
-        if is_up_at_opening(topo, Entity::Device(i)) {
-            set.put(Entity::Device(i));
-        }
-    }
-    'links: for i in 0..topo.link_count() {
-        if is_up_at_opening(topo, Entity::Link(i)) {
-            set.put(Entity::Link(i));
-        }
-    }
-    Ok(set)
+    EntitySet::passing(alloc, topo, |entity| is_up_at_opening(topo, entity))
 }
