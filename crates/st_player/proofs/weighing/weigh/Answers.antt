@@ -5,7 +5,8 @@ use Rattle.st_net.specs.declared.entity.Var.{Var}
 use Rattle.st_net.specs.Groups.{Group}
 use Rattle.st_net.specs.Merge.{alters}
 use Rattle.st_net.specs.Ranges.{RowFits}
-use Rattle.st_net.specs.Sets.{MarksOf, is_in}
+use Rattle.st_net.specs.Sets.{Marks, MarksOf, is_in}
+use Rattle.st_net.proofs.SetLaws.{marks_kept}
 use Rattle.st_event.specs.Observed.{sure, sure_after}
 use Rattle.st_event.specs.Proposals.{target}
 use Rattle.st_event.specs.Standing.{Standing, sure_in}
@@ -38,14 +39,15 @@ returns c =
     ∙ (ap (λ (h : Group). alters h (value_in c.target.result.now) rows) group ∙ ap (λ (t : Entity → Var → ℕ). alters g t rows) values) in
     let sure_set : is_in c.in_ok-sure.sure ≡ sure g past =
     c.in_ok-sure.ensures.sure ∙ (ap (λ (h : Group). sure_in h (standing_in k)) c.control-control.ensures.group ∙ ap (sure_in g) c.control-control.ensures.standing) in
-    let after : is_in c.in_ok-after.after ≡ sure_after g past rows =
-    c.in_ok-after.ensures.left
+    let after : is_in c.remove_all.new.self ≡ sure_after g past rows =
+    c.remove_all.ensures.members
+    ∙ (ap (λ (s : Marks). λ (e : Entity). is_in s e && not (is_in c.in_ok-changed.changed e)) c.in_ok-after.ensures
     ∙ (ap (λ (s : Entity → Bool). λ (e : Entity). s e && not (is_in c.in_ok-changed.changed e)) sure_set
-    ∙ ap (λ (t : Entity → Bool). λ (e : Entity). sure g past e && not (t e)) changed) in
+    ∙ ap (λ (t : Entity → Bool). λ (e : Entity). sure g past e && not (t e)) changed)) in
     record {
       changed_of = subst (λ (h : Group). MarksOf h c.in_ok-changed.changed) group c.in_ok-changed.ensures.of;
       sure_of = subst (λ (h : Group). MarksOf h c.in_ok-sure.sure) c.control-control.ensures.group c.in_ok-sure.ensures.of;
-      after_of = subst (λ (h : Group). MarksOf h c.in_ok-after.after) group c.in_ok-after.ensures.of;
+      after_of = marks_kept g c.in_ok-after.after c.remove_all.new.self (rw c.in_ok-after.ensures (subst (λ (h : Group). MarksOf h c.in_ok-sure.sure) c.control-control.ensures.group c.in_ok-sure.ensures.of)) c.remove_all.ensures.same;
       changed_is = changed;
       sure_is = sure_set;
       after_is = after;
