@@ -16,16 +16,15 @@ use Rattle.st_event.specs.declared.journal.TheConstants.{MAX_PENDING}
 use Rattle.st_net.specs.Groups.{Group}
 use Rattle.st_net.specs.Merge.{merge_of}
 use Rattle.st_net.specs.Numbered.{nth}
-use Rattle.st_net.proofs.MergeLaws.{merge_of-push_all}
-use Rattle.st_event.specs.Proposals.{proposals, verdicts, pending, accepted, overlays, first_rows, is_acceptance}
+use Rattle.st_event.specs.Proposals.{proposals, verdicts, pending, accepted, first_rows, is_acceptance}
 use Rattle.st_event.specs.Moments.{told, fence_after, commands, fence}
 use Rattle.st_event.specs.Observed.{observed}
 use Rattle.st_event.specs.Replies.{reply, check_reply, receipt_of}
 use Rattle.st_event.specs.Legal.{IsLegal, IsNext}
-use Rattle.st_event.specs.Laws.{MovesTarget, OverlaysAccepted, IsGreatestHeard, IsGreatestTold, WasBegunBy}
+use Rattle.st_event.specs.Laws.{MovesAccepted, OverlaysAccepted, IsGreatestHeard, IsGreatestTold, WasBegunBy}
 use Rattle.st_event.proofs.Made.{observed_own, told_sent}
 use Rattle.st_event.proofs.Stamps.{fence_grows}
-use Rattle.st_event.proofs.Targets.{IsAccepted, IsOrderly, acceptance, accepted_same, accepted_next, legal_orderly, overlays_next, target_same, overlays_are_accepted}
+use Rattle.st_event.proofs.Targets.{IsAccepted, IsOrderly, acceptance, accepted_same, accepted_next, legal_orderly, overlays_are_accepted}
 use Rattle.st_event.proofs.Promises.{entry_of, same_entry}
 use Rattle.st_event.proofs.Greatest.{observed_greatest, observed_heard, fence_greatest}
 
@@ -43,12 +42,10 @@ listed_at g past event answer is =
 listed_in : (g : Group) (past : List Entry) (entry : Entry) → IsNext g past entry → is_acceptance entry.event entry.reply ≡ true → accepted (entry ∷ past) ≡ accepted past ++ first_rows (pending past) ∷ []
 listed_in g past entry next accepts = listed_at g past entry.event entry.reply (acceptance g past entry.event entry.reply next.answer accepts)
 
-pub target_moves : (g : Group) (past : List Entry) (entry : Entry) → IsLegal g past → IsNext g past entry → MovesTarget g past entry
-target_moves g past entry legal next = record {
+pub accepted_moves : (g : Group) (past : List Entry) (entry : Entry) → IsLegal g past → IsNext g past entry → MovesAccepted past entry
+accepted_moves g past entry legal next = record {
   listed = listed_in g past entry next;
-  overlaid = λ accepts. ap (merge_of g) (overlays_next past entry accepts) ∙ merge_of-push_all g (overlays past) (first_rows (pending past));
   same_list = accepted_same g past entry.event entry.reply (legal_orderly g past legal) next.answer;
-  same = target_same g past entry;
 }
 
 pub overlays_accepted : (g : Group) (past : List Entry) → IsLegal g past → OverlaysAccepted g past

@@ -54,6 +54,17 @@ small percent = two_paths percent (device false usual 5) (device false usual 5)
 abbrev pub q : Group
 q = small 50
 
+-- three ToRs at one switch, with a promise from the first to each of the others; the second ToR opens so
+abbrev pub two_promises : DeviceOpening → Group
+two_promises t2 = record {
+  name = codes "dc1";
+  device_names = codes "t1" ∷ codes "t2" ∷ codes "t3" ∷ codes "a1" ∷ [];
+  link_names = codes "l1" ∷ codes "l2" ∷ codes "l3" ∷ [];
+  devices = device true usual 5 ∷ t2 ∷ device true usual 5 ∷ device false usual 5 ∷ [];
+  links = link 0 3 ∷ link 1 3 ∷ link 2 3 ∷ [];
+  promises = record { a = 0; b = 1; percent = 50 } ∷ record { a = 0; b = 2; percent = 80 } ∷ [];
+}
+
 abbrev pub t1 : Entity
 t1 = Device 0
 

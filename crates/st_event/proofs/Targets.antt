@@ -105,15 +105,22 @@ overlaid g (Some rows) before = merge_of-push_all g before rows
 pub target_overlaid : (g : Group) (past : List Entry) (entry : Entry) → target g (entry ∷ past) ≡ overlaid_by (overlay_in entry.event entry.reply (first_rows (pending past))) (target g past)
 target_overlaid g past entry = overlaid g (overlay_in entry.event entry.reply (first_rows (pending past))) (overlays past)
 
+-- an acceptance overlays the target with the rows of the oldest proposal that waits
+pub target_accepted : (g : Group) (past : List Entry) (entry : Entry) → is_acceptance entry.event entry.reply ≡ true → target g (entry ∷ past) ≡ target_with (target g past) (first_rows (pending past))
+target_accepted g past entry accepts =
+    target_overlaid g past entry
+    ∙ ap (λ (o : Option (List Row)). overlaid_by o (target g past)) (overlay_some entry.event entry.reply (first_rows (pending past)) accepts)
+
 -- an entry that accepts nothing leaves the target
 pub target_same : (g : Group) (past : List Entry) (entry : Entry) → is_acceptance entry.event entry.reply ≡ false → target g (entry ∷ past) ≡ target g past
-target_same g past entry none = ap (merge_of g) (overlays_same past entry none)
+target_same g past entry none =
+    target_overlaid g past entry
+    ∙ ap (λ (o : Option (List Row)). overlaid_by o (target g past)) (overlay_none entry.event entry.reply (first_rows (pending past)) none)
 
 -- an acceptance overlays the target with the proposal's rows
 pub target_next : (g : Group) (past : List Entry) (receipt : Receipt) (p : Proposal) (rest : List Proposal) → pending past ≡ p ∷ rest → is_accepted receipt.verdict ≡ true → target g (record { event = Check; reply = Decided receipt } ∷ past) ≡ target_with (target g past) p.rows
 target_next g past receipt p rest first accepts =
-    ap (merge_of g) (overlays_next past (record { event = Check; reply = Decided receipt }) accepts)
-    ∙ merge_of-push_all g (overlays past) (first_rows (pending past))
+    target_accepted g past (record { event = Check; reply = Decided receipt }) accepts
     ∙ ap (λ (q : List Proposal). target_with (target g past) (first_rows q)) first
 
 -- the overlays of a legal journal are the accepted proposals' rows

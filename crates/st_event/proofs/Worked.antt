@@ -18,7 +18,7 @@ use Rattle.st_event.specs.Proposals.{accepted, overlays, version, target}
 use Rattle.st_event.specs.Moments.{stamp, fence, busy, vals}
 use Rattle.st_event.specs.Observed.{observed, is_settled, sure, actual, untold, failed_between}
 use Rattle.st_event.specs.Replies.{reply}
-use Rattle.st_event.proofs.SmallGroups.{device_vals, usual, device, link, two_paths, small, q, t1, a1, a2, after, replies, te, up, row, propose, decided, breaks}
+use Rattle.st_event.proofs.SmallGroups.{device_vals, usual, device, two_paths, small, q, t1, a1, a2, after, replies, te, up, row, propose, decided, breaks}
 
 -- Promises
 

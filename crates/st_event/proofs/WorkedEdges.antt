@@ -1,23 +1,29 @@
 -- More small journals, computed: what does not come, and which of two things comes first.
-use Rattle.std.proofs.Common.{◌≡◌, ℕ, List, [], ◌∷◌, ◌++◌, Some, refl}
+use Rattle.std.proofs.Common.{◌≡◌, ℕ, List, [], ◌∷◌, ◌++◌, Some, None, refl}
 use Rattle.std.specs.Prelude.{true, false, map, codes, take}
+use Rattle.st_net.specs.declared.entity.Entity.{Entity}
 use Rattle.st_net.specs.declared.entity.Entity.TheVariants.{Device, Link}
+use Rattle.st_net.specs.declared.entity.Row.{Row}
 use Rattle.st_net.specs.declared.entity.Var.TheVariants.{Power, Firmware, Config, Routing, LinkPower, Iface}
 use Rattle.st_net.specs.declared.entity.Prio.TheVariants.{Low, High}
 use Rattle.st_event.specs.declared.event.Event.{Event}
 use Rattle.st_event.specs.declared.event.Event.TheVariants.{Submit, Check, Lock, Unlock, Send, Deliver, Finish, Report as make_report, Hear, Fail}
+use Rattle.st_event.specs.declared.reply.Reply.{Reply}
 use Rattle.st_event.specs.declared.reply.Reply.TheVariants.{Queued, Granted, Released, NotYours, Sent, Blocked, Begun, Stale, NoSuch, Done, Reported, Taken, Old, Changed}
 use Rattle.st_event.specs.declared.reply.Verdict.TheVariants.{Accepted, Refused}
 use Rattle.st_event.specs.declared.reply.Lack.TheVariants.{Level}
 use Rattle.st_event.specs.declared.reply.Cause.TheVariants.{NotControllable, Locked, Broken as broken_cause}
 use Rattle.st_net.specs.declared.promise.BrokenKind.TheVariants.{CutOff, Short}
 use Rattle.st_net.specs.Groups.{Group, promise_of}
-use Rattle.st_net.specs.Promises.{is_kept, need_of}
-use Rattle.st_event.specs.Proposals.{target}
-use Rattle.st_event.specs.Moments.{stamp, vals}
+use Rattle.st_net.specs.Demands.{demand_count, HoldsIn, is_held_in, first_broken_of}
+use Rattle.st_net.specs.Promises.{Keeps, is_kept, need_of}
+use Rattle.st_event.specs.Proposals.{overlay_in, target}
+use Rattle.st_event.specs.Moments.{is_altered_by, stamp, vals}
 use Rattle.st_event.specs.Observed.{is_settled, sure, actual, untold, failed_between}
 use Rattle.st_event.specs.Replies.{reply}
-use Rattle.st_event.proofs.SmallGroups.{device_vals, usual, device, wide_link, link, two_paths, small, q, t1, a1, a2, after, replies, te, up, row, propose, decided, breaks}
+use Rattle.st_event.specs.Standing.{standing_of}
+use Rattle.st_event.specs.Versions.{value_at, versions_after}
+use Rattle.st_event.proofs.SmallGroups.{device_vals, usual, device, wide_link, link, two_paths, small, two_promises, q, t1, a1, a2, after, replies, te, up, row, propose, decided, breaks}
 use Rattle.st_event.specs.Past.{target_at, is_spoiled}
 
 -- Failures and what is known of them
@@ -155,6 +161,75 @@ need_rounds_up = refl
 rows_leave_together : replies q (Submit up (row a1 Firmware 2 ∷ row a2 Firmware 2 ∷ []) ∷ Check ∷ Submit up (row a1 Firmware 2 ∷ row a2 Firmware 1 ∷ []) ∷ Check ∷ []) ≡ Queued 1 ∷ decided 1 2 (breaks CutOff 10 0) ∷ Queued 2 ∷ decided 2 4 (Accepted 1) ∷ []
 rows_leave_together = refl
 
+-- Demands
+
+-- three ToRs at one switch, all of them up at the opening, and with the second one drained
+abbrev all_up : Group
+all_up = two_promises (device true usual 5)
+
+abbrev one_drained : Group
+one_drained = two_promises (device true (device_vals 1 1 1 0) 5)
+
+abbrev switch : Entity
+switch = Device 3
+
+-- the demands are the promises, by their numbers
+demands_are_promises : (demand_count all_up ≡ 2) × (HoldsIn all_up (actual all_up []) 0 ≡ Keeps all_up (actual all_up []) (record { a = 0; b = 1; percent = 50 })) × (HoldsIn all_up (actual all_up []) 1 ≡ Keeps all_up (actual all_up []) (record { a = 0; b = 2; percent = 80 }))
+demands_are_promises = (refl, refl, refl)
+
+-- each is told by its number
+demands_told : (map (is_held_in all_up (actual all_up [])) (0 ∷ 1 ∷ []) ≡ true ∷ true ∷ []) × (map (is_held_in one_drained (actual one_drained [])) (0 ∷ 1 ∷ []) ≡ false ∷ true ∷ [])
+demands_told = (refl, refl)
+
+-- of two demands that break the first one is named, with its number, its need and its side
+first_is_named : replies all_up (propose up switch Firmware 2 ∷ Check ∷ []) ≡ Queued 1 ∷ decided 1 2 (breaks CutOff 5 0) ∷ []
+first_is_named = refl
+
+-- the second promise is broken, of this side
+abbrev breaks_second : List ℕ → Reply
+breaks_second side = decided 1 2 (Refused (broken_cause (record { promise = 1; kind = CutOff; need = 8; has = 0; side = side })))
+
+-- one that failed before is passed over, and so is one that goes on to hold; what is named has its number among all
+failed_before_is_passed : replies one_drained (propose up switch Firmware 2 ∷ Check ∷ []) ≡ Queued 1 ∷ breaks_second (0 ∷ []) ∷ []
+failed_before_is_passed = refl
+
+held_on_is_passed : replies all_up (propose up (Device 2) Firmware 2 ∷ Check ∷ []) ≡ Queued 1 ∷ breaks_second (0 ∷ 1 ∷ 3 ∷ []) ∷ []
+held_on_is_passed = refl
+
+-- with the same set before and after nothing is broken, also where a demand does not hold
+nothing_is_broken : (first_broken_of all_up (actual all_up []) (actual all_up []) ≡ None) × (first_broken_of one_drained (actual one_drained []) (actual one_drained []) ≡ None)
+nothing_is_broken = (refl, refl)
+
+-- Overlays and versions
+
+abbrev two_rows : List Row
+two_rows = row a1 Firmware 2 ∷ row a2 Firmware 1 ∷ []
+
+-- a check overlays what it accepts; a refusal overlays nothing, and neither does another event, whatever its reply says
+overlaid_by_acceptance : (overlay_in Check (decided 1 2 (Accepted 1)) two_rows ≡ Some two_rows) × (overlay_in Check (decided 1 2 (breaks CutOff 5 0)) two_rows ≡ None) × (overlay_in Check Granted two_rows ≡ None)
+overlaid_by_acceptance = (refl, refl, refl)
+
+overlaid_by_checks_alone : map (λ event. overlay_in event (decided 1 2 (Accepted 1)) two_rows) (Submit up two_rows ∷ Lock up a1 Low ∷ Unlock up a1 Low ∷ Send a1 ∷ Deliver 1 ∷ Finish a1 ∷ make_report a1 ∷ Hear 1 ∷ Fail a1 usual 5 ∷ []) ≡ None ∷ None ∷ None ∷ None ∷ None ∷ None ∷ None ∷ None ∷ None ∷ []
+overlaid_by_checks_alone = refl
+
+-- an overlay alters the entity whose value it moves, and not one that it sets to the value that it had
+altered_by_rows : (map (is_altered_by q (target q []) (Some two_rows)) (a1 ∷ a2 ∷ t1 ∷ []) ≡ true ∷ false ∷ false ∷ []) × (is_altered_by q (target q []) None a1 ≡ false)
+altered_by_rows = (refl, refl)
+
+-- the values at each version, and behind the last one
+abbrev two_versions : List Event
+two_versions = propose te a1 Config 5 ∷ propose up a1 Config 7 ∷ Check ∷ Check ∷ []
+
+values_by_versions : map (λ v. value_at q (after q two_versions) v a1 Config) (0 ∷ 1 ∷ 2 ∷ 3 ∷ []) ≡ 1 ∷ 5 ∷ 7 ∷ 7 ∷ []
+values_by_versions = refl
+
+-- an acceptance makes the next version and leaves those before it; what overlays nothing makes none
+next_version : let past = after q (take 3 two_versions) in map (λ v. versions_after (standing_of q past) Check (decided 2 4 (Accepted 2)) (value_at q past) v a1 Config) (0 ∷ 1 ∷ 2 ∷ []) ≡ 1 ∷ 5 ∷ 7 ∷ []
+next_version = refl
+
+no_version : let past = after q (take 3 two_versions) in (versions_after (standing_of q past) (Send a1) (decided 2 4 (Accepted 2)) (value_at q past) 2 a1 Config ≡ 5) × (versions_after (standing_of q past) Check (decided 2 4 (breaks CutOff 10 0)) (value_at q past) 2 a1 Config ≡ 5)
+no_version = (refl, refl)
+
 -- Stamps and targets
 
 -- a target that came back to what was observed is not settled before a command of its stamp was carried out
@@ -165,10 +240,7 @@ back_is_not_settled : (stamp q (after q came_back) a1 ≡ 4) × (is_settled q (a
 back_is_not_settled = (refl, refl, refl, refl)
 
 -- the target behind so many entries
-abbrev two_acceptances : List Event
-two_acceptances = propose te a1 Config 5 ∷ propose up a1 Config 7 ∷ Check ∷ Check ∷ []
-
-targets_by_entries : map (λ n. (target_at q (after q two_acceptances) n a1).v2) (0 ∷ 2 ∷ 3 ∷ 4 ∷ 100 ∷ []) ≡ 1 ∷ 1 ∷ 5 ∷ 7 ∷ 7 ∷ []
+targets_by_entries : map (λ n. (target_at q (after q two_versions) n a1).v2) (0 ∷ 2 ∷ 3 ∷ 4 ∷ 100 ∷ []) ≡ 1 ∷ 1 ∷ 5 ∷ 7 ∷ 7 ∷ []
 targets_by_entries = refl
 
 -- a report that is heard twice renews once, and a later one of the old fence does not renew the new stamp

@@ -1,10 +1,9 @@
 -- Which events and replies hold no list, and which events are checks.
-use Rattle.std.specs.Option.{is_none}
 use Rattle.std.specs.Prelude.{Bool, true, false}
 use Rattle.st_event.specs.declared.event.Event.{Event}
 use Rattle.st_event.specs.declared.event.Event.TheVariants.{Submit, Check, Lock, Unlock, Send, Deliver, Finish, Report, Hear, Fail}
 use Rattle.st_event.specs.declared.reply.Reply.{Reply}
-use Rattle.st_event.specs.Receipts.{receipt_given}
+use Rattle.st_event.specs.declared.reply.Reply.TheVariants.{Queued, Full, Decided, Idle, Granted, Held, Released, NotYours, Sent, Settled, Blocked, Begun, Stale, NoSuch, Done, NotBusy, Reported, Taken, Old, Changed}
 
 abbrev pub is_without_rows : Event → Bool
 is_without_rows (Submit app rows) = false
@@ -18,9 +17,28 @@ is_without_rows (Report entity) = true
 is_without_rows (Hear n) = true
 is_without_rows (Fail entity vals health) = true
 
--- a reply that gives a receipt may hold a side
+-- a receipt's verdict may hold a side
 abbrev pub is_without_side : Reply → Bool
-is_without_side reply = is_none (receipt_given reply)
+is_without_side (Queued ticket) = true
+is_without_side (Full pending) = true
+is_without_side (Decided receipt) = false
+is_without_side Idle = true
+is_without_side Granted = true
+is_without_side (Held holder) = true
+is_without_side Released = true
+is_without_side (NotYours holder) = true
+is_without_side (Sent command) = true
+is_without_side Settled = true
+is_without_side (Blocked row) = true
+is_without_side Begun = true
+is_without_side (Stale fence) = true
+is_without_side (NoSuch made) = true
+is_without_side Done = true
+is_without_side NotBusy = true
+is_without_side (Reported report) = true
+is_without_side Taken = true
+is_without_side (Old kept) = true
+is_without_side Changed = true
 
 -- whether an event decides a proposal that waits
 abbrev pub is_check : Event → Bool

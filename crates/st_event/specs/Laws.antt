@@ -15,14 +15,14 @@ use Rattle.st_net.specs.Entities.{value_of}
 use Rattle.st_net.specs.declared.topo.LinkOpening.{LinkOpening}
 use Rattle.st_net.specs.declared.promise.Promise.{Promise}
 use Rattle.st_net.specs.Groups.{Group, IsSound, AreLinks, opening_of}
-use Rattle.st_net.specs.Merge.{merge_of, target_with}
+use Rattle.st_net.specs.Merge.{merge_of}
 use Rattle.st_net.specs.Numbered.{nth}
 use Rattle.st_net.specs.Sets.{IsWithin}
 use Rattle.st_net.specs.UpGraph.{IsWalk}
 use Rattle.st_net.specs.Cuts.{IsCut, cut_value, least_cut, is_in_least_side}
 use Rattle.st_net.specs.Promises.{Keeps}
 use Rattle.st_net.specs.Demands.{demand_count, HoldsIn, is_held_in}
-use Rattle.st_event.specs.Proposals.{accepted, pending, first_rows, is_acceptance, overlay_in, overlays, version, target}
+use Rattle.st_event.specs.Proposals.{accepted, deciders, pending, first_rows, is_acceptance, overlay_in, overlays, version, target}
 use Rattle.st_event.specs.Overlaid.{overlaid_by}
 use Rattle.st_event.specs.Moments.{stamp, fence, commands, reports}
 use Rattle.st_net.specs.Reports.{opening_report}
@@ -38,11 +38,11 @@ use Rattle.st_event.specs.Grants.{IsLastGrant}
 use Rattle.st_event.specs.Services.{GroupEvent, journal_by, journals_by, events_of}
 use Rattle.st_event.specs.Standing.{standing_of, wires_of, standing_after, wires_after, reply_in}
 
--- a legal journal keeps its group's promises, and did so at each moment
+-- a legal journal keeps its group's demands, and did so at each moment
 abbrev pub LegalJournalsKeepPromises : Type 0
 LegalJournalsKeepPromises = (g : Group) (past : List Entry) → IsSound g → IsLegal g past → AtEach (KeepsPromises g) past
 
--- a check takes no promise from the sure set
+-- a check takes no demand from the sure set
 abbrev pub ChecksTakeNoPromise : Type 0
 ChecksTakeNoPromise = (g : Group) (past : List Entry) (entry : Entry) (i : ℕ) → entry.event ≡ Check → IsSound g → IsLegal g past → IsNext g past entry → i < demand_count g → HoldsIn g (sure g past) i → HoldsIn g (sure g (entry ∷ past)) i
 
@@ -66,15 +66,13 @@ StampsAreEntries = (g : Group) (past : List Entry) (e : Entity) → stamp g past
 abbrev pub TargetOpens : Type 0
 TargetOpens = (g : Group) (e : Entity) (v : Var) → target g [] e v ≡ value_of e (opening_of g e) v
 
--- an acceptance adds the oldest pending proposal's rows to what was accepted, and overlays the target with them; another entry does neither
-pub record MovesTarget (g : Group) (past : List Entry) (entry : Entry) : Type 0 where
+-- an acceptance adds the oldest pending proposal's rows to what was accepted; another entry leaves the list
+pub record MovesAccepted (past : List Entry) (entry : Entry) : Type 0 where
   pub listed : is_acceptance entry.event entry.reply ≡ true → accepted (entry ∷ past) ≡ accepted past ++ first_rows (pending past) ∷ []
-  pub overlaid : is_acceptance entry.event entry.reply ≡ true → target g (entry ∷ past) ≡ target_with (target g past) (first_rows (pending past))
   pub same_list : is_acceptance entry.event entry.reply ≡ false → accepted (entry ∷ past) ≡ accepted past
-  pub same : is_acceptance entry.event entry.reply ≡ false → target g (entry ∷ past) ≡ target g past
 
-abbrev pub TargetMoves : Type 0
-TargetMoves = (g : Group) (past : List Entry) (entry : Entry) → IsLegal g past → IsNext g past entry → MovesTarget g past entry
+abbrev pub AcceptedMoves : Type 0
+AcceptedMoves = (g : Group) (past : List Entry) (entry : Entry) → IsLegal g past → IsNext g past entry → MovesAccepted past entry
 
 -- what an entry overlays, the target is overlaid with, in any journal
 abbrev pub OverlaysMove : Type 0
@@ -88,6 +86,14 @@ pub record OverlaysAccepted (g : Group) (past : List Entry) : Type 0 where
 
 abbrev pub OverlaysAreAccepted : Type 0
 OverlaysAreAccepted = (g : Group) (past : List Entry) → IsLegal g past → OverlaysAccepted g past
+
+-- in any journal there are no more versions than entries
+abbrev pub VersionsAreFew : Type 0
+VersionsAreFew = (past : List Entry) → version past ≤ length past
+
+-- in any journal no more proposals were accepted than decided
+abbrev pub AcceptedAreDecided : Type 0
+AcceptedAreDecided = (past : List Entry) → length (accepted past) ≤ length (deciders past)
 
 -- no more proposals wait than may
 abbrev pub FewWait : Type 0

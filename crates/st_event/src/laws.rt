@@ -1,11 +1,11 @@
 //! Laws of the definitions over journals. Each function does nothing: its contract is the law, for the proofs of the
 //! crates that keep a journal or claim something of one.
 
-ghost use Rattle.st_event.specs.Laws.{AgentsMove, ChecksTakeNoPromise, FenceIsGreatest, FencesNeverFall, FewWait, HolderIsLastGrant, JournalsAreApart, LeastSideIsCut, LeastSideIsOne, LegalAgentsAgree, LegalJournalsKeepPromises, MoreEntitiesKeepDemands, MoreEntitiesKeepPromises, NoSuchCommand, NoSuchReport, NoWalkIsNoCut, ObservedIsGreatest, OverlaysAreAccepted, OverlaysMove, ReportsAscend, StampsAreEntries, StampsNeverFall, StandingMoves, StandingReplies, TargetMoves, TargetOpens, TestsTellDemands, WiresMove};
+ghost use Rattle.st_event.specs.Laws.{AcceptedAreDecided, AcceptedMoves, AgentsMove, ChecksTakeNoPromise, FenceIsGreatest, FencesNeverFall, FewWait, HolderIsLastGrant, JournalsAreApart, LeastSideIsCut, LeastSideIsOne, LegalAgentsAgree, LegalJournalsKeepPromises, MoreEntitiesKeepDemands, MoreEntitiesKeepPromises, NoSuchCommand, NoSuchReport, NoWalkIsNoCut, ObservedIsGreatest, OverlaysAreAccepted, OverlaysMove, ReportsAscend, StampsAreEntries, StampsNeverFall, StandingMoves, StandingReplies, TargetOpens, TestsTellDemands, VersionsAreFew, WiresMove};
 
 /// Each legal journal of a sound group keeps the group's promises at every moment: a sure entity is up or failed
 /// untold; while nothing fails of itself, a promise that held at the start holds in the sure set, in the network, and
-/// in every larger set; and a loss comes by a report of an entity that failed. A check takes no promise from the sure set.
+/// in every larger set; and a loss comes by a report of an entity that failed. A check takes no demand from the sure set.
 pub fn keeps_promises()
     ensures throughout { LegalJournalsKeepPromises }
     ensures checks { ChecksTakeNoPromise }
@@ -31,9 +31,15 @@ pub fn stamps_never_fall()
 /// the accepted proposals.
 pub fn target_is_merge()
     ensures opens { TargetOpens }
-    ensures moves { TargetMoves }
     ensures overlaid { OverlaysMove }
+    ensures listed { AcceptedMoves }
     ensures accepted { OverlaysAreAccepted }
+{}
+
+/// There are no more versions than entries, and no more proposals were accepted than decided.
+pub fn versions_are_few()
+    ensures entries { VersionsAreFew }
+    ensures accepted { AcceptedAreDecided }
 {}
 
 /// In a legal journal at most 64 proposals wait.

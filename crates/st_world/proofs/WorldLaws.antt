@@ -147,7 +147,7 @@ agrees_next m l items more event answer agrees room fits moves pushed =
     moves.versions
     ∙ ap (λ (s : Standing). versions_after s event answer (versions_in m.checker)) agrees.standing
     ∙ ap (versions_after (standing_of g past) event answer) agrees.versions
-    ∙ sym (value_at-next g past entry agrees.legal next) in
+    ∙ sym (value_at-next g past entry) in
     record {
       legal = rw turned (subst (λ (h : Group). IsNext h past entry × IsLegal h past) (sym moves.group) (next, agrees.legal));
       standing = rw turned (subst (λ (h : Group). standing_in l.checker ≡ standing_of h (entry ∷ past)) (sym moves.group) stands);

@@ -1,16 +1,16 @@
 use Rattle.std.proofs.Common.{refl}
-use Rattle.st_event.proofs.LawLemmas.{target_moves, overlays_accepted}
+use Rattle.st_event.proofs.LawLemmas.{accepted_moves, overlays_accepted}
 use Rattle.st_event.proofs.Targets.{target_overlaid}
 use Rattle.st_event.proofs.laws.target_is_merge.Goals as goal
 
 pub returns-clause-opens : goal.returns-clause-opens
 returns-clause-opens c = λ g e v. refl
 
-pub returns-clause-moves : goal.returns-clause-moves
-returns-clause-moves c = target_moves
-
 pub returns-clause-overlaid : goal.returns-clause-overlaid
 returns-clause-overlaid c = target_overlaid
+
+pub returns-clause-listed : goal.returns-clause-listed
+returns-clause-listed c = accepted_moves
 
 pub returns-clause-accepted : goal.returns-clause-accepted
 returns-clause-accepted c = overlays_accepted
