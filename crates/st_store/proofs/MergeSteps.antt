@@ -13,7 +13,7 @@ use Rattle.st_event.specs.Proposals.{first_rows}
 use Rattle.st_net.proofs.MergeLaws.{merge_of-push_all}
 use Rattle.st_store.specs.Changes.{value_at}
 use Rattle.st_store.specs.Store.{StoreView, IsStart, Decides}
-use Rattle.st_store.specs.Laws.{HasMerged, KeepsVersions, ComesBy}
+use Rattle.st_store.specs.Laws.{HasMerged, KeepsVersions, ComesBy, MakesOne}
 
 true_le : (m n : ℕ) → nat_le m n ≡ true → m ≤ n
 true_le m n is = grind (arith, nat_tests, is)
@@ -79,3 +79,22 @@ HasMerged-comes g before (rows ∷ later) old new was comes =
 -- all that were accepted since the start
 pub merged_of : (g : Group) (start s : StoreView) (accepted : List (List Row)) → IsStart g start → ComesBy start accepted s → HasMerged g accepted s
 merged_of g start s accepted is comes = HasMerged-comes g [] accepted start s (HasMerged-start g start is) comes
+
+-- there are no more versions than entries
+
+pub starts_at_none : (g : Group) (start : StoreView) → IsStart g start → start.version ≤ length start.decided
+starts_at_none g start is = let none = is.version in omega (arith, none)
+
+one_more : (accept : Bool) (n most : ℕ) → n ≤ most → (if accept then n + 1 else n) ≤ most + 1
+one_more true n most few = omega (arith, few)
+one_more false n most few = omega (arith, few)
+
+pub makes_one : (old new : StoreView) (entry : ℕ) (accept : Bool) → Decides old new entry accept → MakesOne old new
+makes_one old new entry accept step = record {
+  entries = λ n few. let most = one_more accept old.version n few in let version = step.version in omega (arith, most, version);
+  decided = λ few.
+      let most = one_more accept old.version (length old.decided) few in
+      let version = step.version in
+      let count : length new.decided ≡ length old.decided + 1 = ap length step.decided ∙ length-append old.decided (entry ∷ []) in
+      omega (arith, most, version, count);
+}

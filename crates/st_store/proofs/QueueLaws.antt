@@ -58,9 +58,9 @@ IsConsistent-decided queue rest s decided entry accept old new rows is pending s
       fits = subst (λ (q : List Pending). All (FitsTable new.target) (map proposal_of q)) (sym left) (fits_rest s.target new.target queue devices links (subst (All (FitsTable s.target)) pending is.fits));
       counts = record {
         counted = let counted = is.counts.counted in omega (arith, counted, count, fewer);
-        accepted = let accepted = is.counts.accepted in let more = at_most_one_more accept old.version in let now = merges.version in omega (arith, accepted, more, now, version, count);
         fits = is.counts.fits;
       };
+      accepted = let accepted = is.accepted in let more = at_most_one_more accept old.version in let now = merges.version in omega (arith, accepted, more, now, version, count);
       few = let few = is.few in omega (arith, few, fewer);
       reports = is.reports ∙ (let e : length s.target.devices + length s.target.links ≡ length new.target.devices + length new.target.links = omega (arith, devices, links) in e);
     }

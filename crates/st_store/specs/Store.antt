@@ -21,8 +21,8 @@ use Rattle.st_store.specs.Changes.{ChangeLists, value_at, values_with}
 use Rattle.st_net.specs.InOrder.{report_in}
 use Rattle.st_store.specs.Reports.{keep_answer}
 
--- the proposals that wait, the oldest first; how many tickets were given; the entries that decided tickets 1, 2, 3 and so on; the number of
--- accepted proposals; the target; what it was at each version; and a report for each entity, in the order of entities
+-- the proposals that wait, the oldest first; how many tickets were given; the entries that decided tickets 1, 2, 3 and so on; the version,
+-- which is how many overlays were merged; the target; what it was at each version; and a report for each entity, in the order of entities
 pub record StoreView : Type 0 where
   pub pending : List Proposal
   pub tickets : ℕ
@@ -37,10 +37,9 @@ pub record IsStoreOf (g : Group) (s : StoreView) : Type 0 where
   pub table : IsTableOf g s.target
   pub reports : length s.observed ≡ length g.devices + length g.links
 
--- each ticket was decided or waits, no more were accepted than decided, and each number fits 32 bits
+-- each ticket was decided or waits, and their number fits 32 bits
 pub record IsCounted (s : StoreView) : Type 0 where
   pub counted : length s.decided + length s.pending ≡ s.tickets
-  pub accepted : s.version ≤ length s.decided
   pub fits : s.tickets < 2 ^ 32
 
 -- nothing was proposed, and nothing heard

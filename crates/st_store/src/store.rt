@@ -183,7 +183,7 @@ impl Store {
         self.observed.as_slice()
     }
 
-    /// How many proposals were accepted.
+    /// The last version of the target, which is how many overlays it has.
     pub fn version(&self) -> u32
         ensures version { result ≡ self.now.version }
         ensures counted { IsCounted self.now }
