@@ -20,7 +20,7 @@ use Rattle.st_event.specs.Services.{entry_after}
 use Rattle.st_wire.specs.declared.line.WireLine.{WireLine}
 use Rattle.st_board.proofs.Prefixes.{prefix_trans}
 use Rattle.st_world.specs.Acts.{proposed}
-use Rattle.st_world.specs.Rounds.{Course, run_from, enter, unsettled}
+use Rattle.st_world.specs.Rounds.{Course, course_from, enter, unsettled}
 use Rattle.st_world.specs.declared.world.rounds.Going.{Going}
 use Rattle.st_world.specs.declared.world.rounds.Going.TheVariants.{On, Full}
 use Rattle.st_service.specs.declared.work.Part.{Part}
@@ -103,16 +103,16 @@ each_then P a was b mid c now p q = record { entries = p.entries ++ q.entries; e
 
 -- a settle, and a round or a half of one, of whose turns each event has a property
 
-only_part : (P : Event → Type 0) (part : Part) (g : Group) (lines : List WireLine) (past : List Entry) (e : Entity) → OfTurns P → Only P past (part_of part g lines (run_from past) e)
-only_part P Whole g lines past e o = only_turn P g lines past (run_from past) e o (only_none P past)
-only_part P Update g lines past e o = only_update P g lines past (run_from past) e o (only_none P past)
-only_part P Monitor g lines past e o = only_poll P g lines past (run_from past) e o (only_none P past)
+only_part : (P : Event → Type 0) (part : Part) (g : Group) (lines : List WireLine) (past : List Entry) (e : Entity) → OfTurns P → Only P past (part_of part g lines (course_from past) e)
+only_part P Whole g lines past e o = only_turn P g lines past (course_from past) e o (only_none P past)
+only_part P Update g lines past e o = only_update P g lines past (course_from past) e o (only_none P past)
+only_part P Monitor g lines past e o = only_poll P g lines past (course_from past) e o (only_none P past)
 
 turns_only : (P : Event → Type 0) (part : Part) (g : Group) (lines : List WireLine) (number : ℕ) (es : List Entity) (before : List Made) (was : List ℕ) (after : List Made) (now : List ℕ) → OfTurns P → Turns part g lines number es before was after now → AddsEach (λ e. P e.event) before was after now
 turns_only P part g lines number [] before was after now o t = each_none (λ e. P e.event) before was after now t.0 t.1
 turns_only P part g lines number (x ∷ es) before was after now o t =
     each_then (λ e. P e.event) before was t.1 t.2 after now
-    (enters_only P (λ past. part_of part g lines (run_from past) x) On number t.0 before was t.1 t.2 (only_part P part g lines (past_in t.0) x o) t.3)
+    (enters_only P (λ past. part_of part g lines (course_from past) x) On number t.0 before was t.1 t.2 (only_part P part g lines (past_in t.0) x o) t.3)
     (turns_only P part g lines number es t.1 t.2 after now o t.4)
 
 pub round_only : (P : Event → Type 0) (part : Part) (g : Group) (lines : List WireLine) (number : ℕ) (before : List Made) (was : List ℕ) (after : List Made) (now : List ℕ) → OfTurns P → RoundOf part g lines number before was after now → AddsEach (λ e. P e.event) before was after now
@@ -129,7 +129,7 @@ round_full_only P part g lines number before was after now o r =
     let seen : AddsEach (λ e. P e.event) before was f was = each_none (λ e. P e.event) before was f was r.1 refl in
     let done : AddsEach (λ e. P e.event) f was t.mid t.got = turns_only P part g lines number t.done f was t.mid t.got o t.turns in
     let last : AddsEach (λ e. P e.event) t.mid t.got after now =
-    enters_only P (λ past. part_of part g lines (run_from past) t.last) Full number t.seen t.mid t.got after now (only_part P part g lines (past_in t.seen) t.last o) t.enters in
+    enters_only P (λ past. part_of part g lines (course_from past) t.last) Full number t.seen t.mid t.got after now (only_part P part g lines (past_in t.seen) t.last o) t.enters in
     each_then (λ e. P e.event) before was f was after now seen (each_then (λ e. P e.event) f was t.mid t.got after now done last)
 
 rounds_only : (P : Event → Type 0) (g : Group) (lines : List WireLine) (number k : ℕ) (before : List Made) (was : List ℕ) (after : List Made) (now : List ℕ) → OfTurns P → RoundsMade g lines number k before was after now → AddsEach (λ e. P e.event) before was after now
@@ -175,11 +175,11 @@ legal_prefix g before after p legal =
 -- a proposal, and a request of one entry
 
 one_entry : (number : ℕ) (act : Act) (g : Group) (event : Event) (mid before : List Made) (was : List ℕ) (after : List Made) (now : List ℕ) → request_by (record { 0 = number }) act ≡ Some event → is_request (asker event) ≡ true → is_submit event ≡ false
-    → Enters (λ past. enter g (run_from past) event) On number mid before was after now → CommandAdds number act before was after now
+    → Enters (λ past. enter g (course_from past) event) On number mid before was after now → CommandAdds number act before was after now
 one_entry number act g event mid before was after now asked is other e =
     let past = past_in mid in
     let new : past_in after ≡ reverse e.entries ++ past = ap past_in e.puts.1 ∙ past_more mid number e.entries in
-    let w = was_entered g (run_from past) event (past_in after) e.run in
+    let w = was_entered g (course_from past) event (past_in after) e.run in
     let back : reverse e.entries ≡ entry_after g past event ∷ [] = append_cancel_right (reverse e.entries) (entry_after g past event ∷ []) past (sym new ∙ w.is) in
     let entries : e.entries ≡ entry_after g past event ∷ [] = sym (reverse-reverse e.entries) ∙ ap reverse back in
     let answers : AnswersTo (event ∷ []) (entry_after g past event ∷ []) = record { asks = rw is refl; queued = (λ (s : is_submit event ≡ true). let both : false ≡ true = sym other ∙ s in absurd (cc both), tt) } in
@@ -194,7 +194,7 @@ checks_none g past first true is = subst (λ (l : List Entry). Each NoneAsks (re
 checks_none g past first false is = subst (λ (l : List Entry). Each NoneAsks (reverse l)) (sym is) tt
 
 propose_entries : (number n : ℕ) (rows : List Row) (g : Group) (mid before : List Made) (was : List ℕ) (after : List Made) (now : List ℕ) → IsLegal g (past_in mid)
-    → Enters (λ past. proposed g (run_from past) (record { 0 = number }) rows) On number mid before was after now → CommandAdds number (Propose n rows) before was after now
+    → Enters (λ past. proposed g (course_from past) (record { 0 = number }) rows) On number mid before was after now → CommandAdds number (Propose n rows) before was after now
 propose_entries number n rows g mid before was after now legal e =
     let past = past_in mid in
     let submit : Event = Submit (record { 0 = number }) rows in
@@ -222,6 +222,6 @@ command_adds (Unlock n entity prio) g lines number before was after now legal e 
 command_adds (Read n entity var) g lines number before was after now legal e = none_added number (Read n entity var) before was after now refl (each_none NoneAsks before was after now (subst (IsPrefix before) (sym e.0) ([], append-nil before)) e.1)
 command_adds (ReadAt n version entity var) g lines number before was after now legal e = none_added number (ReadAt n version entity var) before was after now refl (each_none NoneAsks before was after now e.0 e.1)
 command_adds (Fail n entity health rows) g lines number before was after now legal e = none_added number (Fail n entity health rows) before was after now refl
-    (enters_only NoRequest _ On number e.0 before was after now (only_enter NoRequest g (past_in e.0) (run_from (past_in e.0)) _ (refl, refl) (only_none NoRequest (past_in e.0))) e.1)
+    (enters_only NoRequest _ On number e.0 before was after now (only_enter NoRequest g (past_in e.0) (course_from (past_in e.0)) _ (refl, refl) (only_none NoRequest (past_in e.0))) e.1)
 command_adds (Poll n entity) g lines number before was after now legal e = none_added number (Poll n entity) before was after now refl
-    (enters_only NoRequest _ On number e.0 before was after now (only_poll NoRequest g lines (past_in e.0) (run_from (past_in e.0)) entity no_turns (only_none NoRequest (past_in e.0))) e.1)
+    (enters_only NoRequest _ On number e.0 before was after now (only_poll NoRequest g lines (past_in e.0) (course_from (past_in e.0)) entity no_turns (only_none NoRequest (past_in e.0))) e.1)

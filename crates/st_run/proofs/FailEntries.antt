@@ -22,7 +22,7 @@ use Rattle.st_event.specs.Services.{entry_after}
 use Rattle.st_wire.specs.declared.line.WireLine.{WireLine}
 use Rattle.st_board.proofs.Prefixes.{prefix_length, prefix_trans}
 use Rattle.st_world.specs.Acts.{course_of, failed_vals, proposed, with_room}
-use Rattle.st_world.specs.Rounds.{run_from, enter, unsettled}
+use Rattle.st_world.specs.Rounds.{course_from, enter, unsettled}
 use Rattle.st_world.specs.declared.world.rounds.Going.TheVariants.{On}
 use Rattle.st_service.specs.declared.work.Part.TheVariants.{Whole}
 use Rattle.st_service.specs.Acts.{ActEnters}
@@ -147,8 +147,8 @@ turns_calm : (g : Group) (lines : List WireLine) (number : ℕ) (es : List Entit
     → Turns Whole g lines number es before was after now → AddsEach (NoFailure g) before was after now
 turns_calm g lines number [] before was after now t = each_none (NoFailure g) before was after now t.0 t.1
 turns_calm g lines number (x ∷ es) before was after now t = each_then (NoFailure g) before was t.1 t.2 after now
-    (enters_only (NeverFails g) (λ past. part_of Whole g lines (run_from past) x) On number t.0 before was t.1 t.2
-    (only_turn (NeverFails g) g lines (past_in t.0) (run_from (past_in t.0)) x (calm_turns g) (only_none (NeverFails g) (past_in t.0))) t.3)
+    (enters_only (NeverFails g) (λ past. part_of Whole g lines (course_from past) x) On number t.0 before was t.1 t.2
+    (only_turn (NeverFails g) g lines (past_in t.0) (course_from (past_in t.0)) x (calm_turns g) (only_none (NeverFails g) (past_in t.0))) t.3)
     (turns_calm g lines number es t.1 t.2 after now t.4)
 
 rounds_calm : (g : Group) (lines : List WireLine) (number k : ℕ) (before : List Made) (was : List ℕ) (after : List Made) (now : List ℕ)
@@ -171,14 +171,14 @@ awaits_calm g before was after now a = record { entries = a.entries; each = chec
 
 -- a proposal: a check at the most before it
 
-calm_room : (g : Group) (past : List Entry) (b : Bool) → Only (NeverFails g) past (if b then enter g (run_from past) Check else run_from past)
-calm_room g past true = only_enter (NeverFails g) g past (run_from past) Check (λ p. refl) (only_none (NeverFails g) past)
+calm_room : (g : Group) (past : List Entry) (b : Bool) → Only (NeverFails g) past (if b then enter g (course_from past) Check else course_from past)
+calm_room g past true = only_enter (NeverFails g) g past (course_from past) Check (λ p. refl) (only_none (NeverFails g) past)
 calm_room g past false = only_none (NeverFails g) past
 
 calm_proposed : (g : Group) (number : ℕ) (rows : List Row) (past : List Entry)
-    → Only (NeverFails g) past (proposed g (run_from past) (record { 0 = number }) rows)
+    → Only (NeverFails g) past (proposed g (course_from past) (record { 0 = number }) rows)
 calm_proposed g number rows past =
-    only_enter (NeverFails g) g past (with_room g (run_from past)) (Submit (record { 0 = number }) rows) (λ p. refl)
+    only_enter (NeverFails g) g past (with_room g (course_from past)) (Submit (record { 0 = number }) rows) (λ p. refl)
     (calm_room g past (length (pending past) == MAX_PENDING))
 
 -- a failure that is asked for
@@ -189,14 +189,14 @@ failing g past entity health rows = fail_event entity (failed_vals entity (vals 
 failed_entry : (g : Group) (lines : List WireLine) (number n : ℕ) (entity : Entity) (health : ℕ) (rows : List Row) (mid before : List Made)
     (was : List ℕ) (after : List Made) (now : List ℕ)
     → AllWithin 0 (length before) was
-    → Enters (λ past. course_of (record { 0 = number }) (Fail n entity health rows) g lines (run_from past)) On number mid before was after now
+    → Enters (λ past. course_of (record { 0 = number }) (Fail n entity health rows) g lines (course_from past)) On number mid before was after now
     → Fails g (Fail n entity health rows ∷ []) before was after now
 failed_entry g lines number n entity health rows mid before was after now w e =
     let past = past_in mid in
     let event = failing g past entity health rows in
     let entry = entry_after g past event in
     let new : past_in after ≡ reverse e.entries ++ past = ap past_in e.puts.1 ∙ past_more mid number e.entries in
-    let one = was_entered g (run_from past) event (past_in after) e.run in
+    let one = was_entered g (course_from past) event (past_in after) e.run in
     let back : reverse e.entries ≡ entry ∷ [] = append_cancel_right (reverse e.entries) (entry ∷ []) past (sym new ∙ one.is) in
     let entries : e.entries ≡ entry ∷ [] = sym (reverse-reverse e.entries) ∙ ap reverse back in
     let made : Made = record { by = number; entry = entry } in
@@ -229,10 +229,10 @@ command_fails (Await n) g lines number before was after now w grows e = calm_com
 command_fails (Settle n rounds) g lines number before was after now w grows e = calm_command g (Settle n rounds) _ before was after now refl w grows
     (each_then (NoFailure g) before was e.2 now after now (rounds_calm g lines number e.0 before was e.2 now e.3) (each_none (NoFailure g) e.2 now after now e.4 refl))
 command_fails (Lock n entity prio) g lines number before was after now w grows e = calm_command g (Lock n entity prio) _ before was after now refl w grows
-    (enters_only (NeverFails g) _ On number e.0 before was after now (only_enter (NeverFails g) g (past_in e.0) (run_from (past_in e.0))
+    (enters_only (NeverFails g) _ On number e.0 before was after now (only_enter (NeverFails g) g (past_in e.0) (course_from (past_in e.0))
     (lock_event (record { 0 = number }) entity prio) (λ p. refl) (only_none (NeverFails g) (past_in e.0))) e.1)
 command_fails (Unlock n entity prio) g lines number before was after now w grows e = calm_command g (Unlock n entity prio) _ before was after now refl w grows
-    (enters_only (NeverFails g) _ On number e.0 before was after now (only_enter (NeverFails g) g (past_in e.0) (run_from (past_in e.0))
+    (enters_only (NeverFails g) _ On number e.0 before was after now (only_enter (NeverFails g) g (past_in e.0) (course_from (past_in e.0))
     (unlock_event (record { 0 = number }) entity prio) (λ p. refl) (only_none (NeverFails g) (past_in e.0))) e.1)
 command_fails (Read n entity var) g lines number before was after now w grows e = calm_command g (Read n entity var) _ before was after now refl w grows
     (each_none (NoFailure g) before was after now (subst (IsPrefix before) (sym e.0) ([], append-nil before)) e.1)
@@ -241,7 +241,7 @@ command_fails (ReadAt n version entity var) g lines number before was after now 
     (each_none (NoFailure g) before was after now e.0 e.1)
 command_fails (Fail n entity health rows) g lines number before was after now w grows e = failed_entry g lines number n entity health rows e.0 before was after now w e.1
 command_fails (Poll n entity) g lines number before was after now w grows e = calm_command g (Poll n entity) _ before was after now refl w grows
-    (enters_only (NeverFails g) _ On number e.0 before was after now (only_poll (NeverFails g) g lines (past_in e.0) (run_from (past_in e.0)) entity
+    (enters_only (NeverFails g) _ On number e.0 before was after now (only_poll (NeverFails g) g lines (past_in e.0) (course_from (past_in e.0)) entity
     (calm_turns g) (only_none (NeverFails g) (past_in e.0))) e.1)
 
 -- a chain of commands

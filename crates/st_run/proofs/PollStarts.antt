@@ -12,7 +12,7 @@ use Rattle.st_event.specs.declared.event.Event.TheVariants.{Submit, Check, Lock,
 use Rattle.st_event.specs.declared.journal.Entry.{Entry}
 use Rattle.st_wire.specs.declared.line.WireLine.{WireLine}
 use Rattle.st_board.proofs.Prefixes.{prefix_get, prefix_length, prefix_shorter, prefix_trans}
-use Rattle.st_world.specs.Rounds.{Course, run_from, poll}
+use Rattle.st_world.specs.Rounds.{Course, course_from, poll}
 use Rattle.st_world.specs.World.{IsBeginning}
 use Rattle.st_service.specs.Made.{Made, past_in}
 use Rattle.st_run.specs.Stands.{Stand}
@@ -40,7 +40,7 @@ pub record StartsAt (g : Group) (lines : List WireLine) (e : Entity) (number : �
   pub after : List Made
   pub at : length before ≡ place
   pub went : IsPrefix before after
-  pub run : poll g lines (run_from (past_in before)) e ≡ record { past = past_in after; stopped = false }
+  pub run : poll g lines (course_from (past_in before)) e ≡ record { past = past_in after; stopped = false }
   pub first : Made
   pub is_there : slice_get after place ≡ Some first
   pub own : first.by ≡ number
@@ -185,7 +185,7 @@ IsStart g lines e front place = (a : ℕ) × StartsAt g lines e a front place
 record Stood (g : Group) (lines : List WireLine) (e : Entity) (front : List Made) (below k : ℕ) : Type 0 where
   seen : List Made
   within : IsPrefix seen front
-  stand : Stand (λ past. poll g lines (run_from past) e) k [] (past_in seen)
+  stand : Stand (λ past. poll g lines (course_from past) e) k [] (past_in seen)
   behind : (t : ℕ) → below ≤ t → IsStart g lines e front t → length seen ≤ t
 
 under : (g : Group) (lines : List WireLine) (e : Entity) (front : List Made) (m s : ℕ) → (IsStart g lines e front s × (s < suc m)) × (m ≢ s)
@@ -199,8 +199,8 @@ one_more g lines e front m k start r =
     let early : length r.seen ≤ length p.before = let low = r.behind m (omega arith) start in omega (arith, low, p.at) in
     let begun : IsPrefix p.before front = prefix_trans p.before p.after front p.went p.within in
     let ahead : IsPrefix r.seen p.before = prefix_shorter r.seen p.before front r.within begun early in
-    let before : Stand (λ past. poll g lines (run_from past) e) k [] (past_in p.before) =
-    stand_longer (λ past. poll g lines (run_from past) e) k [] (past_in r.seen) (past_in p.before) (begins_past r.seen p.before ahead) r.stand in
+    let before : Stand (λ past. poll g lines (course_from past) e) k [] (past_in p.before) =
+    stand_longer (λ past. poll g lines (course_from past) e) k [] (past_in r.seen) (past_in p.before) (begins_past r.seen p.before ahead) r.stand in
     record {
       seen = p.after;
       within = p.within;
@@ -235,8 +235,8 @@ start_within g lines e front s p =
 -- as many polls stand in the journal as there are places where one starts
 pub polls_stand : (g : Group) (lines : List WireLine) (e : Entity) (front : List Made) (places : List ℕ) → Distinct places
     → Each (IsStart g lines e front) places
-    → Stand (λ past. poll g lines (run_from past) e) (length places) [] (past_in front)
+    → Stand (λ past. poll g lines (course_from past) e) (length places) [] (past_in front)
 polls_stand g lines e front places d each =
     let r = stood g lines e front (length front) places d (each_mapped (IsStart g lines e front)
     (λ s. IsStart g lines e front s × (s < length front)) places (start_within g lines e front) each) in
-    stand_longer (λ past. poll g lines (run_from past) e) (length places) [] (past_in r.seen) (past_in front) (begins_past r.seen front r.within) r.stand
+    stand_longer (λ past. poll g lines (course_from past) e) (length places) [] (past_in r.seen) (past_in front) (begins_past r.seen front r.within) r.stand

@@ -18,7 +18,7 @@ use Rattle.st_event.specs.Services.{entry_after}
 use Rattle.st_event.proofs.LawLemmas.{few_wait}
 use Rattle.st_event.proofs.Promises.{entry_of}
 use Rattle.st_event.proofs.Unfolding.{pending-decided}
-use Rattle.st_world.specs.Rounds.{run_from, enter}
+use Rattle.st_world.specs.Rounds.{course_from, enter}
 use Rattle.st_world.specs.Acts.{proposed}
 use Rattle.st_run.proofs.RunEntries.{was_entered}
 
@@ -47,11 +47,11 @@ no_room : (g : Group) (past : List Entry) → IsLegal g past → (length (pendin
 no_room g past legal other = let few = few_wait g past legal in grind (arith, few, other, nat_tests)
 
 by_room : (g : Group) (past : List Entry) (app : AppId) (rows : List Row) (new : List Entry) (b : Bool) → IsLegal g past → (length (pending past) == MAX_PENDING) ≡ b
-    → enter g (if b then enter g (run_from past) Check else run_from past) (Submit app rows) ≡ record { past = new; stopped = false } → WasProposed g past app rows new
+    → enter g (if b then enter g (course_from past) Check else course_from past) (Submit app rows) ≡ record { past = new; stopped = false } → WasProposed g past app rows new
 by_room g past app rows new true legal full e =
-    let run = enter g (run_from past) Check in
-    let last = was_entered g run (Submit app rows) new e in
-    let one = was_entered g (run_from past) Check run.past (ap (λ (s : Bool). record { past = run.past; stopped = s }) last.went) in
+    let course = enter g (course_from past) Check in
+    let last = was_entered g course (Submit app rows) new e in
+    let one = was_entered g (course_from past) Check course.past (ap (λ (s : Bool). record { past = course.past; stopped = s }) last.went) in
     let few : length (pending (entry_after g past Check ∷ past)) < MAX_PENDING = after_check g past (pending past) refl (equal_numbers (length (pending past)) MAX_PENDING full) in
     record {
       first = entry_after g past Check ∷ [];
@@ -60,8 +60,8 @@ by_room g past app rows new true legal full e =
       queued = has_room g (entry_after g past Check ∷ past) app rows few;
     }
 by_room g past app rows new false legal other e =
-    let last = was_entered g (run_from past) (Submit app rows) new e in
+    let last = was_entered g (course_from past) (Submit app rows) new e in
     record { first = []; checks = rw other refl; all = last.is; queued = has_room g past app rows (no_room g past legal other) }
 
-pub was_proposed : (g : Group) (past : List Entry) (app : AppId) (rows : List Row) (new : List Entry) → IsLegal g past → proposed g (run_from past) app rows ≡ record { past = new; stopped = false } → WasProposed g past app rows new
+pub was_proposed : (g : Group) (past : List Entry) (app : AppId) (rows : List Row) (new : List Entry) → IsLegal g past → proposed g (course_from past) app rows ≡ record { past = new; stopped = false } → WasProposed g past app rows new
 was_proposed g past app rows new legal e = by_room g past app rows new (length (pending past) == MAX_PENDING) legal refl e

@@ -1,4 +1,4 @@
--- The entries that a run adds to a journal.
+-- The entries that a course adds to a journal.
 use Rattle.std.proofs.Common.{◌≡◌, ℕ, ◌<◌, Bool, true, false, List, [], ◌∷◌, ◌++◌, length, map, refl, ap, sym, subst, ◌∙◌}
 use Rattle.std.specs.Prelude.{reverse, nat_lt}
 use Rattle.std.proofs.lemmas.List.{append_cancel_right, reverse-reverse, reverse-append}
@@ -14,45 +14,45 @@ use Rattle.st_event.specs.Services.{entry_after}
 use Rattle.st_wire.specs.declared.line.WireKind.TheVariants.{Command as command_kind, Report as report_kind}
 use Rattle.st_wire.specs.declared.line.WireLine.{WireLine}
 use Rattle.st_wire.specs.Deliveries.{deliveries}
-use Rattle.st_world.specs.Rounds.{Course, run_from, enter, enter_all, arrivals_of, newest_arrivals, enter_told, update_turn, poll, turn}
+use Rattle.st_world.specs.Rounds.{Course, course_from, enter, enter_all, follow_ups_of, follow_ups, enter_told, update_turn, poll, turn}
 use Rattle.st_net.proofs.Tests.{less_is}
 use Rattle.st_world.proofs.RunLaws.{entered}
 use Rattle.st_run.proofs.DidLaws.{Each, each_append}
 
 -- an event that stopped nothing was entered
-pub record WasEntered (g : Group) (run : Course) (event : Event) (new : List Entry) : Type 0 where
-  pub went : run.stopped ≡ false
-  pub room : length run.past < MAX_ENTRIES
-  pub is : new ≡ entry_after g run.past event ∷ run.past
+pub record WasEntered (g : Group) (course : Course) (event : Event) (new : List Entry) : Type 0 where
+  pub went : course.stopped ≡ false
+  pub room : length course.past < MAX_ENTRIES
+  pub is : new ≡ entry_after g course.past event ∷ course.past
 
-went_on : (g : Group) (run : Course) (event : Event) (new : List Entry) (stopped room : Bool) → run.stopped ≡ stopped → nat_lt (length run.past) MAX_ENTRIES ≡ room → entered run (entry_after g run.past event) stopped room ≡ record { past = new; stopped = false } → WasEntered g run event new
-went_on g run event new true room is fits e = let no : run.stopped ≡ false = ap (λ (r : Course). r.stopped) e in let both : true ≡ false = sym is ∙ no in absurd (cc both)
-went_on g run event new false true is fits e = record { went = is; room = less_is (length run.past) MAX_ENTRIES fits; is = sym (ap (λ (r : Course). r.past) e) }
-went_on g run event new false false is fits e = let no : true ≡ false = ap (λ (r : Course). r.stopped) e in absurd (cc no)
+went_on : (g : Group) (course : Course) (event : Event) (new : List Entry) (stopped room : Bool) → course.stopped ≡ stopped → nat_lt (length course.past) MAX_ENTRIES ≡ room → entered course (entry_after g course.past event) stopped room ≡ record { past = new; stopped = false } → WasEntered g course event new
+went_on g course event new true room is fits e = let no : course.stopped ≡ false = ap (λ (r : Course). r.stopped) e in let both : true ≡ false = sym is ∙ no in absurd (cc both)
+went_on g course event new false true is fits e = record { went = is; room = less_is (length course.past) MAX_ENTRIES fits; is = sym (ap (λ (r : Course). r.past) e) }
+went_on g course event new false false is fits e = let no : true ≡ false = ap (λ (r : Course). r.stopped) e in absurd (cc no)
 
-pub was_entered : (g : Group) (run : Course) (event : Event) (new : List Entry) → enter g run event ≡ record { past = new; stopped = false } → WasEntered g run event new
-was_entered g run event new e = went_on g run event new run.stopped (nat_lt (length run.past) MAX_ENTRIES) refl refl e
+pub was_entered : (g : Group) (course : Course) (event : Event) (new : List Entry) → enter g course event ≡ record { past = new; stopped = false } → WasEntered g course event new
+was_entered g course event new e = went_on g course event new course.stopped (nat_lt (length course.past) MAX_ENTRIES) refl refl e
 
--- a run added entries whose events have a property
-pub record Only (P : Event → Type 0) (past : List Entry) (run : Course) : Type 0 where
+-- a course added entries whose events have a property
+pub record Only (P : Event → Type 0) (past : List Entry) (course : Course) : Type 0 where
   pub more : List Entry
-  pub all : run.past ≡ more ++ past
+  pub all : course.past ≡ more ++ past
   pub each : Each (λ e. P e.event) more
 
-pub only_none : (P : Event → Type 0) (past : List Entry) → Only P past (run_from past)
+pub only_none : (P : Event → Type 0) (past : List Entry) → Only P past (course_from past)
 only_none P past = record { more = []; all = refl; each = tt }
 
-only_entered : (P : Event → Type 0) (past : List Entry) (run : Course) (entry : Entry) (stopped room : Bool) → P entry.event → Only P past run → Only P past (entered run entry stopped room)
-only_entered P past run entry true room p o = o
-only_entered P past run entry false true p o = record { more = entry ∷ o.more; all = ap (λ es. entry ∷ es) o.all; each = (p, o.each) }
-only_entered P past run entry false false p o = record { more = o.more; all = o.all; each = o.each }
+only_entered : (P : Event → Type 0) (past : List Entry) (course : Course) (entry : Entry) (stopped room : Bool) → P entry.event → Only P past course → Only P past (entered course entry stopped room)
+only_entered P past course entry true room p o = o
+only_entered P past course entry false true p o = record { more = entry ∷ o.more; all = ap (λ es. entry ∷ es) o.all; each = (p, o.each) }
+only_entered P past course entry false false p o = record { more = o.more; all = o.all; each = o.each }
 
-pub only_enter : (P : Event → Type 0) (g : Group) (past : List Entry) (run : Course) (event : Event) → P event → Only P past run → Only P past (enter g run event)
-only_enter P g past run event p o = only_entered P past run (entry_after g run.past event) run.stopped (nat_lt (length run.past) MAX_ENTRIES) p o
+pub only_enter : (P : Event → Type 0) (g : Group) (past : List Entry) (course : Course) (event : Event) → P event → Only P past course → Only P past (enter g course event)
+only_enter P g past course event p o = only_entered P past course (entry_after g course.past event) course.stopped (nat_lt (length course.past) MAX_ENTRIES) p o
 
-only_all : (P : Event → Type 0) (g : Group) (past : List Entry) (run : Course) (events : List Event) → Each P events → Only P past run → Only P past (enter_all g run events)
-only_all P g past run [] p o = o
-only_all P g past run (event ∷ events) p o = only_all P g past (enter g run event) events p.1 (only_enter P g past run event p.0 o)
+only_all : (P : Event → Type 0) (g : Group) (past : List Entry) (course : Course) (events : List Event) → Each P events → Only P past course → Only P past (enter_all g course events)
+only_all P g past course [] p o = o
+only_all P g past course (event ∷ events) p o = only_all P g past (enter g course event) events p.1 (only_enter P g past course event p.0 o)
 
 -- what the events of turns have
 pub record OfTurns (P : Event → Type 0) : Type 0 where
@@ -66,36 +66,36 @@ each_map : (P : Event → Type 0) (f : ℕ → Event) (ns : List ℕ) → ((n : 
 each_map P f [] p = tt
 each_map P f (n ∷ ns) p = (p n, each_map P f ns p)
 
-each_arrival : (P : Event → Type 0) (lines : List WireLine) (reply : Reply) → OfTurns P → Each P (arrivals_of lines reply)
-each_arrival P lines (Sent n) t = each_map P Deliver (deliveries lines command_kind n) t.deliver
-each_arrival P lines (Reported n) t = each_map P Hear (deliveries lines report_kind n) t.hear
-each_arrival P lines _ t = tt
+each_follow_up_of : (P : Event → Type 0) (g : Group) (lines : List WireLine) (past : List Entry) (reply : Reply) → OfTurns P → Each P (follow_ups_of g lines past reply)
+each_follow_up_of P g lines past (Sent n) t = each_map P Deliver (deliveries lines command_kind n) t.deliver
+each_follow_up_of P g lines past (Reported n) t = each_map P Hear (deliveries lines report_kind n) t.hear
+each_follow_up_of P g lines past _ t = tt
 
-each_newest : (P : Event → Type 0) (lines : List WireLine) (past : List Entry) → OfTurns P → Each P (newest_arrivals lines past)
-each_newest P lines [] t = tt
-each_newest P lines (entry ∷ past) t = each_arrival P lines entry.reply t
+each_follow_up : (P : Event → Type 0) (g : Group) (lines : List WireLine) (past : List Entry) → OfTurns P → Each P (follow_ups g lines past)
+each_follow_up P g lines [] t = tt
+each_follow_up P g lines (entry ∷ past) t = each_follow_up_of P g lines (entry ∷ past) entry.reply t
 
-only_told : (P : Event → Type 0) (g : Group) (lines : List WireLine) (past : List Entry) (run : Course) (event : Event) → OfTurns P → P event → Only P past run → Only P past (enter_told g lines run event)
-only_told P g lines past run event t p o =
-    let next = enter g run event in
-    only_all P g past next (newest_arrivals lines next.past) (each_newest P lines next.past t) (only_enter P g past run event p o)
+only_told : (P : Event → Type 0) (g : Group) (lines : List WireLine) (past : List Entry) (course : Course) (event : Event) → OfTurns P → P event → Only P past course → Only P past (enter_told g lines course event)
+only_told P g lines past course event t p o =
+    let next = enter g course event in
+    only_all P g past next (follow_ups g lines next.past) (each_follow_up P g lines next.past t) (only_enter P g past course event p o)
 
-pub only_poll : (P : Event → Type 0) (g : Group) (lines : List WireLine) (past : List Entry) (run : Course) (e : Entity) → OfTurns P → Only P past run → Only P past (poll g lines run e)
-only_poll P g lines past run e t o = only_told P g lines past run (make_report e) t (t.report e) o
+pub only_poll : (P : Event → Type 0) (g : Group) (lines : List WireLine) (past : List Entry) (course : Course) (e : Entity) → OfTurns P → Only P past course → Only P past (poll g lines course e)
+only_poll P g lines past course e t o = only_told P g lines past course (make_report e) t (t.report e) o
 
-pub only_update : (P : Event → Type 0) (g : Group) (lines : List WireLine) (past : List Entry) (run : Course) (e : Entity) → OfTurns P → Only P past run → Only P past (update_turn g lines run e)
-only_update P g lines past run e t o = only_enter P g past (enter_told g lines run (Send e)) (Finish e) (t.finish e) (only_told P g lines past run (Send e) t (t.send e) o)
+pub only_update : (P : Event → Type 0) (g : Group) (lines : List WireLine) (past : List Entry) (course : Course) (e : Entity) → OfTurns P → Only P past course → Only P past (update_turn g lines course e)
+only_update P g lines past course e t o = only_enter P g past (enter_told g lines course (Send e)) (Finish e) (t.finish e) (only_told P g lines past course (Send e) t (t.send e) o)
 
-pub only_turn : (P : Event → Type 0) (g : Group) (lines : List WireLine) (past : List Entry) (run : Course) (e : Entity) → OfTurns P → Only P past run → Only P past (turn g lines run e)
-only_turn P g lines past run e t o = only_poll P g lines past (update_turn g lines run e) e t (only_update P g lines past run e t o)
+pub only_turn : (P : Event → Type 0) (g : Group) (lines : List WireLine) (past : List Entry) (course : Course) (e : Entity) → OfTurns P → Only P past course → Only P past (turn g lines course e)
+only_turn P g lines past course e t o = only_poll P g lines past (update_turn g lines course e) e t (only_update P g lines past course e t o)
 
 -- what each item of a list has, each of its reverse has
 pub each_reverse : {X : Type 0} (P : X → Type 0) (xs : List X) → Each P xs → Each P (reverse xs)
 each_reverse P [] e = tt
 each_reverse P (x ∷ xs) e = subst (Each P) (sym (reverse-append (x ∷ []) xs)) (each_append P (reverse xs) (x ∷ []) (each_reverse P xs e.1) (e.0, tt))
 
--- entries that a run added to a journal, the oldest first
-pub only_made : (P : Event → Type 0) (past : List Entry) (run : Course) (es : List Entry) → run.past ≡ reverse es ++ past → Only P past run → Each (λ e. P e.event) es
-only_made P past run es is o =
+-- entries that a course added to a journal, the oldest first
+pub only_made : (P : Event → Type 0) (past : List Entry) (course : Course) (es : List Entry) → course.past ≡ reverse es ++ past → Only P past course → Each (λ e. P e.event) es
+only_made P past course es is o =
     let same : reverse es ≡ o.more = append_cancel_right (reverse es) o.more past (sym is ∙ o.all) in
     subst (Each (λ e. P e.event)) (ap reverse (sym same) ∙ reverse-reverse es) (each_reverse (λ e. P e.event) o.more o.each)

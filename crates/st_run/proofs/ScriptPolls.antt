@@ -21,7 +21,7 @@ use Rattle.st_wire.specs.declared.line.WireLine.{WireLine}
 use Rattle.st_wire.specs.Deliveries.{deliveries}
 use Rattle.st_board.proofs.Prefixes.{prefix_length, prefix_self, prefix_trans}
 use Rattle.st_world.specs.Acts.{course_of}
-use Rattle.st_world.specs.Rounds.{Course, run_from, enter, enter_all, arrivals_of, newest_arrivals, poll}
+use Rattle.st_world.specs.Rounds.{Course, course_from, enter, enter_all, follow_ups_of, follow_ups, poll}
 use Rattle.st_world.specs.declared.world.rounds.Going.TheVariants.{On}
 use Rattle.st_service.specs.Acts.{ActEnters}
 use Rattle.st_run.specs.CarriedLaws.{history_of}
@@ -52,28 +52,28 @@ each_arrival : (f : ℕ → Event) (ns : List ℕ) → ((n : ℕ) → NoReport (
 each_arrival f [] p = tt
 each_arrival f (n ∷ ns) p = (p n, each_arrival f ns p)
 
-quiet_arrivals : (lines : List WireLine) (reply : Reply) → Each NoReport (arrivals_of lines reply)
-quiet_arrivals lines (Sent n) = each_arrival Deliver (deliveries lines command_kind n) (λ k. refl)
-quiet_arrivals lines (Reported n) = each_arrival Hear (deliveries lines report_kind n) (λ k. refl)
-quiet_arrivals lines _ = tt
+quiet_follow_ups_of : (g : Group) (lines : List WireLine) (past : List Entry) (reply : Reply) → Each NoReport (follow_ups_of g lines past reply)
+quiet_follow_ups_of g lines past (Sent n) = each_arrival Deliver (deliveries lines command_kind n) (λ k. refl)
+quiet_follow_ups_of g lines past (Reported n) = each_arrival Hear (deliveries lines report_kind n) (λ k. refl)
+quiet_follow_ups_of g lines past _ = tt
 
-quiet_newest : (lines : List WireLine) (past : List Entry) → Each NoReport (newest_arrivals lines past)
-quiet_newest lines [] = tt
-quiet_newest lines (entry ∷ past) = quiet_arrivals lines entry.reply
+quiet_follow_ups : (g : Group) (lines : List WireLine) (past : List Entry) → Each NoReport (follow_ups g lines past)
+quiet_follow_ups g lines [] = tt
+quiet_follow_ups g lines (entry ∷ past) = quiet_follow_ups_of g lines (entry ∷ past) entry.reply
 
-all_quiet : (g : Group) (past : List Entry) (run : Course) (events : List Event) → Each NoReport events → Only NoReport past run
-    → Only NoReport past (enter_all g run events)
-all_quiet g past run [] q o = o
-all_quiet g past run (event ∷ events) q o = all_quiet g past (enter g run event) events q.1 (only_enter NoReport g past run event q.0 o)
+all_quiet : (g : Group) (past : List Entry) (course : Course) (events : List Event) → Each NoReport events → Only NoReport past course
+    → Only NoReport past (enter_all g course events)
+all_quiet g past course [] q o = o
+all_quiet g past course (event ∷ events) q o = all_quiet g past (enter g course event) events q.1 (only_enter NoReport g past course event q.0 o)
 
 -- events of which none met a full journal
-all_went : (g : Group) (run : Course) (events : List Event) (new : List Entry) → enter_all g run events ≡ record { past = new; stopped = false }
-    → run.stopped ≡ false
-all_went g run [] new e = ap (λ (r : Course). r.stopped) e
-all_went g run (event ∷ events) new e =
-    let next = enter g run event in
+all_went : (g : Group) (course : Course) (events : List Event) (new : List Entry) → enter_all g course events ≡ record { past = new; stopped = false }
+    → course.stopped ≡ false
+all_went g course [] new e = ap (λ (r : Course). r.stopped) e
+all_went g course (event ∷ events) new e =
+    let next = enter g course event in
     let went = all_went g next events new e in
-    (was_entered g run event next.past (ap (λ (s : Bool). record { past = next.past; stopped = s }) went)).went
+    (was_entered g course event next.past (ap (λ (s : Bool). record { past = next.past; stopped = s }) went)).went
 
 -- the entries of a poll, the oldest first: the report and its arrivals
 record WasPolled (g : Group) (past : List Entry) (e : Entity) (entries : List Entry) : Type 0 where
@@ -82,22 +82,22 @@ record WasPolled (g : Group) (past : List Entry) (e : Entity) (entries : List En
   quiet : Each QuietEntry heard
 
 was_polled : (g : Group) (lines : List WireLine) (past new : List Entry) (e : Entity) (entries : List Entry)
-    → poll g lines (run_from past) e ≡ record { past = new; stopped = false } → new ≡ reverse entries ++ past → WasPolled g past e entries
+    → poll g lines (course_from past) e ≡ record { past = new; stopped = false } → new ≡ reverse entries ++ past → WasPolled g past e entries
 was_polled g lines past new e entries went is =
-    let next = enter g (run_from past) (make_report e) in
-    let events = newest_arrivals lines next.past in
-    let run = enter_all g next events in
+    let next = enter g (course_from past) (make_report e) in
+    let events = follow_ups g lines next.past in
+    let course = enter_all g next events in
     let on : next.stopped ≡ false = all_went g next events new went in
-    let one = was_entered g (run_from past) (make_report e) next.past (ap (λ (s : Bool). record { past = next.past; stopped = s }) on) in
+    let one = was_entered g (course_from past) (make_report e) next.past (ap (λ (s : Bool). record { past = next.past; stopped = s }) on) in
     let entry = entry_after g past (make_report e) in
-    let o : Only NoReport next.past run = all_quiet g next.past next events (quiet_newest lines next.past) (record { more = []; all = refl; each = tt }) in
+    let o : Only NoReport next.past course = all_quiet g next.past next events (quiet_follow_ups g lines next.past) (record { more = []; all = refl; each = tt }) in
     let all : reverse entries ++ past ≡ (o.more ++ entry ∷ []) ++ past =
     sym is ∙ (sym (ap (λ (r : Course). r.past) went) ∙ (o.all ∙ (ap (λ (l : List Entry). o.more ++ l) one.is ∙ sym (append_assoc o.more (entry ∷ []) past)))) in
     let back : reverse entries ≡ o.more ++ entry ∷ [] = append_cancel_right (reverse entries) (o.more ++ entry ∷ []) past all in
     record {
       heard = reverse o.more;
       are = sym (reverse-reverse entries) ∙ (ap reverse back ∙ reverse-append o.more (entry ∷ []));
-      quiet = only_made NoReport next.past run (reverse o.more) (o.all ∙ ap (λ (l : List Entry). l ++ next.past) (sym (reverse-reverse o.more))) o;
+      quiet = only_made NoReport next.past course (reverse o.more) (o.all ∙ ap (λ (l : List Entry). l ++ next.past) (sym (reverse-reverse o.more))) o;
     }
 
 abbrev QuietMade : Made → Type 0
@@ -120,7 +120,7 @@ quiet_behind (x ∷ mid) m ms zero lt q = absurd (omega (arith, lt))
 quiet_behind (x ∷ mid) m ms (suc k) lt q = quiet_behind mid m ms k (omega (arith, lt)) q
 
 poll_starts : (g : Group) (lines : List WireLine) (number n : ℕ) (e : Entity) (mid before : List Made) (was : List ℕ) (after : List Made) (now : List ℕ)
-    → Enters (λ past. course_of (record { 0 = number }) (Poll n e) g lines (run_from past)) On number mid before was after now
+    → Enters (λ past. course_of (record { 0 = number }) (Poll n e) g lines (course_from past)) On number mid before was after now
     → StartsAt g lines e number after (length mid)
 poll_starts g lines number n e mid before was after now h =
     let past = past_in mid in
@@ -309,5 +309,5 @@ polls_all groups lines rooms scripts passes n entries front run within whole e =
     (slice_get-get_or passes k nobody there))) in
     let stand = polls_stand g (lines n) e front all.places all.distinct
     (each_mapped (λ s. (a : ℕ) × (0 ≤ a) × StartsAt g (lines n) e a front s) (IsStart g (lines n) e front) all.places (λ s x. (x.0, x.2)) all.each) in
-    subst (λ (k : ℕ). Stand (λ past. poll g (lines n) (run_from past) e) k [] (reverse entries)) all.count
-    (subst (λ (past : List Entry). Stand (λ past. poll g (lines n) (run_from past) e) (length all.places) [] past) whole.journal stand)
+    subst (λ (k : ℕ). Stand (λ past. poll g (lines n) (course_from past) e) k [] (reverse entries)) all.count
+    (subst (λ (past : List Entry). Stand (λ past. poll g (lines n) (course_from past) e) (length all.places) [] past) whole.journal stand)

@@ -14,7 +14,7 @@ use Rattle.st_event.specs.Observed.{is_settled}
 use Rattle.st_wire.specs.declared.line.WireLine.{WireLine}
 use Rattle.st_board.proofs.Prefixes.{prefix_trans}
 use Rattle.st_world.specs.World.{IsBeginning}
-use Rattle.st_world.specs.Rounds.{Course, run_from, turn, unsettled}
+use Rattle.st_world.specs.Rounds.{Course, course_from, turn, unsettled}
 use Rattle.st_run.specs.CarriedOn.{IsSettledIn, WasSettled}
 use Rattle.st_service.specs.declared.work.Part.TheVariants.{Whole}
 use Rattle.st_service.specs.Lines.{tagged}
@@ -61,7 +61,7 @@ stand_later course (suc k) from past later b s = (s.0, s.1, s.2, s.3, begins_the
 
 -- what turns are of an entity
 abbrev turn_of : Group → List WireLine → Entity → List Entry → Course
-turn_of g lines e past = turn g lines (run_from past) e
+turn_of g lines e past = turn g lines (course_from past) e
 
 turns_go : (g : Group) (lines : List WireLine) (number : ℕ) (es : List Entity) (before : List Made) (was : List ℕ) (after : List Made) (now : List ℕ) → Turns Whole g lines number es before was after now → IsPrefix before after
 turns_go g lines number [] before was after now t = t.0
@@ -80,7 +80,7 @@ turn_stands g lines number e (x ∷ es) before was after now k from t at s =
       past_in t.0,
       past_in t.1,
       stand_later (turn_of g lines e) k from (past_in before) (past_in t.0) low s,
-      subst (λ (y : Entity). turn g lines (run_from (past_in t.0)) y ≡ record { past = past_in t.1; stopped = false }) here t.3.run,
+      subst (λ (y : Entity). turn g lines (course_from (past_in t.0)) y ≡ record { past = past_in t.1; stopped = false }) here t.3.run,
       past_begins t.1 after rest,
     ))
     (λ (there : IsIn e es). turn_stands g lines number e es t.1 t.2 after now k from t.4 there

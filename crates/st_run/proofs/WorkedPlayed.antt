@@ -14,7 +14,7 @@ use Rattle.st_event.specs.Services.{entry_after}
 use Rattle.st_wire.specs.declared.line.WireLine.{WireLine}
 use Rattle.st_board.proofs.Prefixes.{prefix_length}
 use Rattle.st_world.specs.Acts.{course_of}
-use Rattle.st_world.specs.Rounds.{Course, run_from}
+use Rattle.st_world.specs.Rounds.{Course, course_from}
 use Rattle.st_service.specs.Acts.{ActEnters, CanDo}
 use Rattle.st_service.specs.Asked.{requests_in, requests_of}
 use Rattle.st_service.specs.Closed.{IsWhole, Stands, positions}
@@ -249,7 +249,7 @@ lock_enters number before was after now none e =
     let size : length after ≡ length mid + length (tagged number run.entries) = ap length run.puts.1 ∙ length-append mid (tagged number run.entries) in
     locked_once number mid after (omega (arith, none, size)) none run.run
   where
-    locked_once : (number : ℕ) (mid after : List Made) → length mid ≤ 0 → length after ≤ 0 → course_of (app number) (Lock 0 a1 Low) small [] (run_from (past_in mid)) ≡ record { past = past_in after; stopped = false } → ⊥
+    locked_once : (number : ℕ) (mid after : List Made) → length mid ≤ 0 → length after ≤ 0 → course_of (app number) (Lock 0 a1 Low) small [] (course_from (past_in mid)) ≡ record { past = past_in after; stopped = false } → ⊥
     locked_once number [] [] few none is = absurd (omega (arith, ap (λ (r : Course). length r.past) is))
     locked_once number [] (m ∷ after) few none is = absurd (omega (arith, none))
     locked_once number (m ∷ mid) after few none is = absurd (omega (arith, few))

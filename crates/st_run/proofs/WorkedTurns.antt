@@ -21,7 +21,7 @@ use Rattle.st_event.specs.Services.{entry_after}
 use Rattle.st_wire.specs.declared.line.WireKind.TheVariants.{Command}
 use Rattle.st_wire.specs.declared.line.WireLine.TheVariants.{Drop}
 use Rattle.st_wire.specs.declared.line.WireLine.{WireLine}
-use Rattle.st_world.specs.Rounds.{Course, run_from, enter, enter_all, newest_arrivals, poll, turn}
+use Rattle.st_world.specs.Rounds.{Course, course_from, enter, enter_all, follow_ups, poll, turn}
 use Rattle.st_world.specs.World.{IsBeginning}
 use Rattle.st_run.specs.CarriedOn.{FailsAsAsked, HasTurns, PollsAll, WasSettled, is_poll_of}
 use Rattle.st_run.specs.Failures.{IsFailureBy}
@@ -60,60 +60,60 @@ all_counted course kind adds (suc k) from past stand =
     let last = within kind stand.1 past stand.4 in
     omega (arith, rest, one, last)
 
--- a run after an event: it was stopped before, it met a full journal, or it has one entry more
+-- a course after an event: it was stopped before, it met a full journal, or it has one entry more
 abbrev entered : Course → Event → Bool → Bool → Course
-entered run event stopped room = if stopped then run else (if room then record { past = entry_after small run.past event ∷ run.past; stopped = false } else record { past = run.past; stopped = true })
+entered course event stopped room = if stopped then course else (if room then record { past = entry_after small course.past event ∷ course.past; stopped = false } else record { past = course.past; stopped = true })
 
-more_by : (kind : Event → Bool) (run : Course) (event : Event) (stopped room : Bool) → counted kind run.past ≤ counted kind (entered run event stopped room).past
-more_by kind run event true room = omega arith
-more_by kind run event false true = omega arith
-more_by kind run event false false = omega arith
+more_by : (kind : Event → Bool) (course : Course) (event : Event) (stopped room : Bool) → counted kind course.past ≤ counted kind (entered course event stopped room).past
+more_by kind course event true room = omega arith
+more_by kind course event false true = omega arith
+more_by kind course event false false = omega arith
 
-more : (kind : Event → Bool) (run : Course) (event : Event) → counted kind run.past ≤ counted kind (enter small run event).past
-more kind run event = more_by kind run event run.stopped (nat_lt (length run.past) MAX_ENTRIES)
+more : (kind : Event → Bool) (course : Course) (event : Event) → counted kind course.past ≤ counted kind (enter small course event).past
+more kind course event = more_by kind course event course.stopped (nat_lt (length course.past) MAX_ENTRIES)
 
-more_all : (kind : Event → Bool) (run : Course) (events : List Event) → counted kind run.past ≤ counted kind (enter_all small run events).past
-more_all kind run [] = omega arith
-more_all kind run (event ∷ events) = let one = more kind run event in let rest = more_all kind (enter small run event) events in omega (arith, one, rest)
+more_all : (kind : Event → Bool) (course : Course) (events : List Event) → counted kind course.past ≤ counted kind (enter_all small course events).past
+more_all kind course [] = omega arith
+more_all kind course (event ∷ events) = let one = more kind course event in let rest = more_all kind (enter small course event) events in omega (arith, one, rest)
 
--- a stopped run stays so
+-- a stopped course stays so
 still : (past : List Entry) (events : List Event) → enter_all small (record { past = past; stopped = true }) events ≡ record { past = past; stopped = true }
 still past [] = refl
 still past (event ∷ events) = still past events
 
 -- a turn has a Send
-sends_by : (lines : List WireLine) (before after : List Entry) (room : Bool) → nat_lt (length before) MAX_ENTRIES ≡ room → turn small lines (run_from before) a1 ≡ record { past = after; stopped = false } → suc (counted is_send before) ≤ counted is_send after
+sends_by : (lines : List WireLine) (before after : List Entry) (room : Bool) → nat_lt (length before) MAX_ENTRIES ≡ room → turn small lines (course_from before) a1 ≡ record { past = after; stopped = false } → suc (counted is_send before) ≤ counted is_send after
 sends_by lines before after true is run =
     let first : Course = record { past = entry_after small before (Send a1) ∷ before; stopped = false } in
-    let here : enter small (run_from before) (Send a1) ≡ first = ap (entered (run_from before) (Send a1) false) is in
-    let told = newest_arrivals lines first.past in
+    let here : enter small (course_from before) (Send a1) ≡ first = ap (entered (course_from before) (Send a1) false) is in
+    let told = follow_ups small lines first.past in
     let third = enter_all small first told in
     let fourth = enter small third (Finish a1) in
     let fifth = enter small fourth (Report a1) in
-    let whole : poll small lines (enter small third (Finish a1)) a1 ≡ record { past = after; stopped = false } = ap (λ (r : Course). poll small lines (enter small (enter_all small r (newest_arrivals lines r.past)) (Finish a1)) a1) (sym here) ∙ run in
+    let whole : poll small lines (enter small third (Finish a1)) a1 ≡ record { past = after; stopped = false } = ap (λ (r : Course). poll small lines (enter small (enter_all small r (follow_ups small lines r.past)) (Finish a1)) a1) (sym here) ∙ run in
     let a = more_all is_send first told in
     let b = more is_send third (Finish a1) in
     let c = more is_send fourth (Report a1) in
-    let d = more_all is_send fifth (newest_arrivals lines fifth.past) in
+    let d = more_all is_send fifth (follow_ups small lines fifth.past) in
     let e : counted is_send (poll small lines fourth a1).past ≡ counted is_send after = ap (λ (r : Course). counted is_send r.past) whole in
     omega (arith, a, b, c, d, e)
 sends_by lines before after false is run =
     let full : Course = record { past = before; stopped = true } in
-    let here : enter small (run_from before) (Send a1) ≡ full = ap (entered (run_from before) (Send a1) false) is in
-    let stays : enter_all small full (newest_arrivals lines before) ≡ full = still before (newest_arrivals lines before) in
+    let here : enter small (course_from before) (Send a1) ≡ full = ap (entered (course_from before) (Send a1) false) is in
+    let stays : enter_all small full (follow_ups small lines before) ≡ full = still before (follow_ups small lines before) in
     let flat : full ≡ record { past = after; stopped = false } =
-    sym stays ∙ sym (ap (λ (r : Course). poll small lines (enter small r (Finish a1)) a1) stays) ∙ sym (ap (λ (r : Course). poll small lines (enter small (enter_all small r (newest_arrivals lines r.past)) (Finish a1)) a1) here) ∙ run in
+    sym stays ∙ sym (ap (λ (r : Course). poll small lines (enter small r (Finish a1)) a1) stays) ∙ sym (ap (λ (r : Course). poll small lines (enter small (enter_all small r (follow_ups small lines r.past)) (Finish a1)) a1) here) ∙ run in
     absurd (cc (ap (λ (r : Course). r.stopped) flat))
 
 -- a poll has a Hear
-hears_by : (before after : List Entry) (room more_room : Bool) → nat_lt (length before) MAX_ENTRIES ≡ room → nat_lt (suc (length before)) MAX_ENTRIES ≡ more_room → poll small [] (run_from before) a1 ≡ record { past = after; stopped = false } → suc (counted is_hear before) ≤ counted is_hear after
+hears_by : (before after : List Entry) (room more_room : Bool) → nat_lt (length before) MAX_ENTRIES ≡ room → nat_lt (suc (length before)) MAX_ENTRIES ≡ more_room → poll small [] (course_from before) a1 ≡ record { past = after; stopped = false } → suc (counted is_hear before) ≤ counted is_hear after
 hears_by before after true true is more_is run =
     let report = entry_after small before (Report a1) in
     let first : Course = record { past = report ∷ before; stopped = false } in
     let number = length (reports small before) + 1 in
-    let here : enter small (run_from before) (Report a1) ≡ first = ap (entered (run_from before) (Report a1) false) is in
+    let here : enter small (course_from before) (Report a1) ≡ first = ap (entered (course_from before) (Report a1) false) is in
     let heard : enter small first (Hear number) ≡ record { past = entry_after small first.past (Hear number) ∷ first.past; stopped = false } = ap (entered first (Hear number) false) more_is in
-    let whole : enter small first (Hear number) ≡ record { past = after; stopped = false } = sym (ap (λ (r : Course). enter_all small r (newest_arrivals [] r.past)) here) ∙ run in
+    let whole : enter small first (Hear number) ≡ record { past = after; stopped = false } = sym (ap (λ (r : Course). enter_all small r (follow_ups small [] r.past)) here) ∙ run in
     let one : counted is_hear (entry_after small first.past (Hear number) ∷ first.past) ≡ 1 + (0 + counted is_hear before) = refl in
     let same : counted is_hear (entry_after small first.past (Hear number) ∷ first.past) ≡ counted is_hear after = ap (λ (r : Course). counted is_hear r.past) (sym heard ∙ whole) in
     omega (arith, one, same)
@@ -121,22 +121,22 @@ hears_by before after true false is more_is run =
     let report = entry_after small before (Report a1) in
     let first : Course = record { past = report ∷ before; stopped = false } in
     let number = length (reports small before) + 1 in
-    let here : enter small (run_from before) (Report a1) ≡ first = ap (entered (run_from before) (Report a1) false) is in
+    let here : enter small (course_from before) (Report a1) ≡ first = ap (entered (course_from before) (Report a1) false) is in
     let full : enter small first (Hear number) ≡ record { past = first.past; stopped = true } = ap (entered first (Hear number) false) more_is in
-    let whole : enter small first (Hear number) ≡ record { past = after; stopped = false } = sym (ap (λ (r : Course). enter_all small r (newest_arrivals [] r.past)) here) ∙ run in
+    let whole : enter small first (Hear number) ≡ record { past = after; stopped = false } = sym (ap (λ (r : Course). enter_all small r (follow_ups small [] r.past)) here) ∙ run in
     absurd (cc (ap (λ (r : Course). r.stopped) (sym full ∙ whole)))
 hears_by before after false more_room is more_is run =
     let full : Course = record { past = before; stopped = true } in
-    let here : enter small (run_from before) (Report a1) ≡ full = ap (entered (run_from before) (Report a1) false) is in
-    let flat : full ≡ record { past = after; stopped = false } = sym (still before (newest_arrivals [] before)) ∙ sym (ap (λ (r : Course). enter_all small r (newest_arrivals [] r.past)) here) ∙ run in
+    let here : enter small (course_from before) (Report a1) ≡ full = ap (entered (course_from before) (Report a1) false) is in
+    let flat : full ≡ record { past = after; stopped = false } = sym (still before (follow_ups small [] before)) ∙ sym (ap (λ (r : Course). enter_all small r (follow_ups small [] r.past)) here) ∙ run in
     absurd (cc (ap (λ (r : Course). r.stopped) flat))
 
-turns_are_sent : (lines : List WireLine) (k : ℕ) (from past : List Entry) → Stand (λ before. turn small lines (run_from before) a1) k from past → k + counted is_send from ≤ counted is_send past
-turns_are_sent lines k from past stand = all_counted (λ before. turn small lines (run_from before) a1) is_send (λ before after run. sends_by lines before after (nat_lt (length before) MAX_ENTRIES) refl run) k from past stand
+turns_are_sent : (lines : List WireLine) (k : ℕ) (from past : List Entry) → Stand (λ before. turn small lines (course_from before) a1) k from past → k + counted is_send from ≤ counted is_send past
+turns_are_sent lines k from past stand = all_counted (λ before. turn small lines (course_from before) a1) is_send (λ before after run. sends_by lines before after (nat_lt (length before) MAX_ENTRIES) refl run) k from past stand
 
-polls_are_heard : (k : ℕ) (past : List Entry) → Stand (λ before. poll small [] (run_from before) a1) k [] past → k ≤ counted is_hear past
+polls_are_heard : (k : ℕ) (past : List Entry) → Stand (λ before. poll small [] (course_from before) a1) k [] past → k ≤ counted is_hear past
 polls_are_heard k past stand =
-    let all = all_counted (λ before. poll small [] (run_from before) a1) is_hear (λ before after run. hears_by before after (nat_lt (length before) MAX_ENTRIES) (nat_lt (suc (length before)) MAX_ENTRIES) refl refl run) k [] past stand in
+    let all = all_counted (λ before. poll small [] (course_from before) a1) is_hear (λ before after run. hears_by before after (nat_lt (length before) MAX_ENTRIES) (nat_lt (suc (length before)) MAX_ENTRIES) refl refl run) k [] past stand in
     omega (arith, all)
 
 -- Turns
@@ -284,7 +284,7 @@ polled_twice = journal (Report a1 ∷ Hear 1 ∷ Report a1 ∷ Hear 2 ∷ [])
 abbrev polled : List Entry
 polled = after_all [] (Report a1 ∷ Hear 1 ∷ [])
 
-two_polls : Stand (λ before. poll small [] (run_from before) a1) 2 [] polled_twice.past
+two_polls : Stand (λ before. poll small [] (course_from before) a1) 2 [] polled_twice.past
 two_polls = (polled, polled_twice.past, ([], polled, ([], refl), refl, ([], refl)), refl, ([], refl))
 
 no_polls : IsBeginning [] polled_twice.past
@@ -299,7 +299,7 @@ none_of i = ap (λ b. sum_by (λ (acts : List Act). count_by (λ (act : Act). b)
 
 polls : PollsAll polling 0 polled_twice []
 polls (Device zero) = two_polls
-polls (Device (suc i)) = subst (λ k. Stand (λ before. poll small [] (run_from before) (Device (suc i))) k [] polled_twice.past) (sym (none_of i)) no_polls
+polls (Device (suc i)) = subst (λ k. Stand (λ before. poll small [] (course_from before) (Device (suc i))) k [] polled_twice.past) (sym (none_of i)) no_polls
 polls (Link i) = no_polls
 
 -- a report was not heard

@@ -15,7 +15,7 @@ use Rattle.st_event.specs.Observed.{is_settled}
 use Rattle.st_event.specs.Proposals.{is_queued, pending}
 use Rattle.st_wire.specs.declared.line.WireLine.{WireLine}
 use Rattle.st_world.specs.Acts.{group_number}
-use Rattle.st_world.specs.Rounds.{run_from, poll, turn}
+use Rattle.st_world.specs.Rounds.{course_from, poll, turn}
 use Rattle.st_world.specs.World.{IsBeginning}
 use Rattle.st_run.specs.Failures.{IsFailureBy, failures_in}
 use Rattle.st_run.specs.Logs.{EachRead, HasSeen, IsLineOf, IsTrueOf, NeverLess, accepted_up_to}
@@ -70,7 +70,7 @@ pub record WasSettled (h : History) (from : List Entry) (e : Entity) : Type 0 wh
 
 -- at least so many turns of the entity stand behind it
 abbrev pub HasTurns : History → List WireLine → List Entry → Entity → ℕ → Type 0
-HasTurns h lines from e count = Stand (λ past. turn h.group lines (run_from past) e) count from h.past
+HasTurns h lines from e count = Stand (λ past. turn h.group lines (course_from past) e) count from h.past
 
 -- a settle settles each entity, or gives it all its turns
 abbrev pub IsSettledIn : History → List WireLine → List Entry → ℕ → Type 0
@@ -135,7 +135,7 @@ is_poll_of e (Fail n entity health rows) = false
 
 -- for each entity at least as many reports, each with what was to be heard at its turn, as there are polls of it in all scripts
 abbrev pub PollsAll : List (List Act) → ℕ → History → List WireLine → Type 0
-PollsAll scripts n h lines = (e : Entity) → Stand (λ past. poll h.group lines (run_from past) e) (sum_by (λ acts. count_by (is_poll_of e) (acts_on n acts)) scripts) [] h.past
+PollsAll scripts n h lines = (e : Entity) → Stand (λ past. poll h.group lines (course_from past) e) (sum_by (λ acts. count_by (is_poll_of e) (acts_on n acts)) scripts) [] h.past
 
 -- an application's script was carried out on group n
 pub record IsDoneBy (app : AppId) (acts : List Act) (log : List LogEntry) (n : ℕ) (h : History) (lines : List WireLine) : Type 0 where

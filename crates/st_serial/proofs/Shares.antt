@@ -22,7 +22,7 @@ use Rattle.st_event.specs.Observed.{is_settled}
 use Rattle.st_event.specs.Proposals.{pending}
 use Rattle.st_event.specs.Services.{entry_after}
 use Rattle.st_wire.specs.declared.line.WireLine.{WireLine}
-use Rattle.st_world.specs.Rounds.{Course, run_from, enter, enter_all, enter_told, newest_arrivals, turn, turns, unsettled, update_turn}
+use Rattle.st_world.specs.Rounds.{Course, course_from, enter, enter_all, enter_told, follow_ups, turn, turns, unsettled, update_turn}
 use Rattle.st_world.specs.Acts.{act_course, all_checked, checked_while, course_of, failed_vals, has_one_of, is_none_left, is_something, rounds_done, with_room}
 use Rattle.st_world.proofs.RunLaws.{entered}
 use Rattle.st_world.proofs.TurnLaws.{enter-length, poll-length, proposed-length, turn-length, while-length}
@@ -42,136 +42,136 @@ none_more k n = omega arith
 one_more : (k n before now later : ℕ) → now ≤ before + k → later ≤ now + k * n → later ≤ before + k * suc n
 one_more k n before now later first rest = omega (arith, mul-suc k n, first, rest)
 
-turns-length : (g : Group) (lines : List WireLine) (run : Course) (es : List Entity) → length (turns g lines run es).past ≤ length run.past + turn_most lines * length es
-turns-length g lines run [] = none_more (turn_most lines) (length run.past)
-turns-length g lines run (e ∷ es) =
-    let next = turn g lines run e in
-    one_more (turn_most lines) (length es) (length run.past) (length next.past) (length (turns g lines next es).past) (turn-length g lines run e) (turns-length g lines next es)
+turns-length : (g : Group) (lines : List WireLine) (course : Course) (es : List Entity) → length (turns g lines course es).past ≤ length course.past + turn_most lines * length es
+turns-length g lines course [] = none_more (turn_most lines) (length course.past)
+turns-length g lines course (e ∷ es) =
+    let next = turn g lines course e in
+    one_more (turn_most lines) (length es) (length course.past) (length next.past) (length (turns g lines next es).past) (turn-length g lines course e) (turns-length g lines next es)
 
 unsettled_few : (g : Group) (past : List Entry) → length (unsettled g past) ≤ entity_count g
 unsettled_few g past =
     let both = length-filter_both (λ (e : Entity). not (is_settled g past e)) (λ e. not (not (is_settled g past e))) (λ e. refl) (entities_of g) in
     omega (arith, both, entities_count g)
 
-round-within : (g : Group) (lines : List WireLine) (run : Course) → length (turns g lines run (unsettled g run.past)).past ≤ length run.past + round_most g lines
-round-within g lines run =
-    let made = turns-length g lines run (unsettled g run.past) in
-    let few = mul-le-mul_left (turn_most lines) (unsettled_few g run.past) in
-    within (length run.past) (length (turns g lines run (unsettled g run.past)).past) (turn_most lines * length (unsettled g run.past)) (round_most g lines) made few
+round-within : (g : Group) (lines : List WireLine) (course : Course) → length (turns g lines course (unsettled g course.past)).past ≤ length course.past + round_most g lines
+round-within g lines course =
+    let made = turns-length g lines course (unsettled g course.past) in
+    let few = mul-le-mul_left (turn_most lines) (unsettled_few g course.past) in
+    within (length course.past) (length (turns g lines course (unsettled g course.past)).past) (turn_most lines * length (unsettled g course.past)) (round_most g lines) made few
   where
     within : (before now added most : ℕ) → now ≤ before + added → added ≤ most → now ≤ before + most
     within before now added most made few = omega (arith, made, few)
 
-rounds-within : (g : Group) (lines : List WireLine) (n : ℕ) (run : Course) → length (rounds_done g lines n run).past ≤ length run.past + round_most g lines * n
+rounds-within : (g : Group) (lines : List WireLine) (n : ℕ) (course : Course) → length (rounds_done g lines n course).past ≤ length course.past + round_most g lines * n
 unfolding rounds_done
-rounds-within g lines zero run = none_more (round_most g lines) (length run.past)
-rounds-within g lines (suc n) run =
-    let next = turns g lines run (unsettled g run.past) in
-    let more = one_more (round_most g lines) n (length run.past) in
-    by_test (λ (r : Course). length r.past ≤ length run.past + round_most g lines * suc n) (is_none_left (unsettled g run.past)) run (rounds_done g lines n next)
+rounds-within g lines zero course = none_more (round_most g lines) (length course.past)
+rounds-within g lines (suc n) course =
+    let next = turns g lines course (unsettled g course.past) in
+    let more = one_more (round_most g lines) n (length course.past) in
+    by_test (λ (r : Course). length r.past ≤ length course.past + round_most g lines * suc n) (is_none_left (unsettled g course.past)) course (rounds_done g lines n next)
     (omega arith)
-    (more (length next.past) (length (rounds_done g lines n next).past) (round-within g lines run) (rounds-within g lines n next))
+    (more (length next.past) (length (rounds_done g lines n next).past) (round-within g lines course) (rounds-within g lines n next))
 
-settle-within : (g : Group) (lines : List WireLine) (n : ℕ) (run : Course) → length (rounds_done g lines n run).past ≤ length run.past + round_most g lines * (n + 1)
-settle-within g lines n run = looser (round_most g lines) n (length run.past) (length (rounds_done g lines n run).past) (rounds-within g lines n run)
+settle-within : (g : Group) (lines : List WireLine) (n : ℕ) (course : Course) → length (rounds_done g lines n course).past ≤ length course.past + round_most g lines * (n + 1)
+settle-within g lines n course = looser (round_most g lines) n (length course.past) (length (rounds_done g lines n course).past) (rounds-within g lines n course)
   where
     looser : (k n before now : ℕ) → now ≤ before + k * n → now ≤ before + k * (n + 1)
     looser k n before now few = let one : n + 1 ≡ suc n = omega arith in let last = ap (λ (m : ℕ). k * m) one in omega (arith, few, last, mul-suc k n)
 
-course-within : (app : AppId) (act : Act) (g : Group) (lines : List WireLine) (run : Course) → length (course_of app act g lines run).past ≤ length run.past + share act g lines
-course-within app (Propose n rows) g lines run = let few = proposed-length g run app rows in omega (arith, few)
-course-within app (Await n) g lines run = while-length g (has_one_of app) MAX_PENDING run
-course-within app (Settle n rounds) g lines run = settle-within g lines rounds run
-course-within app (Lock n entity prio) g lines run = enter-length g run (lock_event app entity prio)
-course-within app (Unlock n entity prio) g lines run = enter-length g run (unlock_event app entity prio)
-course-within app (Fail n entity health rows) g lines run = enter-length g run (fail_event entity (failed_vals entity (vals g run.past entity) rows) health)
-course-within app (Poll n entity) g lines run = poll-length g lines run entity
-course-within app (Read n entity var) g lines run = omega arith
-course-within app (ReadAt n version entity var) g lines run = omega arith
+course-within : (app : AppId) (act : Act) (g : Group) (lines : List WireLine) (course : Course) → length (course_of app act g lines course).past ≤ length course.past + share act g lines
+course-within app (Propose n rows) g lines course = let few = proposed-length g course app rows in omega (arith, few)
+course-within app (Await n) g lines course = while-length g (has_one_of app) MAX_PENDING course
+course-within app (Settle n rounds) g lines course = settle-within g lines rounds course
+course-within app (Lock n entity prio) g lines course = enter-length g course (lock_event app entity prio)
+course-within app (Unlock n entity prio) g lines course = enter-length g course (unlock_event app entity prio)
+course-within app (Fail n entity health rows) g lines course = enter-length g course (fail_event entity (failed_vals entity (vals g course.past entity) rows) health)
+course-within app (Poll n entity) g lines course = poll-length g lines course entity
+course-within app (Read n entity var) g lines course = omega arith
+course-within app (ReadAt n version entity var) g lines course = omega arith
 
 pub act-within : (app : AppId) (act : Act) (h : History) (lines : List WireLine) → length (act_course app act h lines).past ≤ length h.past + share act h.group lines
-act-within app act h lines = course-within app act h.group lines (run_from h.past)
+act-within app act h lines = course-within app act h.group lines (course_from h.past)
 
 -- what each event keeps, a command keeps
 
-module _ (g : Group) (P : Course → Type 0) (keeps : (run : Course) (event : Event) → P run → P (enter g run event)) where
-  all-keep : (run : Course) (events : List Event) → P run → P (enter_all g run events)
-  all-keep run [] is = is
-  all-keep run (event ∷ events) is = all-keep (enter g run event) events (keeps run event is)
+module _ (g : Group) (P : Course → Type 0) (keeps : (course : Course) (event : Event) → P course → P (enter g course event)) where
+  all-keep : (course : Course) (events : List Event) → P course → P (enter_all g course events)
+  all-keep course [] is = is
+  all-keep course (event ∷ events) is = all-keep (enter g course event) events (keeps course event is)
 
-  told-keeps : (lines : List WireLine) (run : Course) (event : Event) → P run → P (enter_told g lines run event)
-  told-keeps lines run event is = let next = enter g run event in all-keep next (newest_arrivals lines next.past) (keeps run event is)
+  told-keeps : (lines : List WireLine) (course : Course) (event : Event) → P course → P (enter_told g lines course event)
+  told-keeps lines course event is = let next = enter g course event in all-keep next (follow_ups g lines next.past) (keeps course event is)
 
-  turn-keeps : (lines : List WireLine) (run : Course) (e : Entity) → P run → P (turn g lines run e)
-  turn-keeps lines run e is = told-keeps lines (update_turn g lines run e) (make_report e) (keeps (enter_told g lines run (Send e)) (Finish e) (told-keeps lines run (Send e) is))
+  turn-keeps : (lines : List WireLine) (course : Course) (e : Entity) → P course → P (turn g lines course e)
+  turn-keeps lines course e is = told-keeps lines (update_turn g lines course e) (make_report e) (keeps (enter_told g lines course (Send e)) (Finish e) (told-keeps lines course (Send e) is))
 
-  turns-keep : (lines : List WireLine) (run : Course) (es : List Entity) → P run → P (turns g lines run es)
-  turns-keep lines run [] is = is
-  turns-keep lines run (e ∷ es) is = turns-keep lines (turn g lines run e) es (turn-keeps lines run e is)
+  turns-keep : (lines : List WireLine) (course : Course) (es : List Entity) → P course → P (turns g lines course es)
+  turns-keep lines course [] is = is
+  turns-keep lines course (e ∷ es) is = turns-keep lines (turn g lines course e) es (turn-keeps lines course e is)
 
-  while-keeps : (waits : List Proposal → Bool) (n : ℕ) (run : Course) → P run → P (checked_while g waits n run)
+  while-keeps : (waits : List Proposal → Bool) (n : ℕ) (course : Course) → P course → P (checked_while g waits n course)
   unfolding checked_while
-  while-keeps waits zero run is = is
-  while-keeps waits (suc n) run is =
-      let next = enter g run Check in
-      by_test P (waits (pending run.past)) (checked_while g waits n next) run (while-keeps waits n next (keeps run Check is)) is
+  while-keeps waits zero course is = is
+  while-keeps waits (suc n) course is =
+      let next = enter g course Check in
+      by_test P (waits (pending course.past)) (checked_while g waits n next) course (while-keeps waits n next (keeps course Check is)) is
 
-  rounds-keep : (lines : List WireLine) (n : ℕ) (run : Course) → P run → P (rounds_done g lines n run)
+  rounds-keep : (lines : List WireLine) (n : ℕ) (course : Course) → P course → P (rounds_done g lines n course)
   unfolding rounds_done
-  rounds-keep lines zero run is = is
-  rounds-keep lines (suc n) run is =
-      let es = unsettled g run.past in
-      let next = turns g lines run es in
-      by_test P (is_none_left es) run (rounds_done g lines n next) is (rounds-keep lines n next (turns-keep lines run es is))
+  rounds-keep lines zero course is = is
+  rounds-keep lines (suc n) course is =
+      let es = unsettled g course.past in
+      let next = turns g lines course es in
+      by_test P (is_none_left es) course (rounds_done g lines n next) is (rounds-keep lines n next (turns-keep lines course es is))
 
-  course-keeps : (app : AppId) (act : Act) (lines : List WireLine) (run : Course) → P run → P (course_of app act g lines run)
-  course-keeps app (Propose n rows) lines run is = keeps (with_room g run) (Submit app rows) (by_test P (length (pending run.past) == MAX_PENDING) (enter g run Check) run (keeps run Check is) is)
-  course-keeps app (Await n) lines run is = while-keeps (has_one_of app) MAX_PENDING run is
-  course-keeps app (Settle n rounds) lines run is = rounds-keep lines rounds run is
-  course-keeps app (Lock n entity prio) lines run is = keeps run (lock_event app entity prio) is
-  course-keeps app (Unlock n entity prio) lines run is = keeps run (unlock_event app entity prio) is
-  course-keeps app (Fail n entity health rows) lines run is = keeps run (fail_event entity (failed_vals entity (vals g run.past entity) rows) health) is
-  course-keeps app (Poll n entity) lines run is = told-keeps lines run (make_report entity) is
-  course-keeps app (Read n entity var) lines run is = is
-  course-keeps app (ReadAt n version entity var) lines run is = is
+  course-keeps : (app : AppId) (act : Act) (lines : List WireLine) (course : Course) → P course → P (course_of app act g lines course)
+  course-keeps app (Propose n rows) lines course is = keeps (with_room g course) (Submit app rows) (by_test P (length (pending course.past) == MAX_PENDING) (enter g course Check) course (keeps course Check is) is)
+  course-keeps app (Await n) lines course is = while-keeps (has_one_of app) MAX_PENDING course is
+  course-keeps app (Settle n rounds) lines course is = rounds-keep lines rounds course is
+  course-keeps app (Lock n entity prio) lines course is = keeps course (lock_event app entity prio) is
+  course-keeps app (Unlock n entity prio) lines course is = keeps course (unlock_event app entity prio) is
+  course-keeps app (Fail n entity health rows) lines course is = keeps course (fail_event entity (failed_vals entity (vals g course.past entity) rows) health) is
+  course-keeps app (Poll n entity) lines course is = told-keeps lines course (make_report entity) is
+  course-keeps app (Read n entity var) lines course is = is
+  course-keeps app (ReadAt n version entity var) lines course is = is
 
--- a run that has stopped has a full journal
+-- a course that has stopped has a full journal
 abbrev pub IsFullAtStop : Course → Type 0
-IsFullAtStop run = run.stopped ≡ true → MAX_ENTRIES ≤ length run.past
+IsFullAtStop course = course.stopped ≡ true → MAX_ENTRIES ≤ length course.past
 
 full_by : (n : ℕ) → nat_lt n MAX_ENTRIES ≡ false → MAX_ENTRIES ≤ n
 full_by n is = grind (arith, nat_tests)
 
-entered-full : (run : Course) (entry : Entry) (stopped room : Bool) → nat_lt (length run.past) MAX_ENTRIES ≡ room → IsFullAtStop run → IsFullAtStop (entered run entry stopped room)
-entered-full run entry true room is full = full
-entered-full run entry false true is full = λ stops. cc
-entered-full run entry false false is full = λ stops. full_by (length run.past) is
+entered-full : (course : Course) (entry : Entry) (stopped room : Bool) → nat_lt (length course.past) MAX_ENTRIES ≡ room → IsFullAtStop course → IsFullAtStop (entered course entry stopped room)
+entered-full course entry true room is full = full
+entered-full course entry false true is full = λ stops. cc
+entered-full course entry false false is full = λ stops. full_by (length course.past) is
 
-enter-full : (g : Group) (run : Course) (event : Event) → IsFullAtStop run → IsFullAtStop (enter g run event)
-enter-full g run event full = entered-full run (entry_after g run.past event) run.stopped (nat_lt (length run.past) MAX_ENTRIES) refl full
+enter-full : (g : Group) (course : Course) (event : Event) → IsFullAtStop course → IsFullAtStop (enter g course event)
+enter-full g course event full = entered-full course (entry_after g course.past event) course.stopped (nat_lt (length course.past) MAX_ENTRIES) refl full
 
-starts-full : (past : List Entry) → IsFullAtStop (run_from past)
+starts-full : (past : List Entry) → IsFullAtStop (course_from past)
 starts-full past stops = cc
 
 pub act-full : (app : AppId) (act : Act) (h : History) (lines : List WireLine) → IsFullAtStop (act_course app act h lines)
-act-full app act h lines = course-keeps h.group IsFullAtStop (enter-full h.group) app act lines (run_from h.past) (starts-full h.past)
+act-full app act h lines = course-keeps h.group IsFullAtStop (enter-full h.group) app act lines (course_from h.past) (starts-full h.past)
 
 -- the checks at the end
 
-pub checks-full : (g : Group) (past : List Entry) → IsFullAtStop (all_checked g (run_from past))
-checks-full g past = while-keeps g IsFullAtStop (enter-full g) is_something MAX_PENDING (run_from past) (starts-full past)
+pub checks-full : (g : Group) (past : List Entry) → IsFullAtStop (all_checked g (course_from past))
+checks-full g past = while-keeps g IsFullAtStop (enter-full g) is_something MAX_PENDING (course_from past) (starts-full past)
 
 -- where there are no entries no check is made, and else few
 abbrev pub with_checks : ℕ → ℕ
 with_checks zero = 0
 with_checks (suc n) = suc n + MAX_PENDING
 
-no_checks : (g : Group) → all_checked g (run_from []) ≡ run_from []
+no_checks : (g : Group) → all_checked g (course_from []) ≡ course_from []
 unfolding checked_while
 no_checks g = refl
 
-pub checks-within : (g : Group) (past : List Entry) (most : ℕ) → length past ≤ most → length (all_checked g (run_from past)).past ≤ with_checks most
+pub checks-within : (g : Group) (past : List Entry) (most : ℕ) → length past ≤ most → length (all_checked g (course_from past)).past ≤ with_checks most
 checks-within g [] zero few = let none = ap (λ (r : Course). length r.past) (no_checks g) in omega (arith, none)
 checks-within g [] (suc most) few = let none = ap (λ (r : Course). length r.past) (no_checks g) in omega (arith, none)
 checks-within g (entry ∷ past) zero few = absurd (omega (arith, few))
-checks-within g (entry ∷ past) (suc most) few = let made = while-length g is_something MAX_PENDING (run_from (entry ∷ past)) in omega (arith, made, few)
+checks-within g (entry ∷ past) (suc most) few = let made = while-length g is_something MAX_PENDING (course_from (entry ∷ past)) in omega (arith, made, few)

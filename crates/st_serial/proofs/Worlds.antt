@@ -11,7 +11,7 @@ use Rattle.st_event.specs.declared.journal.Entry.{Entry}
 use Rattle.st_wire.specs.declared.line.WireLine.{WireLine}
 use Rattle.st_world.specs.declared.world.rounds.Going.{Going}
 use Rattle.st_world.specs.World.{WorldView}
-use Rattle.st_world.specs.Rounds.{Course, run_from, is_full, Goes, HasSamePlant}
+use Rattle.st_world.specs.Rounds.{Course, course_from, is_full, Goes, HasSamePlant}
 use Rattle.st_world.specs.Acts.{ActFits, act_course, all_checked, group_number, seen_by}
 use Rattle.st_serial.specs.Serial.{GroupState, FitsIn, act_done, checks_in, course_in, groups_in, logged, state_at, state_of, states_of}
 use Rattle.st_serial.proofs.Runs.{decide_full, decide_next, decided_from, fits_group, group_in, other_done, read_done, run_of}
@@ -38,7 +38,7 @@ went : (old new : WorldView) (course : Course) (going : Going) → HasSamePlant 
 went old new course going plant goes =
     ap (λ (g : Group). record { history = record { group = g; past = new.history.past }; lines = new.lines }) plant.group
     ∙ ap (λ (lines : List WireLine). record { history = record { group = old.history.group; past = new.history.past }; lines = lines }) plant.lines
-    ∙ ap (λ (past : List Entry). record { history = record { group = old.history.group; past = past }; lines = old.lines }) (ap (λ (run : Course). run.past) goes)
+    ∙ ap (λ (past : List Entry). record { history = record { group = old.history.group; past = past }; lines = old.lines }) (ap (λ (course : Course). course.past) goes)
 
 -- commands
 
@@ -63,7 +63,7 @@ world_acted app act ws logs n d new going full number low seen plant goes full_i
     let here = sym (state_in ws n d) in
     let seen_in = subst (λ (s : GroupState). None ≡ seen_by act s.history) here seen in
     let goes_in = subst (λ (s : GroupState). state_of new ≡ state_at s (course_in app act s)) here (went w new (course_in app act (state_of w)) going plant goes) in
-    let stops_in = subst (λ (s : GroupState). is_full going ≡ (course_in app act s).stopped) here (ap (λ (run : Course). run.stopped) goes) in
+    let stops_in = subst (λ (s : GroupState). is_full going ≡ (course_in app act s).stopped) here (ap (λ (course : Course). course.stopped) goes) in
     ap (λ ss. run_of ss logs full) (set_state ws n new)
     ∙ other_done app act (states_of ws) logs n (state_of d) (state_of new) going full number (low_state ws n low) seen_in goes_in stops_in full_is
 
@@ -71,14 +71,14 @@ world_acted app act ws logs n d new going full number low seen plant goes full_i
 
 -- the checks of the group of a number led to this world
 abbrev pub IsChecked : List WorldView → ℕ → WorldView → WorldView → Going → Type 0
-IsChecked ws i d new going = HasSamePlant (slice_index_or ws i d) new × Goes new (all_checked (slice_index_or ws i d).history.group (run_from (slice_index_or ws i d).history.past)) going
+IsChecked ws i d new going = HasSamePlant (slice_index_or ws i d) new × Goes new (all_checked (slice_index_or ws i d).history.group (course_from (slice_index_or ws i d).history.past)) going
 
 pub world_full : (i : ℕ) (ws : List WorldView) (d new : WorldView) (going : Going) → i < length ws → IsChecked ws i d new going → is_full going ≡ true → record { groups = states_of (set ws i new); full = Some i } ≡ decided_from i (states_of ws)
 world_full i ws d new going low checked full =
     let w = slice_index_or ws i d in
     let here = sym (state_in ws i d) in
     let goes_in = subst (λ (s : GroupState). state_of new ≡ state_at s (checks_in s)) here (went w new (checks_in (state_of w)) going checked.0 checked.1) in
-    let stops_in = subst (λ (s : GroupState). is_full going ≡ (checks_in s).stopped) here (ap (λ (run : Course). run.stopped) checked.1) in
+    let stops_in = subst (λ (s : GroupState). is_full going ≡ (checks_in s).stopped) here (ap (λ (course : Course). course.stopped) checked.1) in
     ap (λ ss. record { groups = ss; full = Some i }) (set_state ws i new)
     ∙ decide_full i (states_of ws) (state_of d) (state_of new) going (low_state ws i low) goes_in stops_in full
 
@@ -87,6 +87,6 @@ world_decided i ws d new going low checked on =
     let w = slice_index_or ws i d in
     let here = sym (state_in ws i d) in
     let goes_in = subst (λ (s : GroupState). state_of new ≡ state_at s (checks_in s)) here (went w new (checks_in (state_of w)) going checked.0 checked.1) in
-    let stops_in = subst (λ (s : GroupState). (checks_in s).stopped ≡ false) here (sym (ap (λ (run : Course). run.stopped) checked.1) ∙ on) in
+    let stops_in = subst (λ (s : GroupState). (checks_in s).stopped ≡ false) here (sym (ap (λ (course : Course). course.stopped) checked.1) ∙ on) in
     ap (decided_from (i + 1)) (set_state ws i new)
     ∙ decide_next i (states_of ws) (state_of d) (state_of new) (low_state ws i low) goes_in stops_in

@@ -18,7 +18,7 @@ use Rattle.st_serial.specs.declared.schedule.Place.{Place}
 use Rattle.st_serial.specs.Schedule.{schedule}
 use Rattle.st_wire.specs.declared.line.WireLine.{WireLine}
 use Rattle.st_world.specs.World.{WorldView}
-use Rattle.st_world.specs.Rounds.{Course, run_from}
+use Rattle.st_world.specs.Rounds.{Course, course_from}
 use Rattle.st_world.specs.Acts.{ActFits, act_course, all_checked, group_number, seen_by}
 
 -- a group while scripts run: it with its journal, and the lines of its loss plan
@@ -112,7 +112,7 @@ opening_run doc = record { groups = all_opened doc.groups doc.wires; logs = map 
 
 -- the checks of a group while something is pending
 abbrev pub checks_in : GroupState → Course
-checks_in s = all_checked s.history.group (run_from s.history.past)
+checks_in s = all_checked s.history.group (course_from s.history.past)
 
 -- groups that are numbered from n on, and the first of which an event met a full journal
 pub record Checked : Type 0 where

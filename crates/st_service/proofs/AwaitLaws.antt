@@ -18,7 +18,7 @@ use Rattle.st_event.specs.Replies.{check_reply}
 use Rattle.st_event.specs.Services.{entry_after}
 use Rattle.st_event.proofs.LawLemmas.{few_wait}
 use Rattle.st_event.proofs.Standings.{length-deciders}
-use Rattle.st_world.specs.Rounds.{Course, run_from, enter, is_full}
+use Rattle.st_world.specs.Rounds.{Course, course_from, enter, is_full}
 use Rattle.st_world.specs.World.{IsBeginning}
 use Rattle.st_world.specs.declared.world.rounds.Going.{Going}
 use Rattle.st_world.specs.declared.world.rounds.Going.TheVariants.{On}
@@ -101,7 +101,7 @@ pub is_pending-at : (ticket n : ℕ) → nat_le ticket n ≡ false → n < ticke
 is_pending-at ticket n is = grind (arith, is, nat_tests)
 
 -- a check that had room
-pub entered_one : (past after : List Entry) (entry : Entry) (room : Bool) → entered (run_from past) entry false room ≡ record { past = after; stopped = false } → after ≡ entry ∷ past
+pub entered_one : (past after : List Entry) (entry : Entry) (room : Bool) → entered (course_from past) entry false room ≡ record { past = after; stopped = false } → after ≡ entry ∷ past
 entered_one past after entry true is = sym (ap (λ (r : Course). r.past) is)
 entered_one past after entry false is = let stopped : true ≡ false = ap (λ (r : Course). r.stopped) is in absurd (cc stopped)
 

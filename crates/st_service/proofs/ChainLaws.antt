@@ -14,7 +14,7 @@ use Rattle.st_event.specs.declared.event.Event.TheVariants.{Check}
 use Rattle.st_event.specs.Observed.{is_settled}
 use Rattle.st_event.specs.Services.{entry_after}
 use Rattle.st_wire.specs.declared.line.WireLine.{WireLine}
-use Rattle.st_world.specs.Rounds.{Course, run_from, unsettled}
+use Rattle.st_world.specs.Rounds.{Course, course_from, unsettled}
 use Rattle.st_world.specs.declared.world.rounds.Going.{Going}
 use Rattle.st_world.specs.declared.world.rounds.Going.TheVariants.{On, Full}
 use Rattle.st_board.proofs.Prefixes.{prefix_self, prefix_trans, prefix_length}
@@ -90,12 +90,12 @@ enters_from course going p mid before at was got after now seen same e = record 
 
 -- one turn, and one turn more
 abbrev pub OneTurn : Part → Group → List WireLine → ℕ → Entity → List Made → List ℕ → List Made → List ℕ → Type 0
-OneTurn part g lines p e before was after now = (mid : List Made) × Enters (λ past. part_of part g lines (run_from past) e) On p mid before was after now
+OneTurn part g lines p e before was after now = (mid : List Made) × Enters (λ past. part_of part g lines (course_from past) e) On p mid before was after now
 
 turns_more : (part : Part) (g : Group) (lines : List WireLine) (p : ℕ) (e : Entity) (es : List Entity) (before at after : List Made) (was got now : List ℕ)
     → Turns part g lines p es before was at got → OneTurn part g lines p e at got after now → Turns part g lines p (es ++ e ∷ []) before was after now
 turns_more part g lines p e [] before at after was got now t q =
-    (q.0, after, now, enters_from (λ past. part_of part g lines (run_from past) e) On p q.0 before at was got after now t.0 t.1 q.1, (prefix_self after, refl))
+    (q.0, after, now, enters_from (λ past. part_of part g lines (course_from past) e) On p q.0 before at was got after now t.0 t.1 q.1, (prefix_self after, refl))
 turns_more part g lines p e (x ∷ es) before at after was got now t q = (t.0, t.1, t.2, t.3, turns_more part g lines p e es t.1 at after t.2 got now t.4 q)
 
 pub turns_take : (part : Part) (g : Group) (lines : List WireLine) (p k : ℕ) (es : List Entity) (before at after : List Made) (was got now : List ℕ) → k < length es
@@ -111,7 +111,7 @@ begins_more es k d lt = (drop (k + 1) es, ap (λ l. l ++ drop (k + 1) es) (sym (
 
 -- where the next turn met a full journal
 pub turns_full : (part : Part) (g : Group) (lines : List WireLine) (p k : ℕ) (es : List Entity) (before at seen after : List Made) (was got now : List ℕ) → k < length es
-    → Turns part g lines p (take k es) before was at got → Enters (λ past. part_of part g lines (run_from past) (get_or es k (Device 0))) Full p seen at got after now
+    → Turns part g lines p (take k es) before was at got → Enters (λ past. part_of part g lines (course_from past) (get_or es k (Device 0))) Full p seen at got after now
     → ToFull part g lines p es before was after now
 turns_full part g lines p k es before at seen after was got now lt t e = record {
   done = take k es;

@@ -26,7 +26,7 @@ use Rattle.st_wire.specs.declared.line.WireLine.{WireLine}
 use Rattle.st_wire.specs.Deliveries.{deliveries}
 use Rattle.st_wire.proofs.DeliveryLaws.{few_deliveries}
 use Rattle.st_world.specs.World.{IsBeginning}
-use Rattle.st_world.specs.Rounds.{Course, run_from, enter, enter_all, arrivals_of, newest_arrivals, enter_told, update_turn, poll, turn}
+use Rattle.st_world.specs.Rounds.{Course, course_from, enter, enter_all, follow_ups_of, follow_ups, enter_told, update_turn, poll, turn}
 use Rattle.st_world.specs.Acts.{course_of, with_room, proposed}
 use Rattle.st_world.proofs.RunLaws.{entered}
 use Rattle.st_service.specs.declared.work.Part.{Part}
@@ -49,17 +49,17 @@ is_quiet false (e ∷ es) = not (is_check e.event) && all_quiet es
 is_quiet true (e ∷ []) = true
 is_quiet true (e ∷ f ∷ es) = not (is_check e.event) && is_quiet true (f ∷ es)
 
--- a run added entries to a journal: at most so many, none another's request, and a check at the most as the first, if it may make one; and it stopped
+-- a course added entries to a journal: at most so many, none another's request, and a check at the most as the first, if it may make one; and it stopped
 -- at a full journal alone
-pub record Ran (d : Bool) (number most : ℕ) (past : List Entry) (run : Course) : Type 0 where
+pub record Ran (d : Bool) (number most : ℕ) (past : List Entry) (course : Course) : Type 0 where
   pub more : List Entry
-  pub all : run.past ≡ more ++ past
+  pub all : course.past ≡ more ++ past
   pub own : all_own number more ≡ true
   pub quiet : is_quiet d more ≡ true
   pub few : length more ≤ most
-  pub full : run.stopped ≡ true → MAX_ENTRIES ≤ length run.past
+  pub full : course.stopped ≡ true → MAX_ENTRIES ≤ length course.past
 
-pub ran_none : (d : Bool) (number most : ℕ) (past : List Entry) → Ran d number most past (run_from past)
+pub ran_none : (d : Bool) (number most : ℕ) (past : List Entry) → Ran d number most past (course_from past)
 ran_none d number most past = record { more = []; all = refl; own = refl; quiet = refl; few = omega arith; full = λ e. absurd cc }
 
 -- an event that is no check, and no other's request
@@ -77,9 +77,9 @@ quiet_more e (f ∷ es) other all = rw other all
 own_more : (number : ℕ) (e : Entry) (es : List Entry) → is_own number (asker e.event) ≡ true → all_own number es ≡ true → all_own number (e ∷ es) ≡ true
 own_more number e es own all = rw own all
 
-entered-ran : (number most : ℕ) (past : List Entry) (run : Course) (entry : Entry) (stopped room : Bool) → IsPlain number entry.event → run.stopped ≡ stopped → nat_lt (length run.past) MAX_ENTRIES ≡ room → Ran false number most past run → Ran false number (most + 1) past (entered run entry stopped room)
-entered-ran number most past run entry true room plain is fits r = record { more = r.more; all = r.all; own = r.own; quiet = r.quiet; few = omega (arith, r.few); full = r.full }
-entered-ran number most past run entry false true plain is fits r = record {
+entered-ran : (number most : ℕ) (past : List Entry) (course : Course) (entry : Entry) (stopped room : Bool) → IsPlain number entry.event → course.stopped ≡ stopped → nat_lt (length course.past) MAX_ENTRIES ≡ room → Ran false number most past course → Ran false number (most + 1) past (entered course entry stopped room)
+entered-ran number most past course entry true room plain is fits r = record { more = r.more; all = r.all; own = r.own; quiet = r.quiet; few = omega (arith, r.few); full = r.full }
+entered-ran number most past course entry false true plain is fits r = record {
   more = entry ∷ r.more;
   all = ap (λ es. entry ∷ es) r.all;
   own = own_more number entry r.more plain.own r.own;
@@ -87,24 +87,24 @@ entered-ran number most past run entry false true plain is fits r = record {
   few = omega (arith, r.few);
   full = λ e. absurd cc;
 }
-entered-ran number most past run entry false false plain is fits r = record { more = r.more; all = r.all; own = r.own; quiet = r.quiet; few = omega (arith, r.few); full = λ e. not_below (length run.past) MAX_ENTRIES fits }
+entered-ran number most past course entry false false plain is fits r = record { more = r.more; all = r.all; own = r.own; quiet = r.quiet; few = omega (arith, r.few); full = λ e. not_below (length course.past) MAX_ENTRIES fits }
 
-pub enter-ran : (g : Group) (number most : ℕ) (past : List Entry) (run : Course) (event : Event) → IsPlain number event → Ran false number most past run → Ran false number (most + 1) past (enter g run event)
-enter-ran g number most past run event plain r = entered-ran number most past run (entry_after g run.past event) run.stopped (nat_lt (length run.past) MAX_ENTRIES) plain refl refl r
+pub enter-ran : (g : Group) (number most : ℕ) (past : List Entry) (course : Course) (event : Event) → IsPlain number event → Ran false number most past course → Ran false number (most + 1) past (enter g course event)
+enter-ran g number most past course event plain r = entered-ran number most past course (entry_after g course.past event) course.stopped (nat_lt (length course.past) MAX_ENTRIES) plain refl refl r
 
 -- events that are all plain
 abbrev AllPlain : ℕ → List Event → Type 0
 AllPlain number [] = Unit {0}
 AllPlain number (e ∷ es) = IsPlain number e × AllPlain number es
 
-enter_all-ran : (g : Group) (number most : ℕ) (past : List Entry) (run : Course) (events : List Event) → AllPlain number events → Ran false number most past run → Ran false number (most + length events) past (enter_all g run events)
-enter_all-ran g number most past run [] plain r = let e : most + 0 ≡ most = omega arith in rw e r
-enter_all-ran g number most past run (event ∷ events) plain r =
+enter_all-ran : (g : Group) (number most : ℕ) (past : List Entry) (course : Course) (events : List Event) → AllPlain number events → Ran false number most past course → Ran false number (most + length events) past (enter_all g course events)
+enter_all-ran g number most past course [] plain r = let e : most + 0 ≡ most = omega arith in rw e r
+enter_all-ran g number most past course (event ∷ events) plain r =
     let e : most + suc (length events) ≡ (most + 1) + length events = omega arith in
-    rw e (enter_all-ran g number (most + 1) past (enter g run event) events plain.1 (enter-ran g number most past run event plain.0 r))
+    rw e (enter_all-ran g number (most + 1) past (enter g course event) events plain.1 (enter-ran g number most past course event plain.0 r))
 
-more_room : (d : Bool) (number few most : ℕ) (past : List Entry) (run : Course) → few ≤ most → Ran d number few past run → Ran d number most past run
-more_room d number few most past run le r = record { more = r.more; all = r.all; own = r.own; quiet = r.quiet; few = omega (arith, le, r.few); full = r.full }
+more_room : (d : Bool) (number few most : ℕ) (past : List Entry) (course : Course) → few ≤ most → Ran d number few past course → Ran d number most past course
+more_room d number few most past course le r = record { more = r.more; all = r.all; own = r.own; quiet = r.quiet; few = omega (arith, le, r.few); full = r.full }
 
 plain_deliver : (number : ℕ) (ns : List ℕ) → AllPlain number (map Deliver ns)
 plain_deliver number [] = tt
@@ -114,30 +114,30 @@ plain_hear : (number : ℕ) (ns : List ℕ) → AllPlain number (map Hear ns)
 plain_hear number [] = tt
 plain_hear number (n ∷ ns) = (record { check = refl; own = refl }, plain_hear number ns)
 
-plain_arrivals : (number : ℕ) (lines : List WireLine) (reply : Reply) → AllPlain number (arrivals_of lines reply)
-plain_arrivals number lines (Sent n) = plain_deliver number (deliveries lines command_kind n)
-plain_arrivals number lines (Reported n) = plain_hear number (deliveries lines report_kind n)
-plain_arrivals number lines _ = tt
+plain_follow_ups_of : (number : ℕ) (g : Group) (lines : List WireLine) (past : List Entry) (reply : Reply) → AllPlain number (follow_ups_of g lines past reply)
+plain_follow_ups_of number g lines past (Sent n) = plain_deliver number (deliveries lines command_kind n)
+plain_follow_ups_of number g lines past (Reported n) = plain_hear number (deliveries lines report_kind n)
+plain_follow_ups_of number g lines past _ = tt
 
-few_arrivals : (lines : List WireLine) (reply : Reply) → length (arrivals_of lines reply) ≤ 1 + length lines
-few_arrivals lines (Sent n) = let f = few_deliveries lines command_kind n in omega (arith, f, length-map (deliveries lines command_kind n) Deliver)
-few_arrivals lines (Reported n) = let f = few_deliveries lines report_kind n in omega (arith, f, length-map (deliveries lines report_kind n) Hear)
-few_arrivals lines _ = omega arith
+few_follow_ups_of : (g : Group) (lines : List WireLine) (past : List Entry) (reply : Reply) → length (follow_ups_of g lines past reply) ≤ 1 + length lines
+few_follow_ups_of g lines past (Sent n) = let f = few_deliveries lines command_kind n in omega (arith, f, length-map (deliveries lines command_kind n) Deliver)
+few_follow_ups_of g lines past (Reported n) = let f = few_deliveries lines report_kind n in omega (arith, f, length-map (deliveries lines report_kind n) Hear)
+few_follow_ups_of g lines past _ = omega arith
 
-plain_newest : (number : ℕ) (lines : List WireLine) (past : List Entry) → AllPlain number (newest_arrivals lines past)
-plain_newest number lines [] = tt
-plain_newest number lines (entry ∷ past) = plain_arrivals number lines entry.reply
+plain_follow_ups : (number : ℕ) (g : Group) (lines : List WireLine) (past : List Entry) → AllPlain number (follow_ups g lines past)
+plain_follow_ups number g lines [] = tt
+plain_follow_ups number g lines (entry ∷ past) = plain_follow_ups_of number g lines (entry ∷ past) entry.reply
 
-few_newest : (lines : List WireLine) (past : List Entry) → length (newest_arrivals lines past) ≤ 1 + length lines
-few_newest lines [] = omega arith
-few_newest lines (entry ∷ past) = few_arrivals lines entry.reply
+few_follow_ups : (g : Group) (lines : List WireLine) (past : List Entry) → length (follow_ups g lines past) ≤ 1 + length lines
+few_follow_ups g lines [] = omega arith
+few_follow_ups g lines (entry ∷ past) = few_follow_ups_of g lines (entry ∷ past) entry.reply
 
-enter_told-ran : (g : Group) (lines : List WireLine) (number most : ℕ) (past : List Entry) (run : Course) (event : Event) → IsPlain number event → Ran false number most past run → Ran false number (most + (2 + length lines)) past (enter_told g lines run event)
-enter_told-ran g lines number most past run event plain r =
-    let next = enter g run event in
-    let f = few_newest lines next.past in
-    more_room false number ((most + 1) + length (newest_arrivals lines next.past)) (most + (2 + length lines)) past (enter_told g lines run event) (omega (arith, f))
-    (enter_all-ran g number (most + 1) past next (newest_arrivals lines next.past) (plain_newest number lines next.past) (enter-ran g number most past run event plain r))
+enter_told-ran : (g : Group) (lines : List WireLine) (number most : ℕ) (past : List Entry) (course : Course) (event : Event) → IsPlain number event → Ran false number most past course → Ran false number (most + (2 + length lines)) past (enter_told g lines course event)
+enter_told-ran g lines number most past course event plain r =
+    let next = enter g course event in
+    let f = few_follow_ups g lines next.past in
+    more_room false number ((most + 1) + length (follow_ups g lines next.past)) (most + (2 + length lines)) past (enter_told g lines course event) (omega (arith, f))
+    (enter_all-ran g number (most + 1) past next (follow_ups g lines next.past) (plain_follow_ups number g lines next.past) (enter-ran g number most past course event plain r))
 
 plain_send : (number : ℕ) (e : Entity) → IsPlain number (Send e)
 plain_send number e = record { check = refl; own = refl }
@@ -148,38 +148,38 @@ plain_finish number e = record { check = refl; own = refl }
 plain_report : (number : ℕ) (e : Entity) → IsPlain number (make_report e)
 plain_report number e = record { check = refl; own = refl }
 
-update-ran : (g : Group) (lines : List WireLine) (number most : ℕ) (past : List Entry) (run : Course) (e : Entity) → Ran false number most past run → Ran false number (most + (3 + length lines)) past (update_turn g lines run e)
-update-ran g lines number most past run e r = more_room false number ((most + (2 + length lines)) + 1) (most + (3 + length lines)) past (update_turn g lines run e) (omega arith)
-    (enter-ran g number (most + (2 + length lines)) past (enter_told g lines run (Send e)) (Finish e) (plain_finish number e) (enter_told-ran g lines number most past run (Send e) (plain_send number e) r))
+update-ran : (g : Group) (lines : List WireLine) (number most : ℕ) (past : List Entry) (course : Course) (e : Entity) → Ran false number most past course → Ran false number (most + (3 + length lines)) past (update_turn g lines course e)
+update-ran g lines number most past course e r = more_room false number ((most + (2 + length lines)) + 1) (most + (3 + length lines)) past (update_turn g lines course e) (omega arith)
+    (enter-ran g number (most + (2 + length lines)) past (enter_told g lines course (Send e)) (Finish e) (plain_finish number e) (enter_told-ran g lines number most past course (Send e) (plain_send number e) r))
 
-poll-ran : (g : Group) (lines : List WireLine) (number most : ℕ) (past : List Entry) (run : Course) (e : Entity) → Ran false number most past run → Ran false number (most + (2 + length lines)) past (poll g lines run e)
-poll-ran g lines number most past run e r = enter_told-ran g lines number most past run (make_report e) (plain_report number e) r
+poll-ran : (g : Group) (lines : List WireLine) (number most : ℕ) (past : List Entry) (course : Course) (e : Entity) → Ran false number most past course → Ran false number (most + (2 + length lines)) past (poll g lines course e)
+poll-ran g lines number most past course e r = enter_told-ran g lines number most past course (make_report e) (plain_report number e) r
 
-turn-ran : (g : Group) (lines : List WireLine) (number most : ℕ) (past : List Entry) (run : Course) (e : Entity) → Ran false number most past run → Ran false number (most + (5 + 2 * length lines)) past (turn g lines run e)
-turn-ran g lines number most past run e r = more_room false number ((most + (3 + length lines)) + (2 + length lines)) (most + (5 + 2 * length lines)) past (turn g lines run e) (omega arith)
-    (poll-ran g lines number (most + (3 + length lines)) past (update_turn g lines run e) e (update-ran g lines number most past run e r))
+turn-ran : (g : Group) (lines : List WireLine) (number most : ℕ) (past : List Entry) (course : Course) (e : Entity) → Ran false number most past course → Ran false number (most + (5 + 2 * length lines)) past (turn g lines course e)
+turn-ran g lines number most past course e r = more_room false number ((most + (3 + length lines)) + (2 + length lines)) (most + (5 + 2 * length lines)) past (turn g lines course e) (omega arith)
+    (poll-ran g lines number (most + (3 + length lines)) past (update_turn g lines course e) e (update-ran g lines number most past course e r))
 
-part-ran : (part : Part) (g : Group) (lines : List WireLine) (number : ℕ) (past : List Entry) (e : Entity) → Ran false number (turn_share part lines) past (part_of part g lines (run_from past) e)
-part-ran Whole g lines number past e = more_room false number (0 + (5 + 2 * length lines)) (5 + 2 * length lines) past _ (omega arith) (turn-ran g lines number 0 past (run_from past) e (ran_none false number 0 past))
-part-ran Update g lines number past e = more_room false number (0 + (3 + length lines)) (3 + length lines) past _ (omega arith) (update-ran g lines number 0 past (run_from past) e (ran_none false number 0 past))
-part-ran Monitor g lines number past e = more_room false number (0 + (2 + length lines)) (2 + length lines) past _ (omega arith) (poll-ran g lines number 0 past (run_from past) e (ran_none false number 0 past))
+part-ran : (part : Part) (g : Group) (lines : List WireLine) (number : ℕ) (past : List Entry) (e : Entity) → Ran false number (turn_share part lines) past (part_of part g lines (course_from past) e)
+part-ran Whole g lines number past e = more_room false number (0 + (5 + 2 * length lines)) (5 + 2 * length lines) past _ (omega arith) (turn-ran g lines number 0 past (course_from past) e (ran_none false number 0 past))
+part-ran Update g lines number past e = more_room false number (0 + (3 + length lines)) (3 + length lines) past _ (omega arith) (update-ran g lines number 0 past (course_from past) e (ran_none false number 0 past))
+part-ran Monitor g lines number past e = more_room false number (0 + (2 + length lines)) (2 + length lines) past _ (omega arith) (poll-ran g lines number 0 past (course_from past) e (ran_none false number 0 past))
 
--- a check as the first entry of a run
+-- a check as the first entry of a course
 
-checked-ran : (number : ℕ) (past : List Entry) (entry : Entry) (room : Bool) → is_own number (asker entry.event) ≡ true → nat_lt (length past) MAX_ENTRIES ≡ room → Ran true number 1 past (entered (run_from past) entry false room)
+checked-ran : (number : ℕ) (past : List Entry) (entry : Entry) (room : Bool) → is_own number (asker entry.event) ≡ true → nat_lt (length past) MAX_ENTRIES ≡ room → Ran true number 1 past (entered (course_from past) entry false room)
 checked-ran number past entry true own fits = record { more = entry ∷ []; all = refl; own = own_more number entry [] own refl; quiet = refl; few = omega arith; full = λ e. absurd cc }
 checked-ran number past entry false own fits = record { more = []; all = refl; own = refl; quiet = refl; few = omega arith; full = λ e. not_below (length past) MAX_ENTRIES fits }
 
-pub check-ran : (g : Group) (number : ℕ) (past : List Entry) → Ran true number 1 past (enter g (run_from past) Check)
+pub check-ran : (g : Group) (number : ℕ) (past : List Entry) → Ran true number 1 past (enter g (course_from past) Check)
 check-ran g number past = checked-ran number past (entry_after g past Check) (nat_lt (length past) MAX_ENTRIES) refl refl
 
 quiet_then : (e : Entry) (es : List Entry) → is_check e.event ≡ false → is_quiet true es ≡ true → is_quiet true (e ∷ es) ≡ true
 quiet_then e [] other all = refl
 quiet_then e (f ∷ es) other all = rw other all
 
-then-ran : (number most : ℕ) (past : List Entry) (run : Course) (entry : Entry) (stopped room : Bool) → IsPlain number entry.event → nat_lt (length run.past) MAX_ENTRIES ≡ room → Ran true number most past run → Ran true number (most + 1) past (entered run entry stopped room)
-then-ran number most past run entry true room plain fits r = record { more = r.more; all = r.all; own = r.own; quiet = r.quiet; few = omega (arith, r.few); full = r.full }
-then-ran number most past run entry false true plain fits r = record {
+then-ran : (number most : ℕ) (past : List Entry) (course : Course) (entry : Entry) (stopped room : Bool) → IsPlain number entry.event → nat_lt (length course.past) MAX_ENTRIES ≡ room → Ran true number most past course → Ran true number (most + 1) past (entered course entry stopped room)
+then-ran number most past course entry true room plain fits r = record { more = r.more; all = r.all; own = r.own; quiet = r.quiet; few = omega (arith, r.few); full = r.full }
+then-ran number most past course entry false true plain fits r = record {
   more = entry ∷ r.more;
   all = ap (λ es. entry ∷ es) r.all;
   own = own_more number entry r.more plain.own r.own;
@@ -187,26 +187,26 @@ then-ran number most past run entry false true plain fits r = record {
   few = omega (arith, r.few);
   full = λ e. absurd cc;
 }
-then-ran number most past run entry false false plain fits r = record { more = r.more; all = r.all; own = r.own; quiet = r.quiet; few = omega (arith, r.few); full = λ e. not_below (length run.past) MAX_ENTRIES fits }
+then-ran number most past course entry false false plain fits r = record { more = r.more; all = r.all; own = r.own; quiet = r.quiet; few = omega (arith, r.few); full = λ e. not_below (length course.past) MAX_ENTRIES fits }
 
-with_room-ran : (g : Group) (number : ℕ) (past : List Entry) (full : Bool) → Ran true number 1 past (if full then enter g (run_from past) Check else run_from past)
+with_room-ran : (g : Group) (number : ℕ) (past : List Entry) (full : Bool) → Ran true number 1 past (if full then enter g (course_from past) Check else course_from past)
 with_room-ran g number past true = check-ran g number past
 with_room-ran g number past false = ran_none true number 1 past
 
-propose-ran : (g : Group) (number : ℕ) (past : List Entry) (rows : List Row) → Ran true number 2 past (proposed g (run_from past) (record { 0 = number }) rows)
+propose-ran : (g : Group) (number : ℕ) (past : List Entry) (rows : List Row) → Ran true number 2 past (proposed g (course_from past) (record { 0 = number }) rows)
 propose-ran g number past rows =
-    let run = with_room g (run_from past) in
-    then-ran number 1 past run (entry_after g run.past (Submit (record { 0 = number }) rows)) run.stopped (nat_lt (length run.past) MAX_ENTRIES) (record { check = refl; own = equal_self number }) refl
+    let course = with_room g (course_from past) in
+    then-ran number 1 past course (entry_after g course.past (Submit (record { 0 = number }) rows)) course.stopped (nat_lt (length course.past) MAX_ENTRIES) (record { check = refl; own = equal_self number }) refl
     (with_room-ran g number past (length (pending past) == MAX_PENDING))
 
-if_decided-ran : (g : Group) (number : ℕ) (past : List Entry) (over : Bool) → Ran true number 1 past (if over then run_from past else enter g (run_from past) Check)
+if_decided-ran : (g : Group) (number : ℕ) (past : List Entry) (over : Bool) → Ran true number 1 past (if over then course_from past else enter g (course_from past) Check)
 if_decided-ran g number past true = ran_none true number 1 past
 if_decided-ran g number past false = check-ran g number past
 
-one-ran : (g : Group) (number : ℕ) (past : List Entry) (event : Event) → IsPlain number event → Ran false number 1 past (enter g (run_from past) event)
-one-ran g number past event plain = enter-ran g number 0 past (run_from past) event plain (ran_none false number 0 past)
+one-ran : (g : Group) (number : ℕ) (past : List Entry) (event : Event) → IsPlain number event → Ran false number 1 past (enter g (course_from past) event)
+one-ran g number past event plain = enter-ran g number 0 past (course_from past) event plain (ran_none false number 0 past)
 
-act-ran : (act : Act) (number : ℕ) (g : Group) (lines : List WireLine) (past : List Entry) → is_of_one_hold act ≡ true → Ran (act_decides act) number (act_share act g lines) past (course_of (record { 0 = number }) act g lines (run_from past))
+act-ran : (act : Act) (number : ℕ) (g : Group) (lines : List WireLine) (past : List Entry) → is_of_one_hold act ≡ true → Ran (act_decides act) number (act_share act g lines) past (course_of (record { 0 = number }) act g lines (course_from past))
 act-ran (Propose n rows) number g lines past one = propose-ran g number past rows
 act-ran (Await n) number g lines past one = absurd cc
 act-ran (Settle n rounds) number g lines past one = absurd cc
@@ -223,7 +223,7 @@ work-ran (OneAct act) number g lines past fits = act-ran act.now number g lines 
 work-ran (Commit judged) number g lines past fits = if_decided-ran g number past (is_decided judged.now.ticket past)
 work-ran (Turn part entity) number g lines past fits = part-ran part g lines number past entity
 
--- a part of what a run added
+-- a part of what a course added
 
 own_rest : (number : ℕ) (rest xs : List Entry) → all_own number (rest ++ xs) ≡ true → all_own number xs ≡ true
 own_rest number [] xs all = all
@@ -261,8 +261,8 @@ pub record Went (d : Bool) (number most : ℕ) (past new : List Entry) : Type 0 
   pub quiet : is_quiet d more ≡ true
   pub few : length more ≤ most
 
-pub ran_part : (d : Bool) (number most : ℕ) (past new : List Entry) (run : Course) → IsBeginning past new → IsBeginning new run.past → Ran d number most past run → Went d number most past new
-ran_part d number most past new run began part r =
+pub ran_part : (d : Bool) (number most : ℕ) (past new : List Entry) (course : Course) → IsBeginning past new → IsBeginning new course.past → Ran d number most past course → Went d number most past new
+ran_part d number most past new course began part r =
     let whole : r.more ++ past ≡ (part.0 ++ began.0) ++ past = sym r.all ∙ (part.1 ∙ (ap (λ es. part.0 ++ es) began.1 ∙ sym (append_assoc part.0 began.0 past))) in
     let is : r.more ≡ part.0 ++ began.0 = append_cancel_right r.more (part.0 ++ began.0) past whole in
     record {

@@ -22,7 +22,7 @@ use Rattle.st_control.specs.declared.control.Begin.{Begin}
 use Rattle.st_control.specs.declared.control.Begin.TheVariants.{Basis, Idle}
 use Rattle.st_control.specs.Basis.{BasisView, JudgedView, IsJudgedOf}
 use Rattle.st_world.specs.Commits.{Begins, Commits, IsBasisAt, MayCommit}
-use Rattle.st_world.specs.Rounds.{Course, run_from, enter, is_full}
+use Rattle.st_world.specs.Rounds.{Course, course_from, enter, is_full}
 use Rattle.st_world.specs.declared.world.commits.Committed.{Committed}
 use Rattle.st_world.specs.declared.world.commits.Committed.TheVariants.{Did, Gone, JournalFull}
 use Rattle.st_world.specs.declared.world.rounds.Going.{Going}
@@ -59,15 +59,15 @@ nth_within xs (suc k) x e = within_at xs k x (suc k == 0) e
 -- a hold that found its ticket decided entered nothing
 still : (g : Group) (ticket : ℕ) (past after : List Entry) (stopped : Bool) → is_decided ticket past ≡ true → check_course ticket g past ≡ record { past = after; stopped = stopped } → after ≡ past
 still g ticket past after stopped is run =
-    let kept : run_from past ≡ record { past = after; stopped = stopped } = sym (ap (λ b. if b then run_from past else enter g (run_from past) Check) is) ∙ run in
+    let kept : course_from past ≡ record { past = after; stopped = stopped } = sym (ap (λ b. if b then course_from past else enter g (course_from past) Check) is) ∙ run in
     sym (ap (λ (r : Course). r.past) kept)
 
 -- and so did one that met a full journal
-entered_full : (past after : List Entry) (entry : Entry) (room : Bool) → entered (run_from past) entry false room ≡ record { past = after; stopped = true } → after ≡ past
+entered_full : (past after : List Entry) (entry : Entry) (room : Bool) → entered (course_from past) entry false room ≡ record { past = after; stopped = true } → after ≡ past
 entered_full past after entry true is = let stopped : false ≡ true = ap (λ (r : Course). r.stopped) is in absurd (cc stopped)
 entered_full past after entry false is = sym (ap (λ (r : Course). r.past) is)
 
-full_still : (g : Group) (past after : List Entry) (over : Bool) → (if over then run_from past else enter g (run_from past) Check) ≡ record { past = after; stopped = true } → after ≡ past
+full_still : (g : Group) (past after : List Entry) (over : Bool) → (if over then course_from past else enter g (course_from past) Check) ≡ record { past = after; stopped = true } → after ≡ past
 full_still g past after true is = let stopped : false ≡ true = ap (λ (r : Course). r.stopped) is in absurd (cc stopped)
 full_still g past after false is = entered_full past after (entry_after g past Check) (nat_lt (length past) MAX_ENTRIES) is
 
@@ -86,7 +86,7 @@ committed_gone g ticket number entry going mid before was after now e is at =
     (none.0, none.1, ap (λ past. nth (deciders past) ticket) same ∙ sym at)
 
 -- one that met a full journal, which only a ticket that is pending does
-full_waits : (g : Group) (past after : List Entry) (over : Bool) → (if over then run_from past else enter g (run_from past) Check) ≡ record { past = after; stopped = true } → over ≡ false
+full_waits : (g : Group) (past after : List Entry) (over : Bool) → (if over then course_from past else enter g (course_from past) Check) ≡ record { past = after; stopped = true } → over ≡ false
 full_waits g past after true is = let stopped : false ≡ true = ap (λ (r : Course). r.stopped) is in absurd (cc stopped)
 full_waits g past after false is = refl
 
@@ -118,7 +118,7 @@ pub committed_did : (g : Group) (ticket number : ℕ) (mid before : List Made) (
 committed_did g ticket number mid before was after now told receipt e is may since verdict =
     let past = past_in mid in
     let entry = entry_after g past Check in
-    let run : enter g (run_from past) Check ≡ record { past = past_in after; stopped = false } = sym (ap (λ b. if b then run_from past else enter g (run_from past) Check) is) ∙ e.run in
+    let run : enter g (course_from past) Check ≡ record { past = past_in after; stopped = false } = sym (ap (λ b. if b then course_from past else enter g (course_from past) Check) is) ∙ e.run in
     let one : past_in after ≡ entry ∷ past = entered_one past (past_in after) entry (nat_lt (length past) MAX_ENTRIES) run in
     let only : e.entries ≡ entry ∷ [] = one_put number e.entries mid after entry e.puts.1 one in
     let first : IsVerdictOf (entry ∷ []) receipt = subst (λ (es : List Entry). IsVerdictOf es receipt) (since (entry ∷ []) past one refl) verdict in
@@ -202,15 +202,15 @@ below_is n most lt = grind (arith, nat_tests, lt)
 full_is : (n most : ℕ) → n ≡ most → nat_lt n most ≡ false
 full_is n most e = grind (arith, nat_tests, e)
 
-over_run : (g : Group) (past after : List Entry) (over : Bool) → over ≡ true → after ≡ past → (if over then run_from past else enter g (run_from past) Check) ≡ record { past = after; stopped = false }
+over_run : (g : Group) (past after : List Entry) (over : Bool) → over ≡ true → after ≡ past → (if over then course_from past else enter g (course_from past) Check) ≡ record { past = after; stopped = false }
 over_run g past after over is same = rw (is, same) refl
 
 room_run : (g : Group) (past after : List Entry) (over room : Bool) (entry : Entry) → over ≡ false → room ≡ true → after ≡ entry ∷ past
-    → (if over then run_from past else (if room then record { past = entry ∷ past; stopped = false } else record { past = past; stopped = true })) ≡ record { past = after; stopped = false }
+    → (if over then course_from past else (if room then record { past = entry ∷ past; stopped = false } else record { past = past; stopped = true })) ≡ record { past = after; stopped = false }
 room_run g past after over room entry is fits same = rw (is, fits, same) refl
 
 full_run : (g : Group) (past after : List Entry) (over room : Bool) (entry : Entry) → over ≡ false → room ≡ false → after ≡ past
-    → (if over then run_from past else (if room then record { past = entry ∷ past; stopped = false } else record { past = past; stopped = true })) ≡ record { past = after; stopped = true }
+    → (if over then course_from past else (if room then record { past = entry ∷ past; stopped = false } else record { past = past; stopped = true })) ≡ record { past = after; stopped = true }
 full_run g past after over room entry is fits same = rw (is, fits, same) refl
 
 pub commit_ran : (c : Committed) (old new : History) (ticket : ℕ) → MayCommit old.past ticket → Commits old new ticket c → check_course ticket old.group old.past ≡ record { past = new.past; stopped = is_full (going_by c) }

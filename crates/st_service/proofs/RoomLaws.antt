@@ -1,5 +1,5 @@
 -- What a work makes of a room.
-use Rattle.std.proofs.Common.{◌≡◌, ℕ, suc, ◌≤◌, ◌<◌, ◌+◌, ◌^◌, Bool, true, false, List, [], ◌∷◌, ◌++◌, length, Option, Some, None, ap, sym, subst, ◌∙◌, arith, length-append}
+use Rattle.std.proofs.Common.{◌≡◌, ℕ, ◌≤◌, ◌<◌, ◌+◌, ◌^◌, Bool, true, false, List, [], ◌∷◌, ◌++◌, length, ap, sym, subst, ◌∙◌, arith, length-append}
 use Rattle.std.specs.Prelude.{All, Result, Ok, Err, IfOk, OnErr, if◌then◌else◌}
 use mathlib.Core.List.{IsPrefix}
 use Rattle.st_net.specs.declared.entity.Row.{Row}
@@ -9,8 +9,9 @@ use Rattle.st_event.specs.History.{History}
 use Rattle.st_net.specs.Ranges.{RowFits}
 use Rattle.st_event.specs.declared.journal.TheConstants.{MAX_ENTRIES}
 use Rattle.st_event.specs.Legal.{IsLegal}
-use Rattle.st_event.specs.Proposals.{overlays, overlay_in, with_overlay, pending, first_rows}
+use Rattle.st_event.specs.Proposals.{overlays, pending, first_rows}
 use Rattle.st_event.proofs.Accepting.{legal_within, next_fits}
+use Rattle.st_event.proofs.Versions.{versions_few}
 use Rattle.st_world.specs.World.{WorldView, IsBeginning}
 use Rattle.st_world.specs.Rounds.{Course, is_full, IsPartOf}
 use Rattle.st_world.specs.declared.world.rounds.Going.{Going}
@@ -34,7 +35,7 @@ course_in number work w = course_at number work w.history.group w.lines w.histor
 pub went_part : {E : Type 0} (r : Result Going E) (number : ℕ) (work : Work) (old new : WorldView)
     → IfOk r (λ going. course_in number work old ≡ record { past = new.history.past; stopped = is_full going }) → OnErr r (IsPartOf old new (course_in number work old))
     → WorkFits work old.history.group → IsBeginning new.history.past (course_in number work old).past
-went_part (Ok going) number work old new ok err fits = subst (λ (run : Course). IsBeginning new.history.past run.past) (sym ok) (beginning-self new.history.past)
+went_part (Ok going) number work old new ok err fits = subst (λ (course : Course). IsBeginning new.history.past course.past) (sym ok) (beginning-self new.history.past)
 went_part (Err e) number work old new ok err fits = err.part
 
 pub work_went : {E : Type 0} (r : Result Going E) (number : ℕ) (work : Work) (old new : WorldView)
@@ -43,7 +44,7 @@ pub work_went : {E : Type 0} (r : Result Going E) (number : ℕ) (work : Work) (
 work_went (Ok going) number work old new ok err fits =
     let ran = work-ran work number old.history.group old.lines old.history.past fits in
     ran_part (decides work) number (work_share work old.history.group old.lines) old.history.past new.history.past (course_in number work old)
-    (ran.more, ap (λ (run : Course). run.past) (sym ok) ∙ ran.all) (subst (λ (run : Course). IsBeginning new.history.past run.past) (sym ok) (beginning-self new.history.past)) ran
+    (ran.more, ap (λ (course : Course). course.past) (sym ok) ∙ ran.all) (subst (λ (course : Course). IsBeginning new.history.past course.past) (sym ok) (beginning-self new.history.past)) ran
 work_went (Err e) number work old new ok err fits =
     ran_part (decides work) number (work_share work old.history.group old.lines) old.history.past new.history.past (course_in number work old)
     err.began err.part (work-ran work number old.history.group old.lines old.history.past fits)
@@ -94,14 +95,14 @@ room_spends old new b c spent group more is r = rw is (record {
 pub refused_more : (old new : History) (b : Published) (spent : Bool) → overlays new.past ≡ overlays old.past ++ first_rows (pending old.past) ∷ [] → spent ≡ false → IsRoom old b spent → length b.proposals < length (overlays new.past)
 refused_more old new b spent more open_still r = omega (arith, ap length (r.whole open_still), ap length more, length-append (overlays old.past) (first_rows (pending old.past) ∷ []))
 
--- a run that met a full journal left it full
+-- a course that met a full journal left it full
 pub work_full : {E : Type 0} (r : Result Going E) (number : ℕ) (work : Work) (old new : WorldView)
     → IfOk r (λ going. course_in number work old ≡ record { past = new.history.past; stopped = is_full going }) → WorkFits work old.history.group → IsLegal new.history.group new.history.past
     → IfOk r (λ going. is_full going ≡ true → length new.history.past ≡ MAX_ENTRIES)
 work_full (Ok going) number work old new ok fits legal =
     let ran = work-ran work number old.history.group old.lines old.history.past fits in
     let within = legal_within new.history.group new.history.past legal in
-    λ e. let full = ran.full (ap (λ (run : Course). run.stopped) ok ∙ e) in omega (arith, within, full, ap (λ (run : Course). length run.past) ok)
+    λ e. let full = ran.full (ap (λ (course : Course). course.stopped) ok ∙ e) in omega (arith, within, full, ap (λ (course : Course). length course.past) ok)
 work_full (Err e) number work old new ok fits legal = tt
 
 -- what begins a legal journal is legal
@@ -124,19 +125,9 @@ commit_part (Err e) number work judged old new is err =
     } in
     subst (λ (w : Work). IsPartOf old new (course_in number w old)) (sym is) part
 
--- there are no more overlays than entries
-
-overlaid_few : (o : Option (List Row)) (before : List (List Row)) (n : ℕ) → length before ≤ n → length (with_overlay o before) ≤ suc n
-overlaid_few None before n le = omega (arith, le)
-overlaid_few (Some rows) before n le = omega (arith, le, length-append before (rows ∷ []))
-
-pub few_overlays : (past : List Entry) → length (overlays past) ≤ length past
-few_overlays [] = omega arith
-few_overlays (entry ∷ past) = overlaid_few (overlay_in entry.event entry.reply (first_rows (pending past))) (overlays past) (length past) (few_overlays past)
-
--- so there is a number for the next version
+-- there are no more versions than entries, so there is a number for the next one
 pub next_few : (g : Group) (old new : History) (b : Published) (spent : Bool) → overlays new.past ≡ overlays old.past ++ first_rows (pending old.past) ∷ [] → IsLegal g new.past → spent ≡ false → IsRoom old b spent → length b.proposals + 1 < 2 ^ 32
 next_few g old new b spent more legal open_still r =
-    let few = few_overlays new.past in
+    let few : length (overlays new.past) ≤ length new.past = versions_few new.past in
     let within = legal_within g new.past legal in
     omega (arith, few, within, ap length (r.whole open_still), ap length more, length-append (overlays old.past) (first_rows (pending old.past) ∷ []))

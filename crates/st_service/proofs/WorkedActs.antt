@@ -24,7 +24,7 @@ use Rattle.st_wire.specs.declared.line.WireLine.{WireLine}
 use Rattle.st_wire.specs.declared.line.WireLine.TheVariants.{Drop}
 use Rattle.st_control.specs.Basis.{JudgedView}
 use Rattle.st_world.specs.Acts.{ActFits, course_of}
-use Rattle.st_world.specs.Rounds.{Course, run_from}
+use Rattle.st_world.specs.Rounds.{Course, course_from}
 use Rattle.st_world.specs.declared.world.rounds.Going.TheVariants.{On}
 use Rattle.st_board.proofs.Prefixes.{prefix_length, prefix_whole}
 use Rattle.st_service.specs.declared.acts.Acted.TheVariants.{Done, JournalFull}
@@ -60,7 +60,7 @@ turn_shares_with_a_line : (turn_share Whole one_line ≡ 7) × (turn_share Updat
 turn_shares_with_a_line = (refl, refl, refl)
 
 -- the switch's turn has that many entries, and so has each half
-turn_fills_it : (length (part_of Whole small [] (run_from []) a1).past ≡ 4) × (length turned ≡ length decided + turn_share Whole [])
+turn_fills_it : (length (part_of Whole small [] (course_from []) a1).past ≡ 4) × (length turned ≡ length decided + turn_share Whole [])
 turn_fills_it = (refl, refl)
 
 -- with a second switch a round has twice as many
@@ -104,30 +104,30 @@ tests = (refl, refl, refl)
 
 -- a turn of the switch behind the verdict: 5 entries more, of which 3 update it; asked alone for its report it makes 2
 abbrev entries_of : Part → ℕ
-entries_of part = length (part_of part small [] (run_from (past_in decided)) a1).past
+entries_of part = length (part_of part small [] (course_from (past_in decided)) a1).past
 
 parts : (entries_of Whole ≡ 7) × (entries_of Update ≡ 5) × (entries_of Monitor ≡ 4)
 parts = (refl, refl, refl)
 
 -- a check for a ticket that is pending, and none for one that is decided
-checks : (check_course 1 small (past_in proposed) ≡ run_from (past_in checked)) × (check_course 1 small (past_in decided) ≡ run_from (past_in decided))
+checks : (check_course 1 small (past_in proposed) ≡ course_from (past_in checked)) × (check_course 1 small (past_in decided) ≡ course_from (past_in decided))
 checks = (refl, refl)
 
 -- the course of each work
-course_of_a_turn : course_at 0 (Turn Whole a1) small [] (past_in decided) ≡ run_from (past_in turned)
+course_of_a_turn : course_at 0 (Turn Whole a1) small [] (past_in decided) ≡ course_from (past_in turned)
 course_of_a_turn = refl
 
 course_of_a_commit : (judged : Bor JudgedView) → course_at 0 (Commit judged) small [] (past_in proposed) ≡ check_course judged.now.ticket small (past_in proposed)
 course_of_a_commit judged = refl
 
-course_of_an_act : (act : Bor Act) → course_at 4 (OneAct act) small [] (past_in decided) ≡ course_of (app 4) act.now small [] (run_from (past_in decided))
+course_of_an_act : (act : Bor Act) → course_at 4 (OneAct act) small [] (past_in decided) ≡ course_of (app 4) act.now small [] (course_from (past_in decided))
 course_of_an_act act = refl
 
 -- a proposal of pass 4 is its application's, and so is a lock
-course_of_a_proposal : course_of (app 4) (Propose 0 (firmware 3)) small [] (run_from (past_in decided)) ≡ run_from (past_in (then_by decided 4 (Submit (app 4) (firmware 3) ∷ [])))
+course_of_a_proposal : course_of (app 4) (Propose 0 (firmware 3)) small [] (course_from (past_in decided)) ≡ course_from (past_in (then_by decided 4 (Submit (app 4) (firmware 3) ∷ [])))
 course_of_a_proposal = refl
 
-course_of_a_lock : course_of (app 4) (Lock 0 a1 Low) small [] (run_from (past_in decided)) ≡ run_from (past_in (then_by decided 4 (lock_event (app 4) a1 Low ∷ [])))
+course_of_a_lock : course_of (app 4) (Lock 0 a1 Low) small [] (course_from (past_in decided)) ≡ course_from (past_in (then_by decided 4 (lock_event (app 4) a1 Low ∷ [])))
 course_of_a_lock = refl
 
 -- Works
@@ -241,7 +241,7 @@ abbrev Idles : Act → Type 0
 Idles act = ActEnters act small [] 0 decided (0 ∷ []) decided (0 ∷ [])
 
 abbrev course_by : Act → List Entry → Course
-course_by act past = course_of (app 0) act small [] (run_from past)
+course_by act past = course_of (app 0) act small [] (course_from past)
 
 pub not_an_idle_lock : Idles (Lock 0 a1 Low) → ⊥
 not_an_idle_lock e = absurd (omega (arith, ap length (unlisted (course_by (Lock 0 a1 Low)) e.0 decided decided (0 ∷ []) e.1)))

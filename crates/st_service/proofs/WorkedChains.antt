@@ -8,7 +8,7 @@ use Rattle.st_event.specs.declared.journal.TheConstants.{MAX_ENTRIES}
 use Rattle.st_event.specs.declared.reply.Reply.TheVariants.{Sent, Begun, Done, Reported, Taken}
 use Rattle.st_event.specs.Proposals.{deciders}
 use Rattle.st_event.specs.Services.{entry_after}
-use Rattle.st_world.specs.Rounds.{Course, run_from, turn, unsettled}
+use Rattle.st_world.specs.Rounds.{Course, course_from, turn, unsettled}
 use Rattle.st_world.specs.declared.world.rounds.Going.TheVariants.{On, Full}
 use Rattle.st_world.specs.declared.world.rounds.Rounded.TheVariants.{Did, JournalFull}
 use Rattle.st_board.proofs.Prefixes.{prefix_trans, prefix_length, prefix_shorter, prefix_whole}
@@ -98,14 +98,14 @@ turns_go_on (e ∷ es) before after was now t =
     prefix_trans before t.0 after t.3.puts.0 (prefix_trans t.0 t.1 after (tagged 0 t.3.entries, sym t.3.puts.1) (turns_go_on es t.1 after t.2 now t.4))
 
 -- a turn that leaves a front as it was had nothing to enter
-stood_still : (before : List Made) (was now : List ℕ) → Turns Whole small [] 0 (a1 ∷ []) before was before now → (turn small [] (run_from (past_in before)) a1).past ≡ past_in before
+stood_still : (before : List Made) (was now : List ℕ) → Turns Whole small [] 0 (a1 ∷ []) before was before now → (turn small [] (course_from (past_in before)) a1).past ≡ past_in before
 stood_still before was now t =
     let p = prefix_length before t.0 t.3.puts.0 in
     let q = prefix_length t.1 before t.4.0 in
     let n : length t.1 ≡ length t.0 + length (tagged 0 t.3.entries) = ap length t.3.puts.1 ∙ length-append t.0 (tagged 0 t.3.entries) in
     let mid : before ≡ t.0 = prefix_whole before t.0 t.3.puts.0 (omega (arith, p, q, n)) in
     let next : t.1 ≡ before = prefix_whole t.1 before t.4.0 (omega (arith, p, q, n)) in
-    ap (λ (f : List Made). (turn small [] (run_from (past_in f)) a1).past) mid ∙ (ap (λ (run : Course). run.past) t.3.run ∙ ap past_in next)
+    ap (λ (f : List Made). (turn small [] (course_from (past_in f)) a1).past) mid ∙ (ap (λ (course : Course). course.past) t.3.run ∙ ap past_in next)
 
 -- a turn enters something
 pub not_an_empty_turn : (was now : List ℕ) → Turns Whole small [] 0 (a1 ∷ []) decided was decided now → ⊥
@@ -113,7 +113,7 @@ not_an_empty_turn was now t = absurd (omega (arith, ap length (stood_still decid
 
 -- the switch's turn met a full journal
 abbrev MetFull : List Made → List ℕ → List Made → List ℕ → Type 0
-MetFull before was after now = (seen : List Made) × Enters (λ past. part_of Whole small [] (run_from past) a1) Full 0 seen before was after now
+MetFull before was after now = (seen : List Made) × Enters (λ past. part_of Whole small [] (course_from past) a1) Full 0 seen before was after now
 
 -- as many as the journal had room for: then it is full
 pub turned_on : Turned On Whole small [] 0 (a1 ∷ []) decided (0 ∷ []) turned (0 ∷ 2 ∷ 3 ∷ 4 ∷ 5 ∷ 6 ∷ [])

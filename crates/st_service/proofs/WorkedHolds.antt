@@ -9,7 +9,7 @@ use Rattle.st_event.specs.declared.event.Event.TheVariants.{Check, Unlock}
 use Rattle.st_event.specs.declared.journal.Entry.{Entry}
 use Rattle.st_event.specs.declared.journal.TheConstants.{MAX_ENTRIES}
 use Rattle.st_board.specs.Published.{Published}
-use Rattle.st_world.specs.Rounds.{Course, run_from, enter_all}
+use Rattle.st_world.specs.Rounds.{Course, course_from, enter_all}
 use Rattle.st_world.specs.declared.world.rounds.Going.TheVariants.{On, Full}
 use Rattle.st_board.proofs.Prefixes.{prefix_self}
 use Rattle.st_service.specs.Kept.{AllWithin, Grows, Kept}
@@ -63,7 +63,7 @@ not_forgotten p = absurd (cc (p.2))
 
 -- an unlock and a check, wherever the journal stands
 abbrev course : List Entry → Course
-course past = enter_all small (run_from past) (Unlock (app 0) a1 Low ∷ Check ∷ [])
+course past = enter_all small (course_from past) (Unlock (app 0) a1 Low ∷ Check ∷ [])
 
 pub enters_two : Enters course On 0 mid seen (0 ∷ []) after (0 ∷ 2 ∷ 3 ∷ [])
 enters_two = record { entries = both; puts = puts_two; run = refl; full = λ e. absurd (cc e) }

@@ -7,7 +7,7 @@ use Rattle.st_event.specs.declared.act.Act.TheVariants.{Propose, Await, Settle, 
 use Rattle.st_event.specs.declared.journal.TheConstants.{MAX_ENTRIES}
 use Rattle.st_wire.specs.declared.line.WireLine.{WireLine}
 use Rattle.st_world.specs.Acts.{ActFits, course_of, group_number, seen_at}
-use Rattle.st_world.specs.Rounds.{run_from}
+use Rattle.st_world.specs.Rounds.{course_from}
 use Rattle.st_world.specs.declared.world.rounds.Going.TheVariants.{On}
 use Rattle.st_service.specs.declared.acts.Acted.{Acted}
 use Rattle.st_service.specs.declared.acts.Acted.TheVariants.{Done, JournalFull}
@@ -25,7 +25,7 @@ HasRounds _ = Unit {0}
 
 -- an act of one hold: its course, as consecutive entries
 abbrev pub EntersAct : Act → Group → List WireLine → ℕ → List Made → List ℕ → List Made → List ℕ → Type 0
-EntersAct act g lines number before was after now = (mid : List Made) × Enters (λ past. course_of (record { 0 = number }) act g lines (run_from past)) On number mid before was after now
+EntersAct act g lines number before was after now = (mid : List Made) × Enters (λ past. course_of (record { 0 = number }) act g lines (course_from past)) On number mid before was after now
 
 -- the entries of an act that is done
 abbrev pub ActEnters : Act → Group → List WireLine → ℕ → List Made → List ℕ → List Made → List ℕ → Type 0

@@ -5,7 +5,7 @@ use Rattle.st_net.specs.declared.entity.Entity.{Entity}
 use Rattle.st_net.specs.Groups.{Group}
 use Rattle.st_event.specs.declared.journal.TheConstants.{MAX_ENTRIES}
 use Rattle.st_wire.specs.declared.line.WireLine.{WireLine}
-use Rattle.st_world.specs.Rounds.{run_from, unsettled}
+use Rattle.st_world.specs.Rounds.{course_from, unsettled}
 use Rattle.st_world.specs.declared.world.rounds.Going.{Going}
 use Rattle.st_world.specs.declared.world.rounds.Going.TheVariants.{On, Full}
 use Rattle.st_world.specs.declared.world.rounds.Rounded.{Rounded}
@@ -20,7 +20,7 @@ use Rattle.st_service.specs.Works.{part_of}
 abbrev pub Turns : Part → Group → List WireLine → ℕ → List Entity → List Made → List ℕ → List Made → List ℕ → Type 0
 Turns part g lines number [] before was after now = IsPrefix before after × (now ≡ was)
 Turns part g lines number (e ∷ es) before was after now =
-    (mid : List Made) × (next : List Made) × (got : List ℕ) × Enters (λ past. part_of part g lines (run_from past) e) On number mid before was next got × Turns part g lines number es next got after now
+    (mid : List Made) × (next : List Made) × (got : List ℕ) × Enters (λ past. part_of part g lines (course_from past) e) On number mid before was next got × Turns part g lines number es next got after now
 
 -- the turns of a beginning of these entities, of the last of which as much as the journal had room for
 pub record ToFull (part : Part) (g : Group) (lines : List WireLine) (number : ℕ) (es : List Entity) (before : List Made) (was : List ℕ) (after : List Made) (now : List ℕ) : Type 0 where
@@ -31,7 +31,7 @@ pub record ToFull (part : Part) (g : Group) (lines : List WireLine) (number : �
   pub got : List ℕ
   pub turns : Turns part g lines number done before was mid got
   pub seen : List Made
-  pub enters : Enters (λ past. part_of part g lines (run_from past) last) Full number seen mid got after now
+  pub enters : Enters (λ past. part_of part g lines (course_from past) last) Full number seen mid got after now
 
 -- all of them, or as many as the journal had room for
 abbrev pub Turned : Going → Part → Group → List WireLine → ℕ → List Entity → List Made → List ℕ → List Made → List ℕ → Type 0

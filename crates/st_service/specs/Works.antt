@@ -10,7 +10,7 @@ use Rattle.st_event.specs.Proposals.{deciders, proposals}
 use Rattle.st_wire.specs.declared.line.WireLine.{WireLine}
 use Rattle.st_world.specs.Acts.{ActFits, course_of}
 use Rattle.st_world.specs.Commits.{MayCommit}
-use Rattle.st_world.specs.Rounds.{Course, run_from, enter, update_turn, poll, turn}
+use Rattle.st_world.specs.Rounds.{Course, course_from, enter, update_turn, poll, turn}
 use Rattle.st_service.specs.declared.work.Part.{Part}
 use Rattle.st_service.specs.declared.work.Part.TheVariants.{Whole, Update, Monitor}
 use Rattle.st_service.specs.declared.work.Work.{Work}
@@ -34,20 +34,20 @@ is_decided ticket past = nat_le ticket (length (deciders past))
 
 -- an entity's turn, or a half of it
 abbrev pub part_of : Part → Group → List WireLine → Course → Entity → Course
-part_of Whole g lines run e = turn g lines run e
-part_of Update g lines run e = update_turn g lines run e
-part_of Monitor g lines run e = poll g lines run e
+part_of Whole g lines course e = turn g lines course e
+part_of Update g lines course e = update_turn g lines course e
+part_of Monitor g lines course e = poll g lines course e
 
 -- a check for a ticket, unless it is decided
 abbrev pub check_course : ℕ → Group → List Entry → Course
-check_course ticket g past = if is_decided ticket past then run_from past else enter g (run_from past) Check
+check_course ticket g past = if is_decided ticket past then course_from past else enter g (course_from past) Check
 
 -- the course of a work of the pass of this number, where this is the journal: an act's own course; the check that a ticket was judged for; an
 -- entity's turn
 abbrev pub course_at : ℕ → Work → Group → List WireLine → List Entry → Course
-course_at number (OneAct act) g lines past = course_of (record { 0 = number }) act.now g lines (run_from past)
+course_at number (OneAct act) g lines past = course_of (record { 0 = number }) act.now g lines (course_from past)
 course_at number (Commit judged) g lines past = check_course judged.now.ticket g past
-course_at number (Turn part entity) g lines past = part_of part g lines (run_from past) entity
+course_at number (Turn part entity) g lines past = part_of part g lines (course_from past) entity
 
 -- an act that is made under one hold
 abbrev pub is_of_one_hold : Act → Bool

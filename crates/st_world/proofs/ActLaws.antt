@@ -16,78 +16,78 @@ use Rattle.st_world.specs.declared.world.rounds.Going.TheVariants.{On, Full}
 use Rattle.st_world.specs.declared.world.rounds.Rounded.{Rounded}
 use Rattle.st_world.specs.declared.world.rounds.Rounded.TheVariants.{Did, JournalFull}
 use Rattle.st_world.specs.World.{WorldView, IsBeginning}
-use Rattle.st_world.specs.Rounds.{Course, run_from, run_at, enter, turns, unsettled, round, Rounds, Goes, HasSamePlant, IsPartOf}
+use Rattle.st_world.specs.Rounds.{Course, course_from, course_at, enter, turns, unsettled, round, Rounds, Goes, HasSamePlant, IsPartOf}
 use Rattle.st_world.specs.Acts.{checked_while, is_something, is_none_left, proposed, rounds_done, with_room}
 use Rattle.st_world.proofs.RunLaws.{beginning-self, beginning-more, enter-grows, enter-stopped, turns-grows, turns-stopped, round-grows}
 use Rattle.st_world.proofs.RoundLaws.{IsOnWay, part_goes, part_parts, stops_there}
 
--- at the start all of a run is left
+-- at the start all of a course is left
 pub way_start : (w : WorldView) (whole : Course) → IsOnWay w w whole whole
 way_start w whole = record { began = beginning-self w.history.past; plant = record { group = refl; lines = refl }; ends = refl }
 
--- where nothing is left the world has gone through all of the run
-goes_none : (old now : WorldView) (whole left : Course) → IsOnWay old now whole left → left ≡ run_from now.history.past → Goes now whole On
+-- where nothing is left the world has gone through all of the course
+goes_none : (old now : WorldView) (whole left : Course) → IsOnWay old now whole left → left ≡ course_from now.history.past → Goes now whole On
 goes_none old now whole left way none = sym none ∙ way.ends
 
--- of two runs that a test chooses between, each goes on from the same beginning
+-- of two courses that a test chooses between, each goes on from the same beginning
 by_test-grows : (past : List Entry) (b : Bool) (first second : Course) → IsBeginning past first.past → IsBeginning past second.past → IsBeginning past (if b then first else second).past
 by_test-grows past true first second one two = one
 by_test-grows past false first second one two = two
 
 -- proposals
 
-pub with_room-grows : (g : Group) (run : Course) → IsBeginning run.past (with_room g run).past
-with_room-grows g run = by_test-grows run.past (length (pending run.past) == MAX_PENDING) (enter g run Check) run (enter-grows g run Check) (beginning-self run.past)
+pub with_room-grows : (g : Group) (course : Course) → IsBeginning course.past (with_room g course).past
+with_room-grows g course = by_test-grows course.past (length (pending course.past) == MAX_PENDING) (enter g course Check) course (enter-grows g course Check) (beginning-self course.past)
 
-pub proposed-grows : (g : Group) (run : Course) (app : AppId) (rows : List Row) → IsBeginning run.past (proposed g run app rows).past
-proposed-grows g run app rows =
-    let room = with_room g run in
-    beginning-more run.past room.past (proposed g run app rows).past (with_room-grows g run) (enter-grows g room (Submit app rows))
+pub proposed-grows : (g : Group) (course : Course) (app : AppId) (rows : List Row) → IsBeginning course.past (proposed g course app rows).past
+proposed-grows g course app rows =
+    let room = with_room g course in
+    beginning-more course.past room.past (proposed g course app rows).past (with_room-grows g course) (enter-grows g room (Submit app rows))
 
 -- the proposal that follows the check that makes room
 abbrev pub submitting : AppId → List Row → Group → List WireLine → Course → Course
-submitting app rows g lines run = enter g run (Submit app rows)
+submitting app rows g lines course = enter g course (Submit app rows)
 
 -- checks
 
 -- where what is pending does not pass no check is made
-while_none : (g : Group) (waits : List Proposal → Bool) (n : ℕ) (run : Course) → waits (pending run.past) ≡ false → checked_while g waits n run ≡ run
+while_none : (g : Group) (waits : List Proposal → Bool) (n : ℕ) (course : Course) → waits (pending course.past) ≡ false → checked_while g waits n course ≡ course
 unfolding checked_while
-while_none g waits zero run none = refl
-while_none g waits (suc n) run none = rw none refl
+while_none g waits zero course none = refl
+while_none g waits (suc n) course none = rw none refl
 
 -- else one check is made first
-while_one : (g : Group) (waits : List Proposal → Bool) (n : ℕ) (run : Course) → waits (pending run.past) ≡ true → checked_while g waits (suc n) run ≡ checked_while g waits n (enter g run Check)
+while_one : (g : Group) (waits : List Proposal → Bool) (n : ℕ) (course : Course) → waits (pending course.past) ≡ true → checked_while g waits (suc n) course ≡ checked_while g waits n (enter g course Check)
 unfolding checked_while
-while_one g waits n run some = rw some refl
+while_one g waits n course some = rw some refl
 
-while_zero : (g : Group) (waits : List Proposal → Bool) (run : Course) → checked_while g waits 0 run ≡ run
+while_zero : (g : Group) (waits : List Proposal → Bool) (course : Course) → checked_while g waits 0 course ≡ course
 unfolding checked_while
-while_zero g waits run = refl
+while_zero g waits course = refl
 
-by_waiting : (g : Group) (waits : List Proposal → Bool) (n : ℕ) (run : Course) (b : Bool) → checked_while g waits n (enter g run Check) ≡ run → (if b then checked_while g waits n (enter g run Check) else run) ≡ run
-by_waiting g waits n run true rest = rest
-by_waiting g waits n run false rest = refl
+by_waiting : (g : Group) (waits : List Proposal → Bool) (n : ℕ) (course : Course) (b : Bool) → checked_while g waits n (enter g course Check) ≡ course → (if b then checked_while g waits n (enter g course Check) else course) ≡ course
+by_waiting g waits n course true rest = rest
+by_waiting g waits n course false rest = refl
 
--- a run that has stopped stays as it is
-pub while-stopped : (g : Group) (waits : List Proposal → Bool) (n : ℕ) (run : Course) → run.stopped ≡ true → checked_while g waits n run ≡ run
+-- a course that has stopped stays as it is
+pub while-stopped : (g : Group) (waits : List Proposal → Bool) (n : ℕ) (course : Course) → course.stopped ≡ true → checked_while g waits n course ≡ course
 unfolding checked_while
-while-stopped g waits zero run stopped = refl
-while-stopped g waits (suc n) run stopped =
-    by_waiting g waits n run (waits (pending run.past)) (ap (checked_while g waits n) (enter-stopped g run Check stopped) ∙ while-stopped g waits n run stopped)
+while-stopped g waits zero course stopped = refl
+while-stopped g waits (suc n) course stopped =
+    by_waiting g waits n course (waits (pending course.past)) (ap (checked_while g waits n) (enter-stopped g course Check stopped) ∙ while-stopped g waits n course stopped)
 
-pub while-grows : (g : Group) (waits : List Proposal → Bool) (n : ℕ) (run : Course) → IsBeginning run.past (checked_while g waits n run).past
+pub while-grows : (g : Group) (waits : List Proposal → Bool) (n : ℕ) (course : Course) → IsBeginning course.past (checked_while g waits n course).past
 unfolding checked_while
-while-grows g waits zero run = beginning-self run.past
-while-grows g waits (suc n) run =
-    let next = enter g run Check in
-    by_test-grows run.past (waits (pending run.past)) (checked_while g waits n next) run
-    (beginning-more run.past next.past (checked_while g waits n next).past (enter-grows g run Check) (while-grows g waits n next))
-    (beginning-self run.past)
+while-grows g waits zero course = beginning-self course.past
+while-grows g waits (suc n) course =
+    let next = enter g course Check in
+    by_test-grows course.past (waits (pending course.past)) (checked_while g waits n next) course
+    (beginning-more course.past next.past (checked_while g waits n next).past (enter-grows g course Check) (while-grows g waits n next))
+    (beginning-self course.past)
 
 -- so many checks, from where a world stands
 abbrev pub checks_from : (List Proposal → Bool) → ℕ → WorldView → Course
-checks_from waits n w = checked_while w.history.group waits n (run_from w.history.past)
+checks_from waits n w = checked_while w.history.group waits n (course_from w.history.past)
 
 -- on the way of all checks, the others are left once so many were made
 abbrev pub IsChecking : (List Proposal → Bool) → WorldView → WorldView → ℕ → Type 0
@@ -100,37 +100,37 @@ checking_starts waits w = way_start w (checks_from waits MAX_PENDING w)
 -- where nothing passes any more all checks were made
 pub checks_end : (waits : List Proposal → Bool) (old now : WorldView) (made : ℕ) → waits (pending now.history.past) ≡ false → IsChecking waits old now made → Goes now (checks_from waits MAX_PENDING old) On
 checks_end waits old now made none way =
-    goes_none old now (checks_from waits MAX_PENDING old) (checks_from waits (MAX_PENDING - made) now) way (while_none now.history.group waits (MAX_PENDING - made) (run_from now.history.past) none)
+    goes_none old now (checks_from waits MAX_PENDING old) (checks_from waits (MAX_PENDING - made) now) way (while_none now.history.group waits (MAX_PENDING - made) (course_from now.history.past) none)
 
 -- and where so many were made none is left
 pub checks_all : (waits : List Proposal → Bool) (old now : WorldView) (made : ℕ) → MAX_PENDING ≤ made → IsChecking waits old now made → Goes now (checks_from waits MAX_PENDING old) On
 checks_all waits old now made all way =
     let none_left : MAX_PENDING - made ≡ 0 = omega arith in
     goes_none old now (checks_from waits MAX_PENDING old) (checks_from waits (MAX_PENDING - made) now) way
-    (ap (λ (n : ℕ). checks_from waits n now) none_left ∙ while_zero now.history.group waits (run_from now.history.past))
+    (ap (λ (n : ℕ). checks_from waits n now) none_left ∙ while_zero now.history.group waits (course_from now.history.past))
 
 -- the check that is made now, and those behind it
 abbrev check_now : WorldView → Course
-check_now w = enter w.history.group (run_from w.history.past) Check
+check_now w = enter w.history.group (course_from w.history.past) Check
 
 abbrev checks_behind : (List Proposal → Bool) → ℕ → Group → List WireLine → Course → Course
-checks_behind waits made g lines run = checked_while g waits (MAX_PENDING - (made + 1)) run
+checks_behind waits made g lines course = checked_while g waits (MAX_PENDING - (made + 1)) course
 
 first_check : (waits : List Proposal → Bool) (now : WorldView) (made : ℕ) → made < MAX_PENDING → waits (pending now.history.past) ≡ true → checks_from waits (MAX_PENDING - made) now ≡ checks_behind waits made now.history.group now.lines (check_now now)
 first_check waits now made few some =
     let fewer : MAX_PENDING - made ≡ suc (MAX_PENDING - (made + 1)) = omega arith in
-    ap (λ (n : ℕ). checks_from waits n now) fewer ∙ while_one now.history.group waits (MAX_PENDING - (made + 1)) (run_from now.history.past) some
+    ap (λ (n : ℕ). checks_from waits n now) fewer ∙ while_one now.history.group waits (MAX_PENDING - (made + 1)) (course_from now.history.past) some
 
 -- after one check more the others are left
 pub check_goes : (waits : List Proposal → Bool) (old now next : WorldView) (made : ℕ) (going : Going) → IsChecking waits old now made → made < MAX_PENDING → waits (pending now.history.past) ≡ true → Goes next (check_now now) going → going ≡ On → HasSamePlant now next → IsChecking waits old next (made + 1)
 check_goes waits old now next made going way few some =
     part_goes (checks_behind waits made) old now next (checks_from waits MAX_PENDING old) (checks_from waits (MAX_PENDING - made) now) (check_now now) going way
-    (first_check waits now made few some) (enter-grows now.history.group (run_from now.history.past) Check)
+    (first_check waits now made few some) (enter-grows now.history.group (course_from now.history.past) Check)
 
 -- where a check meets a full journal no other follows
 pub check_stops : (waits : List Proposal → Bool) (old now next : WorldView) (made : ℕ) (going : Going) → IsChecking waits old now made → made < MAX_PENDING → waits (pending now.history.past) ≡ true → Goes next (check_now now) going → going ≡ Full → Goes next (checks_from waits MAX_PENDING old) Full
 check_stops waits old now next made going way few some is full =
-    stops_there (checks_behind waits made now.history.group now.lines) next (check_now now) going is full (while-stopped now.history.group waits (MAX_PENDING - (made + 1)) (run_at Full next) refl)
+    stops_there (checks_behind waits made now.history.group now.lines) next (check_now now) going is full (while-stopped now.history.group waits (MAX_PENDING - (made + 1)) (course_at Full next) refl)
     ∙ sym (first_check waits now made few some)
     ∙ way.ends
 
@@ -150,56 +150,56 @@ something_waits (p ∷ ps) some = refl
 
 -- rounds
 
-none_settles : (g : Group) (lines : List WireLine) (n : ℕ) (run : Course) (b : Bool) → is_none_left (unsettled g run.past) ≡ b → b ≡ true → rounds_done g lines n run ≡ run
+none_settles : (g : Group) (lines : List WireLine) (n : ℕ) (course : Course) (b : Bool) → is_none_left (unsettled g course.past) ≡ b → b ≡ true → rounds_done g lines n course ≡ course
 unfolding rounds_done
-none_settles g lines zero run b is none = refl
-none_settles g lines (suc n) run b is none = rw (is, none) refl
+none_settles g lines zero course b is none = refl
+none_settles g lines (suc n) course b is none = rw (is, none) refl
 
 -- where every entity is settled no round is done
-rounds_none : (g : Group) (lines : List WireLine) (n : ℕ) (run : Course) → length (unsettled g run.past) ≡ 0 → rounds_done g lines n run ≡ run
-rounds_none g lines n run none = none_settles g lines n run (is_none_left (unsettled g run.past)) refl (no_entity (unsettled g run.past) none)
+rounds_none : (g : Group) (lines : List WireLine) (n : ℕ) (course : Course) → length (unsettled g course.past) ≡ 0 → rounds_done g lines n course ≡ course
+rounds_none g lines n course none = none_settles g lines n course (is_none_left (unsettled g course.past)) refl (no_entity (unsettled g course.past) none)
   where
     no_entity : (es : List Entity) → length es ≡ 0 → is_none_left es ≡ true
     no_entity [] none = refl
     no_entity (e ∷ es) none = absurd (omega arith)
 
-rounds_zero : (g : Group) (lines : List WireLine) (run : Course) → rounds_done g lines 0 run ≡ run
+rounds_zero : (g : Group) (lines : List WireLine) (course : Course) → rounds_done g lines 0 course ≡ course
 unfolding rounds_done
-rounds_zero g lines run = refl
+rounds_zero g lines course = refl
 
-by_left : (g : Group) (lines : List WireLine) (n : ℕ) (run : Course) (b : Bool) → rounds_done g lines n (turns g lines run (unsettled g run.past)) ≡ run → (if b then run else rounds_done g lines n (turns g lines run (unsettled g run.past))) ≡ run
-by_left g lines n run true rest = refl
-by_left g lines n run false rest = rest
+by_left : (g : Group) (lines : List WireLine) (n : ℕ) (course : Course) (b : Bool) → rounds_done g lines n (turns g lines course (unsettled g course.past)) ≡ course → (if b then course else rounds_done g lines n (turns g lines course (unsettled g course.past))) ≡ course
+by_left g lines n course true rest = refl
+by_left g lines n course false rest = rest
 
--- a run that has stopped stays as it is
-pub rounds-stopped : (g : Group) (lines : List WireLine) (n : ℕ) (run : Course) → run.stopped ≡ true → rounds_done g lines n run ≡ run
+-- a course that has stopped stays as it is
+pub rounds-stopped : (g : Group) (lines : List WireLine) (n : ℕ) (course : Course) → course.stopped ≡ true → rounds_done g lines n course ≡ course
 unfolding rounds_done
-rounds-stopped g lines zero run stopped = refl
-rounds-stopped g lines (suc n) run stopped =
-    by_left g lines n run (is_none_left (unsettled g run.past)) (ap (rounds_done g lines n) (turns-stopped g lines run (unsettled g run.past) stopped) ∙ rounds-stopped g lines n run stopped)
+rounds-stopped g lines zero course stopped = refl
+rounds-stopped g lines (suc n) course stopped =
+    by_left g lines n course (is_none_left (unsettled g course.past)) (ap (rounds_done g lines n) (turns-stopped g lines course (unsettled g course.past) stopped) ∙ rounds-stopped g lines n course stopped)
 
-pub rounds-grows : (g : Group) (lines : List WireLine) (n : ℕ) (run : Course) → IsBeginning run.past (rounds_done g lines n run).past
+pub rounds-grows : (g : Group) (lines : List WireLine) (n : ℕ) (course : Course) → IsBeginning course.past (rounds_done g lines n course).past
 unfolding rounds_done
-rounds-grows g lines zero run = beginning-self run.past
-rounds-grows g lines (suc n) run =
-    let es = unsettled g run.past in
-    let next = turns g lines run es in
-    by_test-grows run.past (is_none_left es) run (rounds_done g lines n next)
-    (beginning-self run.past)
-    (beginning-more run.past next.past (rounds_done g lines n next).past (turns-grows g lines run es) (rounds-grows g lines n next))
+rounds-grows g lines zero course = beginning-self course.past
+rounds-grows g lines (suc n) course =
+    let es = unsettled g course.past in
+    let next = turns g lines course es in
+    by_test-grows course.past (is_none_left es) course (rounds_done g lines n next)
+    (beginning-self course.past)
+    (beginning-more course.past next.past (rounds_done g lines n next).past (turns-grows g lines course es) (rounds-grows g lines n next))
 
-by_entities : (g : Group) (lines : List WireLine) (n : ℕ) (run : Course) (es : List Entity) → unsettled g run.past ≡ es → rounds_done g lines (suc n) run ≡ rounds_done g lines n (turns g lines run es)
+by_entities : (g : Group) (lines : List WireLine) (n : ℕ) (course : Course) (es : List Entity) → unsettled g course.past ≡ es → rounds_done g lines (suc n) course ≡ rounds_done g lines n (turns g lines course es)
 unfolding rounds_done
-by_entities g lines n run [] none = rw none (sym (none_settles g lines n run true (ap is_none_left none) refl))
-by_entities g lines n run (e ∷ es) some = rw some refl
+by_entities g lines n course [] none = rw none (sym (none_settles g lines n course true (ap is_none_left none) refl))
+by_entities g lines n course (e ∷ es) some = rw some refl
 
 -- a round more is done, and it changes nothing where every entity is settled
-rounds_one : (g : Group) (lines : List WireLine) (n : ℕ) (past : List Entry) → rounds_done g lines (suc n) (run_from past) ≡ rounds_done g lines n (round g lines past)
-rounds_one g lines n past = by_entities g lines n (run_from past) (unsettled g past) refl
+rounds_one : (g : Group) (lines : List WireLine) (n : ℕ) (past : List Entry) → rounds_done g lines (suc n) (course_from past) ≡ rounds_done g lines n (round g lines past)
+rounds_one g lines n past = by_entities g lines n (course_from past) (unsettled g past) refl
 
 -- so many rounds, from where a world stands
 abbrev pub rounds_from : ℕ → WorldView → Course
-rounds_from n w = rounds_done w.history.group w.lines n (run_from w.history.past)
+rounds_from n w = rounds_done w.history.group w.lines n (course_from w.history.past)
 
 -- on the way of all rounds, the others are left once so many were done
 abbrev pub IsSettling : ℕ → WorldView → WorldView → ℕ → Type 0
@@ -214,21 +214,21 @@ settling_starts rounds w =
 -- where every entity is settled the others change nothing
 settles_none : (rounds : ℕ) (old now : WorldView) (made : ℕ) → length (unsettled now.history.group now.history.past) ≡ 0 → IsSettling rounds old now made → Goes now (rounds_from rounds old) On
 settles_none rounds old now made none way =
-    goes_none old now (rounds_from rounds old) (rounds_from (rounds - made) now) way (rounds_none now.history.group now.lines (rounds - made) (run_from now.history.past) none)
+    goes_none old now (rounds_from rounds old) (rounds_from (rounds - made) now) way (rounds_none now.history.group now.lines (rounds - made) (course_from now.history.past) none)
 
 -- and where so many were done none is left
 pub rounds_all : (rounds : ℕ) (old now : WorldView) (made : ℕ) → rounds ≤ made → IsSettling rounds old now made → Goes now (rounds_from rounds old) On
 rounds_all rounds old now made all way =
     let none_left : rounds - made ≡ 0 = omega arith in
     goes_none old now (rounds_from rounds old) (rounds_from (rounds - made) now) way
-    (ap (λ (n : ℕ). rounds_from n now) none_left ∙ rounds_zero now.history.group now.lines (run_from now.history.past))
+    (ap (λ (n : ℕ). rounds_from n now) none_left ∙ rounds_zero now.history.group now.lines (course_from now.history.past))
 
 -- the round that is done now, and those behind it
 abbrev round_now : WorldView → Course
 round_now w = round w.history.group w.lines w.history.past
 
 abbrev rounds_behind : ℕ → ℕ → Group → List WireLine → Course → Course
-rounds_behind rounds made g lines run = rounds_done g lines (rounds - (made + 1)) run
+rounds_behind rounds made g lines course = rounds_done g lines (rounds - (made + 1)) course
 
 first_round : (rounds : ℕ) (now : WorldView) (made : ℕ) → made < rounds → rounds_from (rounds - made) now ≡ rounds_behind rounds made now.history.group now.lines (round_now now)
 first_round rounds now made few =
@@ -252,7 +252,7 @@ round_settles rounds old now next made answer count way few is none does plant =
 pub round_stops : (rounds : ℕ) (old now next : WorldView) (made : ℕ) (answer : Rounded) (entries : ℕ) → IsSettling rounds old now made → made < rounds → answer ≡ JournalFull entries → Rounds now next answer → Goes next (rounds_from rounds old) Full
 round_stops rounds old now next made answer entries way few is does =
     let stopped : Rounds now next (JournalFull entries) = subst (λ (a : Rounded). Rounds now next a) is does in
-    stops_there (rounds_behind rounds made now.history.group now.lines) next (round_now now) Full (sym stopped.0) refl (rounds-stopped now.history.group now.lines (rounds - (made + 1)) (run_at Full next) refl)
+    stops_there (rounds_behind rounds made now.history.group now.lines) next (round_now now) Full (sym stopped.0) refl (rounds-stopped now.history.group now.lines (rounds - (made + 1)) (course_at Full next) refl)
     ∙ sym (first_round rounds now made few)
     ∙ way.ends
 

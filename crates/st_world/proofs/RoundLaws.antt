@@ -1,4 +1,4 @@
--- Steps of a world as the run of their events, and what is left of a run from where a world stands.
+-- Steps of a world as the course of their events, and what is left of a course from where a world stands.
 use Rattle.std.proofs.Common.{◌≡◌, ℕ, ◌+◌, ◌^◌, ◌<◌, List, ◌∷◌, length, map, drop, get_or, refl, ap, sym, ◌∙◌, subst, add-one, drop-cons, arith}
 use Rattle.std.specs.Prelude.{false, not, nat_lt, All, Result, Ok, Err, OnErr}
 use Rattle.std.specs.List.{filter}
@@ -36,13 +36,13 @@ use Rattle.st_world.specs.declared.world.Stepped.TheVariants.{Did, JournalFull}
 use Rattle.st_world.specs.declared.world.rounds.Going.{Going}
 use Rattle.st_world.specs.declared.world.rounds.Going.TheVariants.{On, Full}
 use Rattle.st_world.specs.World.{WorldView, IsBeginning, Steps}
-use Rattle.st_world.specs.Rounds.{Course, run_from, run_at, enter, enter_all, enter_told, arrivals_of, newest_arrivals, poll, turn, turns, round, unsettled, HasSamePlant, IsPartOf, SettlesSent}
+use Rattle.st_world.specs.Rounds.{Course, course_from, course_at, enter, enter_all, enter_told, follow_ups_of, follow_ups, poll, turn, turns, round, unsettled, HasSamePlant, IsPartOf, SettlesSent}
 use Rattle.st_world.proofs.RunLaws.{entered, beginning-self, beginning-more, enter-grows, enter_all-grows, turn-grows, turns-grows, enter_all-stopped, turns-stopped, unsettled_fit}
 use Rattle.st_world.proofs.SettleLaws.{round_made}
 
--- what is left of a run
+-- what is left of a course
 
--- a world that was reached on the way of a run: what is left, from where the world stands, ends as all of the run
+-- a world that was reached on the way of a course: what is left, from where the world stands, ends as all of the course
 pub record IsOnWay (old now : WorldView) (whole left : Course) : Type 0 where
   pub began : IsBeginning old.history.past now.history.past
   pub plant : HasSamePlant old now
@@ -61,16 +61,16 @@ way_more old now next whole left less way more = record {
 }
 
 -- a first part was entered whole: what follows it is left
-pub way_from : (rest : Group → List WireLine → Course → Course) (old now : WorldView) (first : Course) (going : Going) → IsBeginning old.history.past first.past → run_at going now ≡ first → going ≡ On → HasSamePlant old now → IsOnWay old now (rest old.history.group old.lines first) (rest now.history.group now.lines (run_from now.history.past))
+pub way_from : (rest : Group → List WireLine → Course → Course) (old now : WorldView) (first : Course) (going : Going) → IsBeginning old.history.past first.past → course_at going now ≡ first → going ≡ On → HasSamePlant old now → IsOnWay old now (rest old.history.group old.lines first) (rest now.history.group now.lines (course_from now.history.past))
 way_from rest old now first going grows is on plant = record {
-  began = subst (λ (run : Course). IsBeginning old.history.past run.past) (sym is) grows;
+  began = subst (λ (course : Course). IsBeginning old.history.past course.past) (sym is) grows;
   plant = plant;
-  ends = ap (λ (g : Group). rest g now.lines (run_from now.history.past)) plant.group ∙ ap (λ (lines : List WireLine). rest old.history.group lines (run_from now.history.past)) plant.lines ∙ ap (λ (at : Going). rest old.history.group old.lines (run_at at now)) (sym on) ∙ ap (rest old.history.group old.lines) is;
+  ends = ap (λ (g : Group). rest g now.lines (course_from now.history.past)) plant.group ∙ ap (λ (lines : List WireLine). rest old.history.group lines (course_from now.history.past)) plant.lines ∙ ap (λ (at : Going). rest old.history.group old.lines (course_at at now)) (sym on) ∙ ap (rest old.history.group old.lines) is;
 }
 
 -- a part of what is left makes a part of all
 part_of_whole : (old now new : WorldView) (whole left : Course) → IsOnWay old now whole left → IsPartOf now new left → IsPartOf old new whole
-part_of_whole old now new whole left way p = record { began = beginning-more old.history.past now.history.past new.history.past way.began p.began; part = subst (λ (run : Course). IsBeginning new.history.past run.past) way.ends p.part }
+part_of_whole old now new whole left way p = record { began = beginning-more old.history.past now.history.past new.history.past way.began p.began; part = subst (λ (course : Course). IsBeginning new.history.past course.past) way.ends p.part }
 
 -- and where the last call met an `Err`
 pub part_whole : {T E : Type 0} (r : Result T E) (old now new : WorldView) (whole left : Course) → IsOnWay old now whole left → OnErr r (IsPartOf now new left) → OnErr r (IsPartOf old new whole)
@@ -81,53 +81,53 @@ err_of : {T E P : Type 0} (r : Result T E) → P → OnErr r P
 err_of (Ok x) holds = tt
 err_of (Err e) holds = holds
 
--- a part of what a run begins with is a part of the run
+-- a part of what a course begins with is a part of the course
 pub part_more : {T E : Type 0} (r : Result T E) (old new : WorldView) (first whole : Course) → IsBeginning first.past whole.past → IsPartOf old new first → OnErr r (IsPartOf old new whole)
 part_more r old new first whole grows part = err_of r (record { began = part.began; part = beginning-more new.history.past first.past whole.past part.part grows })
 
--- where nothing was entered, no part of the run was
-pub none_entered : {T E : Type 0} (r : Result T E) (old new : WorldView) (run : Course) → IsBeginning old.history.past run.past → new.history ≡ old.history → OnErr r (IsPartOf old new run)
-none_entered r old new run grows same =
+-- where nothing was entered, no part of the course was
+pub none_entered : {T E : Type 0} (r : Result T E) (old new : WorldView) (course : Course) → IsBeginning old.history.past course.past → new.history ≡ old.history → OnErr r (IsPartOf old new course)
+none_entered r old new course grows same =
     let stands : old.history.past ≡ new.history.past = ap (λ (h : History). h.past) (sym same) in
-    err_of r (record { began = subst (λ (past : List Entry). IsBeginning old.history.past past) stands (beginning-self old.history.past); part = subst (λ (past : List Entry). IsBeginning past run.past) stands grows })
+    err_of r (record { began = subst (λ (past : List Entry). IsBeginning old.history.past past) stands (beginning-self old.history.past); part = subst (λ (past : List Entry). IsBeginning past course.past) stands grows })
 
 -- one step
 
 -- where there is room, a step enters the event with the reply that is called for
-enters_next : (old new : History) (event : Event) (answer : Reply) → Steps old new event (Did answer) → run_from new.past ≡ enter old.group (run_from old.past) event
+enters_next : (old new : History) (event : Event) (answer : Reply) → Steps old new event (Did answer) → course_from new.past ≡ enter old.group (course_from old.past) event
 enters_next old new event answer steps =
-    ap (λ (h : History). run_from h.past) steps.1
-    ∙ ap (λ (a : Reply). run_from (entry_of event a ∷ old.past)) steps.0.answer
-    ∙ sym (ap (entered (run_from old.past) (entry_after old.group old.past event) false) (less (length old.past) MAX_ENTRIES steps.0.room))
+    ap (λ (h : History). course_from h.past) steps.1
+    ∙ ap (λ (a : Reply). course_from (entry_of event a ∷ old.past)) steps.0.answer
+    ∙ sym (ap (entered (course_from old.past) (entry_after old.group old.past event) false) (less (length old.past) MAX_ENTRIES steps.0.room))
 
 -- a number is not less than an equal one
 not_less_self : (n m : ℕ) → n ≡ m → nat_lt n m ≡ false
 not_less_self n m is = grind (arith, nat_tests)
 
--- where there is none, the run stops
-stops_full : (old new : WorldView) (event : Event) (entries : ℕ) → Steps old.history new.history event (JournalFull entries) → run_at Full new ≡ enter old.history.group (run_from old.history.past) event
+-- where there is none, the course stops
+stops_full : (old new : WorldView) (event : Event) (entries : ℕ) → Steps old.history new.history event (JournalFull entries) → course_at Full new ≡ enter old.history.group (course_from old.history.past) event
 stops_full old new event entries steps =
-    ap (λ (h : History). entered (run_from h.past) (entry_after old.history.group old.history.past event) false false) steps.2
-    ∙ sym (ap (entered (run_from old.history.past) (entry_after old.history.group old.history.past event) false) (not_less_self (length old.history.past) MAX_ENTRIES steps.0))
+    ap (λ (h : History). entered (course_from h.past) (entry_after old.history.group old.history.past event) false false) steps.2
+    ∙ sym (ap (entered (course_from old.history.past) (entry_after old.history.group old.history.past event) false) (not_less_self (length old.history.past) MAX_ENTRIES steps.0))
 
--- the arrivals of the newest entry's reply
+-- what follows the newest entry
 abbrev with_newest : Group → List WireLine → Course → Course
-with_newest g lines run = enter_all g run (newest_arrivals lines run.past)
+with_newest g lines course = enter_all g course (follow_ups g lines course.past)
 
--- an event was entered, and the arrivals that its reply calls for are left
-pub told_way : (old now : WorldView) (event : Event) (stepped : Stepped) (answer : Reply) → Steps old.history now.history event stepped → stepped ≡ Did answer → now.lines ≡ old.lines → IsOnWay old now (enter_told old.history.group old.lines (run_from old.history.past) event) (enter_all now.history.group (run_from now.history.past) (arrivals_of now.lines answer))
+-- an event was entered, and what follows its entry is left
+pub told_way : (old now : WorldView) (event : Event) (stepped : Stepped) (answer : Reply) → Steps old.history now.history event stepped → stepped ≡ Did answer → now.lines ≡ old.lines → IsOnWay old now (enter_told old.history.group old.lines (course_from old.history.past) event) (enter_all now.history.group (course_from now.history.past) (follow_ups_of now.history.group now.lines now.history.past answer))
 told_way old now event stepped answer steps is lines =
     let did : Steps old.history now.history event (Did answer) = subst (λ (s : Stepped). Steps old.history now.history event s) is steps in
     let plant : HasSamePlant old now = record { group = ap (λ (h : History). h.group) did.1; lines = lines } in
-    let way = way_from with_newest old now (enter old.history.group (run_from old.history.past) event) On (enter-grows old.history.group (run_from old.history.past) event) (enters_next old.history now.history event answer did) refl plant in
-    let newest : newest_arrivals now.lines now.history.past ≡ arrivals_of now.lines answer = ap (λ (h : History). newest_arrivals now.lines h.past) did.1 in
-    record { began = way.began; plant = way.plant; ends = ap (enter_all now.history.group (run_from now.history.past)) (sym newest) ∙ way.ends }
+    let way = way_from with_newest old now (enter old.history.group (course_from old.history.past) event) On (enter-grows old.history.group (course_from old.history.past) event) (enters_next old.history now.history event answer did) refl plant in
+    let newest : follow_ups now.history.group now.lines now.history.past ≡ follow_ups_of now.history.group now.lines now.history.past answer = subst (λ (h : History). follow_ups now.history.group now.lines h.past ≡ follow_ups_of now.history.group now.lines h.past answer) (sym did.1) refl in
+    record { began = way.began; plant = way.plant; ends = ap (enter_all now.history.group (course_from now.history.past)) (sym newest) ∙ way.ends }
 
--- an event with arrivals met a full journal
-pub told_stops : (old now : WorldView) (event : Event) (stepped : Stepped) (entries : ℕ) → Steps old.history now.history event stepped → stepped ≡ JournalFull entries → run_at Full now ≡ enter_told old.history.group old.lines (run_from old.history.past) event
+-- an event with what follows it met a full journal
+pub told_stops : (old now : WorldView) (event : Event) (stepped : Stepped) (entries : ℕ) → Steps old.history now.history event stepped → stepped ≡ JournalFull entries → course_at Full now ≡ enter_told old.history.group old.lines (course_from old.history.past) event
 told_stops old now event stepped entries steps is =
     let full = stops_full old now event entries (subst (λ (s : Stepped). Steps old.history now.history event s) is steps) in
-    sym (enter_all-stopped old.history.group (run_at Full now) (newest_arrivals old.lines now.history.past) refl)
+    sym (enter_all-stopped old.history.group (course_at Full now) (follow_ups old.history.group old.lines now.history.past) refl)
     ∙ ap (with_newest old.history.group old.lines) full
 
 -- one part after another. `first` is the next of the parts that are left, and `rest` are those behind it
@@ -137,25 +137,25 @@ first_left : {X : Type 0} (xs : List X) (i : ℕ) (default : X) → i < length x
 first_left xs i default low = rw (add-one, drop-cons xs i default low) refl
 
 -- the next part was entered whole
-pub part_goes : (rest : Group → List WireLine → Course → Course) (old now next : WorldView) (whole left first : Course) (going : Going) → IsOnWay old now whole left → left ≡ rest now.history.group now.lines first → IsBeginning now.history.past first.past → run_at going next ≡ first → going ≡ On → HasSamePlant now next → IsOnWay old next whole (rest next.history.group next.lines (run_from next.history.past))
+pub part_goes : (rest : Group → List WireLine → Course → Course) (old now next : WorldView) (whole left first : Course) (going : Going) → IsOnWay old now whole left → left ≡ rest now.history.group now.lines first → IsBeginning now.history.past first.past → course_at going next ≡ first → going ≡ On → HasSamePlant now next → IsOnWay old next whole (rest next.history.group next.lines (course_from next.history.past))
 part_goes rest old now next whole left first going way split grows is on plant =
     let here = way_from rest now next first going grows is on plant in
-    way_more old now next whole left (rest next.history.group next.lines (run_from next.history.past)) way (record { began = here.began; plant = here.plant; ends = here.ends ∙ sym split })
+    way_more old now next whole left (rest next.history.group next.lines (course_from next.history.past)) way (record { began = here.began; plant = here.plant; ends = here.ends ∙ sym split })
 
--- the next part met a full journal: the run stops there, whatever was to follow
-pub stops_there : (rest : Course → Course) (now : WorldView) (first : Course) (going : Going) → run_at going now ≡ first → going ≡ Full → rest (run_at Full now) ≡ run_at Full now → run_at Full now ≡ rest first
-stops_there rest now first going is full stays = sym stays ∙ ap (λ (at : Going). rest (run_at at now)) (sym full) ∙ ap rest is
+-- the next part met a full journal: the course stops there, whatever was to follow
+pub stops_there : (rest : Course → Course) (now : WorldView) (first : Course) (going : Going) → course_at going now ≡ first → going ≡ Full → rest (course_at Full now) ≡ course_at Full now → course_at Full now ≡ rest first
+stops_there rest now first going is full stays = sym stays ∙ ap (λ (at : Going). rest (course_at at now)) (sym full) ∙ ap rest is
 
 -- a part of the next part was entered
 pub part_parts : {T E : Type 0} (r : Result T E) (old now next : WorldView) (whole left behind first : Course) → IsOnWay old now whole left → left ≡ behind → IsBeginning first.past behind.past → IsPartOf now next first → OnErr r (IsPartOf old next whole)
 part_parts r old now next whole left behind first way split grows part =
-    part_whole r old now next whole left way (part_more r now next first left (subst (λ (run : Course). IsBeginning first.past run.past) (sym split) grows) part)
+    part_whole r old now next whole left way (part_more r now next first left (subst (λ (course : Course). IsBeginning first.past course.past) (sym split) grows) part)
 
 -- messages that arrive one after another
 
 -- the arrivals of these messages, from where a world stands
 abbrev pub arrivals_from : (ℕ → Event) → WorldView → List ℕ → Course
-arrivals_from make w numbers = enter_all w.history.group (run_from w.history.past) (map make numbers)
+arrivals_from make w numbers = enter_all w.history.group (course_from w.history.past) (map make numbers)
 
 -- on the way of the arrivals of these messages, those from place i on are left
 abbrev pub IsArriving : (ℕ → Event) → WorldView → WorldView → List ℕ → ℕ → Type 0
@@ -163,26 +163,26 @@ IsArriving make old now numbers i = IsOnWay old now (arrivals_from make old numb
 
 -- the arrival at a place, from where a world stands
 abbrev arrival_at : (ℕ → Event) → WorldView → List ℕ → ℕ → Course
-arrival_at make w numbers i = enter w.history.group (run_from w.history.past) (make (get_or numbers i 0))
+arrival_at make w numbers i = enter w.history.group (course_from w.history.past) (make (get_or numbers i 0))
 
 -- the arrivals behind a place
 abbrev arrivals_behind : (ℕ → Event) → List ℕ → ℕ → Group → List WireLine → Course → Course
-arrivals_behind make numbers i g lines run = enter_all g run (map make (drop (i + 1) numbers))
+arrivals_behind make numbers i g lines course = enter_all g course (map make (drop (i + 1) numbers))
 
 -- the arrivals that are left are that at the place, and then those behind it
 first_arrival : (make : ℕ → Event) (w : WorldView) (numbers : List ℕ) (i : ℕ) → i < length numbers → arrivals_from make w (drop i numbers) ≡ arrivals_behind make numbers i w.history.group w.lines (arrival_at make w numbers i)
 first_arrival make w numbers i low = ap (arrivals_from make w) (first_left numbers i 0 low)
 
 -- one message more arrived
-pub arrival_goes : (make : ℕ → Event) (old now next : WorldView) (numbers : List ℕ) (i : ℕ) (going : Going) → IsArriving make old now numbers i → i < length numbers → run_at going next ≡ arrival_at make now numbers i → going ≡ On → HasSamePlant now next → IsArriving make old next numbers (i + 1)
+pub arrival_goes : (make : ℕ → Event) (old now next : WorldView) (numbers : List ℕ) (i : ℕ) (going : Going) → IsArriving make old now numbers i → i < length numbers → course_at going next ≡ arrival_at make now numbers i → going ≡ On → HasSamePlant now next → IsArriving make old next numbers (i + 1)
 arrival_goes make old now next numbers i going way low =
     part_goes (arrivals_behind make numbers i) old now next (arrivals_from make old numbers) (arrivals_from make now (drop i numbers)) (arrival_at make now numbers i) going way
-    (first_arrival make now numbers i low) (enter-grows now.history.group (run_from now.history.past) (make (get_or numbers i 0)))
+    (first_arrival make now numbers i low) (enter-grows now.history.group (course_from now.history.past) (make (get_or numbers i 0)))
 
 -- the next one met a full journal
-pub arrival_stops : (make : ℕ → Event) (old now next : WorldView) (numbers : List ℕ) (i : ℕ) (going : Going) → IsArriving make old now numbers i → i < length numbers → run_at going next ≡ arrival_at make now numbers i → going ≡ Full → run_at Full next ≡ arrivals_from make old numbers
+pub arrival_stops : (make : ℕ → Event) (old now next : WorldView) (numbers : List ℕ) (i : ℕ) (going : Going) → IsArriving make old now numbers i → i < length numbers → course_at going next ≡ arrival_at make now numbers i → going ≡ Full → course_at Full next ≡ arrivals_from make old numbers
 arrival_stops make old now next numbers i going way low is full =
-    stops_there (arrivals_behind make numbers i now.history.group now.lines) next (arrival_at make now numbers i) going is full (enter_all-stopped now.history.group (run_at Full next) (map make (drop (i + 1) numbers)) refl)
+    stops_there (arrivals_behind make numbers i now.history.group now.lines) next (arrival_at make now numbers i) going is full (enter_all-stopped now.history.group (course_at Full next) (map make (drop (i + 1) numbers)) refl)
     ∙ sym (first_arrival make now numbers i low)
     ∙ way.ends
 
@@ -194,24 +194,24 @@ arrival_parts r make old now next numbers i way low =
     (first_arrival make now numbers i low) (enter_all-grows now.history.group first (map make (drop (i + 1) numbers)))
 
 -- before any message arrived
-pub no_arrivals_part : {T E : Type 0} (r : Result T E) (w : WorldView) (events : List Event) → OnErr r (IsPartOf w w (enter_all w.history.group (run_from w.history.past) events))
-no_arrivals_part r w events = none_entered r w w (enter_all w.history.group (run_from w.history.past) events) (enter_all-grows w.history.group (run_from w.history.past) events) refl
+pub no_follow_up_part : {T E : Type 0} (r : Result T E) (w : WorldView) (events : List Event) → OnErr r (IsPartOf w w (enter_all w.history.group (course_from w.history.past) events))
+no_follow_up_part r w events = none_entered r w w (enter_all w.history.group (course_from w.history.past) events) (enter_all-grows w.history.group (course_from w.history.past) events) refl
 
 -- a turn
 
 -- the finish that ends an update
 abbrev pub finishing : Entity → Group → List WireLine → Course → Course
-finishing e g lines run = enter g run (Finish e)
+finishing e g lines course = enter g course (Finish e)
 
 -- the poll that follows it
 abbrev pub polling : Entity → Group → List WireLine → Course → Course
-polling e g lines run = poll g lines run e
+polling e g lines course = poll g lines course e
 
 -- turns one after another
 
 -- the turns of these entities, from where a world stands
 abbrev pub turns_from : WorldView → List Entity → Course
-turns_from w es = turns w.history.group w.lines (run_from w.history.past) es
+turns_from w es = turns w.history.group w.lines (course_from w.history.past) es
 
 -- on the way of the turns of these entities, those from place i on are left
 abbrev pub IsTurning : WorldView → WorldView → List Entity → ℕ → Type 0
@@ -219,26 +219,26 @@ IsTurning old now es i = IsOnWay old now (turns_from old es) (turns_from now (dr
 
 -- the turn at a place, from where a world stands
 abbrev turn_at : WorldView → List Entity → ℕ → Course
-turn_at w es i = turn w.history.group w.lines (run_from w.history.past) (get_or es i (Device 0))
+turn_at w es i = turn w.history.group w.lines (course_from w.history.past) (get_or es i (Device 0))
 
 -- the turns behind a place
 abbrev turns_behind : List Entity → ℕ → Group → List WireLine → Course → Course
-turns_behind es i g lines run = turns g lines run (drop (i + 1) es)
+turns_behind es i g lines course = turns g lines course (drop (i + 1) es)
 
 -- the turns that are left are that at the place, and then those behind it
 first_turn : (w : WorldView) (es : List Entity) (i : ℕ) → i < length es → turns_from w (drop i es) ≡ turns_behind es i w.history.group w.lines (turn_at w es i)
 first_turn w es i low = ap (turns_from w) (first_left es i (Device 0) low)
 
 -- one entity more had its turn
-pub turn_goes : (old now next : WorldView) (es : List Entity) (i : ℕ) (going : Going) → IsTurning old now es i → i < length es → run_at going next ≡ turn_at now es i → going ≡ On → HasSamePlant now next → IsTurning old next es (i + 1)
+pub turn_goes : (old now next : WorldView) (es : List Entity) (i : ℕ) (going : Going) → IsTurning old now es i → i < length es → course_at going next ≡ turn_at now es i → going ≡ On → HasSamePlant now next → IsTurning old next es (i + 1)
 turn_goes old now next es i going way low =
     part_goes (turns_behind es i) old now next (turns_from old es) (turns_from now (drop i es)) (turn_at now es i) going way
-    (first_turn now es i low) (turn-grows now.history.group now.lines (run_from now.history.past) (get_or es i (Device 0)))
+    (first_turn now es i low) (turn-grows now.history.group now.lines (course_from now.history.past) (get_or es i (Device 0)))
 
 -- the next turn met a full journal
-pub turn_stops : (old now next : WorldView) (es : List Entity) (i : ℕ) (going : Going) → IsTurning old now es i → i < length es → run_at going next ≡ turn_at now es i → going ≡ Full → run_at Full next ≡ turns_from old es
+pub turn_stops : (old now next : WorldView) (es : List Entity) (i : ℕ) (going : Going) → IsTurning old now es i → i < length es → course_at going next ≡ turn_at now es i → going ≡ Full → course_at Full next ≡ turns_from old es
 turn_stops old now next es i going way low is full =
-    stops_there (turns_behind es i now.history.group now.lines) next (turn_at now es i) going is full (turns-stopped now.history.group now.lines (run_at Full next) (drop (i + 1) es) refl)
+    stops_there (turns_behind es i now.history.group now.lines) next (turn_at now es i) going is full (turns-stopped now.history.group now.lines (course_at Full next) (drop (i + 1) es) refl)
     ∙ sym (first_turn now es i low)
     ∙ way.ends
 
@@ -299,21 +299,21 @@ count_fits g h past entities count sound group is counted =
 -- a round
 
 -- the turns of the entities that are not settled are the round
-pub round_entered : (old new : WorldView) (es items : List Entity) (going other : Going) → run_at going new ≡ turns_from old es → going ≡ other → es ≡ items → items ≡ unsettled old.history.group old.history.past → run_at other new ≡ round old.history.group old.lines old.history.past
+pub round_entered : (old new : WorldView) (es items : List Entity) (going other : Going) → course_at going new ≡ turns_from old es → going ≡ other → es ≡ items → items ≡ unsettled old.history.group old.history.past → course_at other new ≡ round old.history.group old.lines old.history.past
 round_entered old new es items going other is at read all =
-    ap (λ (x : Going). run_at x new) (sym at) ∙ is ∙ ap (turns_from old) read ∙ ap (turns_from old) all
+    ap (λ (x : Going). course_at x new) (sym at) ∙ is ∙ ap (turns_from old) read ∙ ap (turns_from old) all
 
--- a run that was entered is a part of itself
-pub all_part : {T E : Type 0} (r : Result T E) (old new : WorldView) (whole : Course) (going : Going) → IsBeginning old.history.past whole.past → run_at going new ≡ whole → OnErr r (IsPartOf old new whole)
+-- a course that was entered is a part of itself
+pub all_part : {T E : Type 0} (r : Result T E) (old new : WorldView) (whole : Course) (going : Going) → IsBeginning old.history.past whole.past → course_at going new ≡ whole → OnErr r (IsPartOf old new whole)
 all_part r old new whole going grows is =
-    let stands : whole.past ≡ new.history.past = ap (λ (run : Course). run.past) (sym is) in
+    let stands : whole.past ≡ new.history.past = ap (λ (course : Course). course.past) (sym is) in
     err_of r (record {
       began = subst (λ (past : List Entry). IsBeginning old.history.past past) stands grows;
       part = subst (λ (past : List Entry). IsBeginning past whole.past) stands (beginning-self whole.past);
     })
 
 -- a round that met no full journal settles what it is to settle
-pub round_did_settle : (old new : WorldView) → IsLegal old.history.group old.history.past → run_at On new ≡ round old.history.group old.lines old.history.past → HasSamePlant old new → SettlesSent old new
+pub round_did_settle : (old new : WorldView) → IsLegal old.history.group old.history.past → course_at On new ≡ round old.history.group old.lines old.history.past → HasSamePlant old new → SettlesSent old new
 round_did_settle old new legal is plant =
     let made = round_made old.history.group old.lines old.history.past new.history.past legal (sym is) in
     record {

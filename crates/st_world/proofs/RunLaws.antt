@@ -19,7 +19,7 @@ use Rattle.st_wire.specs.declared.line.WireKind.TheVariants.{Command as command_
 use Rattle.st_wire.specs.declared.line.WireLine.{WireLine}
 use Rattle.st_wire.specs.Deliveries.{deliveries}
 use Rattle.st_world.specs.World.{IsBeginning}
-use Rattle.st_world.specs.Rounds.{Course, run_from, enter, enter_all, arrivals_of, newest_arrivals, enter_told, update_turn, poll, turn, turns, unsettled, round}
+use Rattle.st_world.specs.Rounds.{Course, course_from, enter, enter_all, follow_ups_of, follow_ups, enter_told, update_turn, poll, turn, turns, unsettled, round}
 
 -- beginnings
 
@@ -29,84 +29,84 @@ beginning-self past = ([], refl)
 pub beginning-more : (past middle whole : List Entry) → IsBeginning past middle → IsBeginning middle whole → IsBeginning past whole
 beginning-more past middle whole first second = (second.0 ++ first.0, second.1 ∙ ap (λ (x : List Entry). second.0 ++ x) first.1 ∙ sym (append_assoc second.0 first.0 past))
 
--- a run after an event with this entry: it had stopped before, or there is room, or it stops
+-- a course after an event with this entry: it had stopped before, or there is room, or it stops
 abbrev pub entered : Course → Entry → Bool → Bool → Course
-entered run entry stopped room = if stopped then run else (if room then record { past = entry ∷ run.past; stopped = false } else record { past = run.past; stopped = true })
+entered course entry stopped room = if stopped then course else (if room then record { past = entry ∷ course.past; stopped = false } else record { past = course.past; stopped = true })
 
-entered-grows : (run : Course) (entry : Entry) (stopped room : Bool) → IsBeginning run.past (entered run entry stopped room).past
-entered-grows run entry true room = beginning-self run.past
-entered-grows run entry false true = (entry ∷ [], refl)
-entered-grows run entry false false = beginning-self run.past
+entered-grows : (course : Course) (entry : Entry) (stopped room : Bool) → IsBeginning course.past (entered course entry stopped room).past
+entered-grows course entry true room = beginning-self course.past
+entered-grows course entry false true = (entry ∷ [], refl)
+entered-grows course entry false false = beginning-self course.past
 
 -- each step leaves what was entered before
 
-pub enter-grows : (g : Group) (run : Course) (event : Event) → IsBeginning run.past (enter g run event).past
-enter-grows g run event = entered-grows run (entry_after g run.past event) run.stopped (nat_lt (length run.past) MAX_ENTRIES)
+pub enter-grows : (g : Group) (course : Course) (event : Event) → IsBeginning course.past (enter g course event).past
+enter-grows g course event = entered-grows course (entry_after g course.past event) course.stopped (nat_lt (length course.past) MAX_ENTRIES)
 
-pub enter_all-grows : (g : Group) (run : Course) (events : List Event) → IsBeginning run.past (enter_all g run events).past
-enter_all-grows g run [] = beginning-self run.past
-enter_all-grows g run (event ∷ events) = beginning-more run.past (enter g run event).past (enter_all g (enter g run event) events).past (enter-grows g run event) (enter_all-grows g (enter g run event) events)
+pub enter_all-grows : (g : Group) (course : Course) (events : List Event) → IsBeginning course.past (enter_all g course events).past
+enter_all-grows g course [] = beginning-self course.past
+enter_all-grows g course (event ∷ events) = beginning-more course.past (enter g course event).past (enter_all g (enter g course event) events).past (enter-grows g course event) (enter_all-grows g (enter g course event) events)
 
-pub enter_told-grows : (g : Group) (lines : List WireLine) (run : Course) (event : Event) → IsBeginning run.past (enter_told g lines run event).past
-enter_told-grows g lines run event =
-    let next = enter g run event in
-    beginning-more run.past next.past (enter_told g lines run event).past (enter-grows g run event) (enter_all-grows g next (newest_arrivals lines next.past))
+pub enter_told-grows : (g : Group) (lines : List WireLine) (course : Course) (event : Event) → IsBeginning course.past (enter_told g lines course event).past
+enter_told-grows g lines course event =
+    let next = enter g course event in
+    beginning-more course.past next.past (enter_told g lines course event).past (enter-grows g course event) (enter_all-grows g next (follow_ups g lines next.past))
 
-pub update_turn-grows : (g : Group) (lines : List WireLine) (run : Course) (e : Entity) → IsBeginning run.past (update_turn g lines run e).past
-update_turn-grows g lines run e =
-    let told = enter_told g lines run (Send e) in
-    beginning-more run.past told.past (update_turn g lines run e).past (enter_told-grows g lines run (Send e)) (enter-grows g told (Finish e))
+pub update_turn-grows : (g : Group) (lines : List WireLine) (course : Course) (e : Entity) → IsBeginning course.past (update_turn g lines course e).past
+update_turn-grows g lines course e =
+    let told = enter_told g lines course (Send e) in
+    beginning-more course.past told.past (update_turn g lines course e).past (enter_told-grows g lines course (Send e)) (enter-grows g told (Finish e))
 
-pub poll-grows : (g : Group) (lines : List WireLine) (run : Course) (e : Entity) → IsBeginning run.past (poll g lines run e).past
-poll-grows g lines run e = enter_told-grows g lines run (make_report e)
+pub poll-grows : (g : Group) (lines : List WireLine) (course : Course) (e : Entity) → IsBeginning course.past (poll g lines course e).past
+poll-grows g lines course e = enter_told-grows g lines course (make_report e)
 
-pub turn-grows : (g : Group) (lines : List WireLine) (run : Course) (e : Entity) → IsBeginning run.past (turn g lines run e).past
-turn-grows g lines run e =
-    let updated = update_turn g lines run e in
-    beginning-more run.past updated.past (turn g lines run e).past (update_turn-grows g lines run e) (poll-grows g lines updated e)
+pub turn-grows : (g : Group) (lines : List WireLine) (course : Course) (e : Entity) → IsBeginning course.past (turn g lines course e).past
+turn-grows g lines course e =
+    let updated = update_turn g lines course e in
+    beginning-more course.past updated.past (turn g lines course e).past (update_turn-grows g lines course e) (poll-grows g lines updated e)
 
-pub turns-grows : (g : Group) (lines : List WireLine) (run : Course) (es : List Entity) → IsBeginning run.past (turns g lines run es).past
-turns-grows g lines run [] = beginning-self run.past
-turns-grows g lines run (e ∷ es) = beginning-more run.past (turn g lines run e).past (turns g lines (turn g lines run e) es).past (turn-grows g lines run e) (turns-grows g lines (turn g lines run e) es)
+pub turns-grows : (g : Group) (lines : List WireLine) (course : Course) (es : List Entity) → IsBeginning course.past (turns g lines course es).past
+turns-grows g lines course [] = beginning-self course.past
+turns-grows g lines course (e ∷ es) = beginning-more course.past (turn g lines course e).past (turns g lines (turn g lines course e) es).past (turn-grows g lines course e) (turns-grows g lines (turn g lines course e) es)
 
 pub round-grows : (g : Group) (lines : List WireLine) (past : List Entry) → IsBeginning past (round g lines past).past
-round-grows g lines past = turns-grows g lines (run_from past) (unsettled g past)
+round-grows g lines past = turns-grows g lines (course_from past) (unsettled g past)
 
--- a run that has stopped stays as it is
+-- a course that has stopped stays as it is
 
-pub enter-stopped : (g : Group) (run : Course) (event : Event) → run.stopped ≡ true → enter g run event ≡ run
-enter-stopped g run event stopped = rw stopped refl
+pub enter-stopped : (g : Group) (course : Course) (event : Event) → course.stopped ≡ true → enter g course event ≡ course
+enter-stopped g course event stopped = rw stopped refl
 
-pub enter_all-stopped : (g : Group) (run : Course) (events : List Event) → run.stopped ≡ true → enter_all g run events ≡ run
-enter_all-stopped g run [] stopped = refl
-enter_all-stopped g run (event ∷ events) stopped = ap (λ (r : Course). enter_all g r events) (enter-stopped g run event stopped) ∙ enter_all-stopped g run events stopped
+pub enter_all-stopped : (g : Group) (course : Course) (events : List Event) → course.stopped ≡ true → enter_all g course events ≡ course
+enter_all-stopped g course [] stopped = refl
+enter_all-stopped g course (event ∷ events) stopped = ap (λ (r : Course). enter_all g r events) (enter-stopped g course event stopped) ∙ enter_all-stopped g course events stopped
 
-pub enter_told-stopped : (g : Group) (lines : List WireLine) (run : Course) (event : Event) → run.stopped ≡ true → enter_told g lines run event ≡ run
-enter_told-stopped g lines run event stopped = ap (λ (r : Course). enter_all g r (newest_arrivals lines r.past)) (enter-stopped g run event stopped) ∙ enter_all-stopped g run (newest_arrivals lines run.past) stopped
+pub enter_told-stopped : (g : Group) (lines : List WireLine) (course : Course) (event : Event) → course.stopped ≡ true → enter_told g lines course event ≡ course
+enter_told-stopped g lines course event stopped = ap (λ (r : Course). enter_all g r (follow_ups g lines r.past)) (enter-stopped g course event stopped) ∙ enter_all-stopped g course (follow_ups g lines course.past) stopped
 
-pub update_turn-stopped : (g : Group) (lines : List WireLine) (run : Course) (e : Entity) → run.stopped ≡ true → update_turn g lines run e ≡ run
-update_turn-stopped g lines run e stopped = ap (λ (r : Course). enter g r (Finish e)) (enter_told-stopped g lines run (Send e) stopped) ∙ enter-stopped g run (Finish e) stopped
+pub update_turn-stopped : (g : Group) (lines : List WireLine) (course : Course) (e : Entity) → course.stopped ≡ true → update_turn g lines course e ≡ course
+update_turn-stopped g lines course e stopped = ap (λ (r : Course). enter g r (Finish e)) (enter_told-stopped g lines course (Send e) stopped) ∙ enter-stopped g course (Finish e) stopped
 
-pub poll-stopped : (g : Group) (lines : List WireLine) (run : Course) (e : Entity) → run.stopped ≡ true → poll g lines run e ≡ run
-poll-stopped g lines run e stopped = enter_told-stopped g lines run (make_report e) stopped
+pub poll-stopped : (g : Group) (lines : List WireLine) (course : Course) (e : Entity) → course.stopped ≡ true → poll g lines course e ≡ course
+poll-stopped g lines course e stopped = enter_told-stopped g lines course (make_report e) stopped
 
-pub turn-stopped : (g : Group) (lines : List WireLine) (run : Course) (e : Entity) → run.stopped ≡ true → turn g lines run e ≡ run
-turn-stopped g lines run e stopped = ap (λ (r : Course). poll g lines r e) (update_turn-stopped g lines run e stopped) ∙ poll-stopped g lines run e stopped
+pub turn-stopped : (g : Group) (lines : List WireLine) (course : Course) (e : Entity) → course.stopped ≡ true → turn g lines course e ≡ course
+turn-stopped g lines course e stopped = ap (λ (r : Course). poll g lines r e) (update_turn-stopped g lines course e stopped) ∙ poll-stopped g lines course e stopped
 
-pub turns-stopped : (g : Group) (lines : List WireLine) (run : Course) (es : List Entity) → run.stopped ≡ true → turns g lines run es ≡ run
-turns-stopped g lines run [] stopped = refl
-turns-stopped g lines run (e ∷ es) stopped = ap (λ (r : Course). turns g lines r es) (turn-stopped g lines run e stopped) ∙ turns-stopped g lines run es stopped
+pub turns-stopped : (g : Group) (lines : List WireLine) (course : Course) (es : List Entity) → course.stopped ≡ true → turns g lines course es ≡ course
+turns-stopped g lines course [] stopped = refl
+turns-stopped g lines course (e ∷ es) stopped = ap (λ (r : Course). turns g lines r es) (turn-stopped g lines course e stopped) ∙ turns-stopped g lines course es stopped
 
--- arrivals name no entity
+-- what follows an entry fits
 
-pub arrivals_fit : (g : Group) (lines : List WireLine) (reply : Reply) → All (Fits g) (arrivals_of lines reply)
-arrivals_fit g lines (Sent n) = All-map (Fits g) Deliver (deliveries lines command_kind n) (λ k d low. tt)
-arrivals_fit g lines (Reported n) = All-map (Fits g) Hear (deliveries lines report_kind n) (λ k d low. tt)
-arrivals_fit g lines _ = All-nil (Fits g)
+pub follow_ups_of_fit : (g : Group) (lines : List WireLine) (past : List Entry) (reply : Reply) → All (Fits g) (follow_ups_of g lines past reply)
+follow_ups_of_fit g lines past (Sent n) = All-map (Fits g) Deliver (deliveries lines command_kind n) (λ k d low. tt)
+follow_ups_of_fit g lines past (Reported n) = All-map (Fits g) Hear (deliveries lines report_kind n) (λ k d low. tt)
+follow_ups_of_fit g lines past _ = All-nil (Fits g)
 
-pub newest_arrivals_fit : (g : Group) (lines : List WireLine) (past : List Entry) → All (Fits g) (newest_arrivals lines past)
-newest_arrivals_fit g lines [] = All-nil (Fits g)
-newest_arrivals_fit g lines (entry ∷ past) = arrivals_fit g lines entry.reply
+pub follow_ups_fit : (g : Group) (lines : List WireLine) (past : List Entry) → All (Fits g) (follow_ups g lines past)
+follow_ups_fit g lines [] = All-nil (Fits g)
+follow_ups_fit g lines (entry ∷ past) = follow_ups_of_fit g lines (entry ∷ past) entry.reply
 
 -- the entities that are not settled are ones of the group
 
@@ -115,37 +115,37 @@ unsettled_fit g past = All-filter _ (IsEntityOf g) (entities_of g) (entities_fit
 
 -- each step keeps the journal legal, where its events fit
 
-entered-legal : (g : Group) (run : Course) (entry : Entry) (stopped room : Bool) → IsLegal g run.past → (room ≡ true → IsNext g run.past entry) → IsLegal g (entered run entry stopped room).past
-entered-legal g run entry true room legal next = legal
-entered-legal g run entry false true legal next = (next refl, legal)
-entered-legal g run entry false false legal next = legal
+entered-legal : (g : Group) (course : Course) (entry : Entry) (stopped room : Bool) → IsLegal g course.past → (room ≡ true → IsNext g course.past entry) → IsLegal g (entered course entry stopped room).past
+entered-legal g course entry true room legal next = legal
+entered-legal g course entry false true legal next = (next refl, legal)
+entered-legal g course entry false false legal next = legal
 
-pub enter-legal : (g : Group) (run : Course) (event : Event) → IsLegal g run.past → Fits g event → IsLegal g (enter g run event).past
-enter-legal g run event legal fits =
-    entered-legal g run (entry_after g run.past event) run.stopped (nat_lt (length run.past) MAX_ENTRIES) legal
-    (λ room. record { room = less_is (length run.past) MAX_ENTRIES room; fits = fits; answer = refl })
+pub enter-legal : (g : Group) (course : Course) (event : Event) → IsLegal g course.past → Fits g event → IsLegal g (enter g course event).past
+enter-legal g course event legal fits =
+    entered-legal g course (entry_after g course.past event) course.stopped (nat_lt (length course.past) MAX_ENTRIES) legal
+    (λ room. record { room = less_is (length course.past) MAX_ENTRIES room; fits = fits; answer = refl })
 
-pub enter_all-legal : (g : Group) (run : Course) (events : List Event) → IsLegal g run.past → All (Fits g) events → IsLegal g (enter_all g run events).past
-enter_all-legal g run [] legal fit = legal
-enter_all-legal g run (event ∷ events) legal fit = enter_all-legal g (enter g run event) events (enter-legal g run event legal (All-head (Fits g) event events fit)) (All-tail (Fits g) event events fit)
+pub enter_all-legal : (g : Group) (course : Course) (events : List Event) → IsLegal g course.past → All (Fits g) events → IsLegal g (enter_all g course events).past
+enter_all-legal g course [] legal fit = legal
+enter_all-legal g course (event ∷ events) legal fit = enter_all-legal g (enter g course event) events (enter-legal g course event legal (All-head (Fits g) event events fit)) (All-tail (Fits g) event events fit)
 
-pub enter_told-legal : (g : Group) (lines : List WireLine) (run : Course) (event : Event) → IsLegal g run.past → Fits g event → IsLegal g (enter_told g lines run event).past
-enter_told-legal g lines run event legal fits =
-    let next = enter g run event in
-    enter_all-legal g next (newest_arrivals lines next.past) (enter-legal g run event legal fits) (newest_arrivals_fit g lines next.past)
+pub enter_told-legal : (g : Group) (lines : List WireLine) (course : Course) (event : Event) → IsLegal g course.past → Fits g event → IsLegal g (enter_told g lines course event).past
+enter_told-legal g lines course event legal fits =
+    let next = enter g course event in
+    enter_all-legal g next (follow_ups g lines next.past) (enter-legal g course event legal fits) (follow_ups_fit g lines next.past)
 
-pub update_turn-legal : (g : Group) (lines : List WireLine) (run : Course) (e : Entity) → IsLegal g run.past → IsEntityOf g e → IsLegal g (update_turn g lines run e).past
-update_turn-legal g lines run e legal own = enter-legal g (enter_told g lines run (Send e)) (Finish e) (enter_told-legal g lines run (Send e) legal own) own
+pub update_turn-legal : (g : Group) (lines : List WireLine) (course : Course) (e : Entity) → IsLegal g course.past → IsEntityOf g e → IsLegal g (update_turn g lines course e).past
+update_turn-legal g lines course e legal own = enter-legal g (enter_told g lines course (Send e)) (Finish e) (enter_told-legal g lines course (Send e) legal own) own
 
-pub poll-legal : (g : Group) (lines : List WireLine) (run : Course) (e : Entity) → IsLegal g run.past → IsEntityOf g e → IsLegal g (poll g lines run e).past
-poll-legal g lines run e legal own = enter_told-legal g lines run (make_report e) legal own
+pub poll-legal : (g : Group) (lines : List WireLine) (course : Course) (e : Entity) → IsLegal g course.past → IsEntityOf g e → IsLegal g (poll g lines course e).past
+poll-legal g lines course e legal own = enter_told-legal g lines course (make_report e) legal own
 
-pub turn-legal : (g : Group) (lines : List WireLine) (run : Course) (e : Entity) → IsLegal g run.past → IsEntityOf g e → IsLegal g (turn g lines run e).past
-turn-legal g lines run e legal own = poll-legal g lines (update_turn g lines run e) e (update_turn-legal g lines run e legal own) own
+pub turn-legal : (g : Group) (lines : List WireLine) (course : Course) (e : Entity) → IsLegal g course.past → IsEntityOf g e → IsLegal g (turn g lines course e).past
+turn-legal g lines course e legal own = poll-legal g lines (update_turn g lines course e) e (update_turn-legal g lines course e legal own) own
 
-pub turns-legal : (g : Group) (lines : List WireLine) (run : Course) (es : List Entity) → IsLegal g run.past → All (IsEntityOf g) es → IsLegal g (turns g lines run es).past
-turns-legal g lines run [] legal own = legal
-turns-legal g lines run (e ∷ es) legal own = turns-legal g lines (turn g lines run e) es (turn-legal g lines run e legal (All-head (IsEntityOf g) e es own)) (All-tail (IsEntityOf g) e es own)
+pub turns-legal : (g : Group) (lines : List WireLine) (course : Course) (es : List Entity) → IsLegal g course.past → All (IsEntityOf g) es → IsLegal g (turns g lines course es).past
+turns-legal g lines course [] legal own = legal
+turns-legal g lines course (e ∷ es) legal own = turns-legal g lines (turn g lines course e) es (turn-legal g lines course e legal (All-head (IsEntityOf g) e es own)) (All-tail (IsEntityOf g) e es own)
 
 pub round-legal : (g : Group) (lines : List WireLine) (past : List Entry) → IsLegal g past → IsLegal g (round g lines past).past
-round-legal g lines past legal = turns-legal g lines (run_from past) (unsettled g past) legal (unsettled_fit g past)
+round-legal g lines past legal = turns-legal g lines (course_from past) (unsettled g past) legal (unsettled_fit g past)

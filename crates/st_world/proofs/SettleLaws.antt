@@ -34,15 +34,15 @@ use Rattle.st_event.proofs.Stamps.{fence_small}
 use Rattle.st_event.proofs.Standings.{quiet_stamp}
 use Rattle.st_event.proofs.Turns.{report_settles, turn_settles, sent_named, reported_named}
 use Rattle.st_wire.specs.declared.line.WireLine.{WireLine}
-use Rattle.st_world.specs.Rounds.{Course, run_from, enter, enter_all, arrivals_of, newest_arrivals, enter_told, turn, turns, unsettled, round, is_sending, WasSent, NeverFailed}
+use Rattle.st_world.specs.Rounds.{Course, course_from, enter, enter_all, follow_ups_of, follow_ups, enter_told, turn, turns, unsettled, round, is_sending, WasSent, NeverFailed}
 use Rattle.st_world.specs.World.{IsBeginning}
 use Rattle.st_world.proofs.RunLaws.{entered, round-grows, turn-legal, turns-stopped, unsettled_fit}
 
 -- a turn where there is room for all of it
 
--- the journal with an event and then the arrivals that its reply calls for
+-- the journal with an event and then what follows its entry
 abbrev pub told_by : Group → List WireLine → Event → List Entry → List Entry
-told_by g lines event past = let next = entry_after g past event ∷ past in journal_by g (newest_arrivals lines next) next
+told_by g lines event past = let next = entry_after g past event ∷ past in journal_by g (follow_ups g lines next) next
 
 -- the journal with a turn's finish, report, and arrivals of the report
 abbrev pub ended_by : Group → List WireLine → Entity → List Entry → List Entry
@@ -51,36 +51,36 @@ ended_by g lines e past = told_by g lines (make_report e) (entry_after g past (F
 abbrev pub turn_by : Group → List WireLine → Entity → List Entry → List Entry
 turn_by g lines e past = ended_by g lines e (told_by g lines (Send e) past)
 
-entered-whole : (run : Course) (entry : Entry) (stopped room : Bool) → run.stopped ≡ stopped → (entered run entry stopped room).stopped ≡ false → (run.stopped ≡ false) × (entered run entry stopped room ≡ run_from (entry ∷ run.past))
-entered-whole run entry true room is going = let stops : true ≡ false = sym is ∙ going in cc
-entered-whole run entry false true is going = (is, refl)
-entered-whole run entry false false is going = cc
+entered-whole : (course : Course) (entry : Entry) (stopped room : Bool) → course.stopped ≡ stopped → (entered course entry stopped room).stopped ≡ false → (course.stopped ≡ false) × (entered course entry stopped room ≡ course_from (entry ∷ course.past))
+entered-whole course entry true room is going = let stops : true ≡ false = sym is ∙ going in cc
+entered-whole course entry false true is going = (is, refl)
+entered-whole course entry false false is going = cc
 
-enter-whole : (g : Group) (run : Course) (event : Event) → (enter g run event).stopped ≡ false → (run.stopped ≡ false) × (enter g run event ≡ run_from (entry_after g run.past event ∷ run.past))
-enter-whole g run event going = entered-whole run (entry_after g run.past event) run.stopped _ refl going
+enter-whole : (g : Group) (course : Course) (event : Event) → (enter g course event).stopped ≡ false → (course.stopped ≡ false) × (enter g course event ≡ course_from (entry_after g course.past event ∷ course.past))
+enter-whole g course event going = entered-whole course (entry_after g course.past event) course.stopped _ refl going
 
-enter_all-whole : (g : Group) (run : Course) (events : List Event) → (enter_all g run events).stopped ≡ false → (run.stopped ≡ false) × ((enter_all g run events).past ≡ journal_by g events run.past)
-enter_all-whole g run [] going = (going, refl)
-enter_all-whole g run (event ∷ events) going =
-    let rest = enter_all-whole g (enter g run event) events going in
-    let here = enter-whole g run event rest.0 in
+enter_all-whole : (g : Group) (course : Course) (events : List Event) → (enter_all g course events).stopped ≡ false → (course.stopped ≡ false) × ((enter_all g course events).past ≡ journal_by g events course.past)
+enter_all-whole g course [] going = (going, refl)
+enter_all-whole g course (event ∷ events) going =
+    let rest = enter_all-whole g (enter g course event) events going in
+    let here = enter-whole g course event rest.0 in
     (here.0, rest.1 ∙ ap (λ (r : Course). journal_by g events r.past) here.1)
 
-enter_told-whole : (g : Group) (lines : List WireLine) (run : Course) (event : Event) → (enter_told g lines run event).stopped ≡ false → (run.stopped ≡ false) × ((enter_told g lines run event).past ≡ told_by g lines event run.past)
-enter_told-whole g lines run event going =
-    let next = enter g run event in
-    let rest = enter_all-whole g next (newest_arrivals lines next.past) going in
-    let here = enter-whole g run event rest.0 in
-    (here.0, rest.1 ∙ ap (λ (r : Course). journal_by g (newest_arrivals lines r.past) r.past) here.1)
+enter_told-whole : (g : Group) (lines : List WireLine) (course : Course) (event : Event) → (enter_told g lines course event).stopped ≡ false → (course.stopped ≡ false) × ((enter_told g lines course event).past ≡ told_by g lines event course.past)
+enter_told-whole g lines course event going =
+    let next = enter g course event in
+    let rest = enter_all-whole g next (follow_ups g lines next.past) going in
+    let here = enter-whole g course event rest.0 in
+    (here.0, rest.1 ∙ ap (λ (r : Course). journal_by g (follow_ups g lines r.past) r.past) here.1)
 
 -- a turn that meets no full journal enters all of its entries
-pub turn-whole : (g : Group) (lines : List WireLine) (run : Course) (e : Entity) → (turn g lines run e).stopped ≡ false → (run.stopped ≡ false) × ((turn g lines run e).past ≡ turn_by g lines e run.past)
-turn-whole g lines run e going =
-    let told = enter_told g lines run (Send e) in
+pub turn-whole : (g : Group) (lines : List WireLine) (course : Course) (e : Entity) → (turn g lines course e).stopped ≡ false → (course.stopped ≡ false) × ((turn g lines course e).past ≡ turn_by g lines e course.past)
+turn-whole g lines course e going =
+    let told = enter_told g lines course (Send e) in
     let finished = enter g told (Finish e) in
     let last = enter_told-whole g lines finished (make_report e) going in
     let middle = enter-whole g told (Finish e) last.0 in
-    let first = enter_told-whole g lines run (Send e) middle.0 in
+    let first = enter_told-whole g lines course (Send e) middle.0 in
     (first.0, last.1 ∙ ap (λ (r : Course). told_by g lines (make_report e) r.past) middle.1 ∙ ap (ended_by g lines e) first.1)
 
 -- how often an entity was sent a command
@@ -119,19 +119,19 @@ never_failed_before (entry ∷ made) past e never = never_failed_before made pas
 
 -- what a send is answered
 
--- the command's number, or an answer that nothing was sent, which calls for no arrival
-abbrev Answers : ℕ → Reply → Type 0
-Answers n answer = (answer ≡ Sent n) ⊎ ((arrivals_of [] answer ≡ []) × (is_sent answer ≡ false))
+-- the command's number, or an answer that nothing was sent, which nothing follows
+abbrev Answers : Group → Entity → List Entry → ℕ → Reply → Type 0
+Answers g e past n answer = (answer ≡ Sent n) ⊎ ((follow_ups_of g [] (entry_of (Send e) answer ∷ past) answer ≡ []) × (is_sent answer ≡ false))
 
-answers_by : (lack : Option Lack) (row : Row) (sent : ℕ) (settled : Bool) → Answers (sent + 1) (if settled then Settled else blocked_or_sent lack row sent)
-answers_by lack row sent true = inr (refl, refl)
-answers_by (Some lack) row sent false = inr (refl, refl)
-answers_by None row sent false = inl refl
+answers_by : (g : Group) (e : Entity) (past : List Entry) (lack : Option Lack) (row : Row) (sent : ℕ) (settled : Bool) → Answers g e past (sent + 1) (if settled then Settled else blocked_or_sent lack row sent)
+answers_by g e past lack row sent true = inr (refl, refl)
+answers_by g e past (Some lack) row sent false = inr (refl, refl)
+answers_by g e past None row sent false = inl refl
 
-send_answers : (g : Group) (past : List Entry) (e : Entity) → Answers (length (commands g past) + 1) (reply g past (Send e))
+send_answers : (g : Group) (past : List Entry) (e : Entity) → Answers g e past (length (commands g past) + 1) (reply g past (Send e))
 send_answers g past e =
     let v = governing e (observed g past e).vals (target g past e) in
-    answers_by (lack_at g (observed g past) (target g past) e v) (row_to e v (target g past e)) (length (commands g past)) (is_settled g past e)
+    answers_by g e past (lack_at g (observed g past) (target g past) e v) (row_to e v (target g past e)) (length (commands g past)) (is_settled g past e)
 
 -- what keeps an entity settled
 
@@ -166,14 +166,14 @@ other_ended g past x e other =
     ∙ quiet_settled g three (make_report x) (Reported k) e refl refl refl
     ∙ quiet_settled g past (Finish x) (reply g past (Finish x)) e refl refl refl
 
--- the journal with a send of this answer and its arrivals
+-- the journal with a send of this answer and what follows it
 abbrev sent_by : Group → Entity → List Entry → Reply → List Entry
-sent_by g x past answer = journal_by g (arrivals_of [] answer) (entry_of (Send x) answer ∷ past)
+sent_by g x past answer = journal_by g (follow_ups_of g [] (entry_of (Send x) answer ∷ past) answer) (entry_of (Send x) answer ∷ past)
 
-unsent_by : (g : Group) (x : Entity) (past : List Entry) (answer : Reply) → arrivals_of [] answer ≡ [] → sent_by g x past answer ≡ entry_of (Send x) answer ∷ past
+unsent_by : (g : Group) (x : Entity) (past : List Entry) (answer : Reply) → follow_ups_of g [] (entry_of (Send x) answer ∷ past) answer ≡ [] → sent_by g x past answer ≡ entry_of (Send x) answer ∷ past
 unsent_by g x past answer none = ap (λ (events : List Event). journal_by g events (entry_of (Send x) answer ∷ past)) none
 
-other_sent : (g : Group) (past : List Entry) (x e : Entity) (n : ℕ) (answer : Reply) → Answers n answer → is_settled g (sent_by g x past answer) e ≡ is_settled g past e
+other_sent : (g : Group) (past : List Entry) (x e : Entity) (n : ℕ) (answer : Reply) → Answers g x past n answer → is_settled g (sent_by g x past answer) e ≡ is_settled g past e
 other_sent g past x e n answer (inl is) =
     let one = entry_of (Send x) (Sent n) ∷ past in
     ap (λ (a : Reply). is_settled g (sent_by g x past a) e) is
@@ -225,7 +225,7 @@ pub record Settles (g : Group) (e : Entity) (before after : List Entry) : Type 0
   -- it stays settled
   pub kept : is_settled g before e ≡ true → is_settled g after e ≡ true
 
-own_turn : (g : Group) (past : List Entry) (e : Entity) (answer : Reply) → Answers (length (commands g past) + 1) answer → is_spoiled g past e ≡ false → IsLegal g (ended_by g [] e (sent_by g e past answer)) → Settles g e past (ended_by g [] e (sent_by g e past answer))
+own_turn : (g : Group) (past : List Entry) (e : Entity) (answer : Reply) → Answers g e past (length (commands g past) + 1) answer → is_spoiled g past e ≡ false → IsLegal g (ended_by g [] e (sent_by g e past answer)) → Settles g e past (ended_by g [] e (sent_by g e past answer))
 own_turn g past e answer (inl is) whole =
     subst (λ (a : Reply). IsLegal g (ended_by g [] e (sent_by g e past a)) → Settles g e past (ended_by g [] e (sent_by g e past a))) (sym is)
     (λ legal. let settled = own_sent g past e (length (commands g past) + 1) refl whole legal in record { sent = λ more. settled; kept = λ was. settled })
@@ -239,12 +239,12 @@ own_turn g past e answer (inr not_sent) whole =
     unsent_once : (same sent : Bool) (n : ℕ) → sent ≡ false → n < (if same && sent then n + 1 else n) → ⊥
     unsent_once same sent n none more = let still : n < n = rw (none, and_false same) at more in omega (arith, still)
 
-other_turn : (g : Group) (past : List Entry) (x e : Entity) (n : ℕ) (answer : Reply) → Answers n answer → is_same_entity x e ≡ false → Settles g e past (ended_by g [] x (sent_by g x past answer))
+other_turn : (g : Group) (past : List Entry) (x e : Entity) (n : ℕ) (answer : Reply) → Answers g x past n answer → is_same_entity x e ≡ false → Settles g e past (ended_by g [] x (sent_by g x past answer))
 other_turn g past x e n answer answers other =
     let same = other_ended g (sent_by g x past answer) x e other ∙ other_sent g past x e n answer answers in
     record { sent = λ more. absurd (omega (arith, more, once n answer answers)); kept = λ was. same ∙ was }
   where
-    once : (n : ℕ) (answer : Reply) → Answers n answer → sendings (sent_by g x past answer) e ≡ sendings past e
+    once : (n : ℕ) (answer : Reply) → Answers g x past n answer → sendings (sent_by g x past answer) e ≡ sendings past e
     once n answer (inl is) = ap (λ (a : Reply). sendings (sent_by g x past a) e) is ∙ rw other refl
     once n answer (inr not_sent) = ap (λ (journal : List Entry). sendings journal e) (unsent_by g x past answer not_sent.0) ∙ rw other refl
 
@@ -261,7 +261,7 @@ turn_unspoiled g past x e whole = ended (told_by g [] (Send x) past) (begun (len
     ended : (journal : List Entry) → is_spoiled g journal e ≡ false → is_spoiled g (ended_by g [] x journal) e ≡ false
     ended journal unharmed = rw unharmed refl
 
-    begun : (n : ℕ) (answer : Reply) → Answers n answer → is_spoiled g (sent_by g x past answer) e ≡ false
+    begun : (n : ℕ) (answer : Reply) → Answers g x past n answer → is_spoiled g (sent_by g x past answer) e ≡ false
     begun n answer (inl is) = ap (λ (a : Reply). is_spoiled g (sent_by g x past a) e) is ∙ rw whole refl
     begun n answer (inr not_sent) = ap (λ (journal : List Entry). is_spoiled g journal e) (unsent_by g x past answer not_sent.0) ∙ rw whole refl
 
@@ -282,23 +282,23 @@ goes_on false end stays going = refl
 
 -- turns that meet no full journal settle each entity that they send a command, and keep the settled ones, where the entity has not failed
 -- since its last finish
-pub turns_settle : (g : Group) (run : Course) (es : List Entity) (e : Entity) → IsLegal g run.past → All (IsEntityOf g) es → is_spoiled g run.past e ≡ false → (turns g [] run es).stopped ≡ false → Settles g e run.past (turns g [] run es).past
-turns_settle g run [] e legal own unharmed going = record { sent = λ more. absurd (omega (arith, more)); kept = λ was. was }
-turns_settle g run (x ∷ es) e legal own unharmed going =
-    let next = turn g [] run x in
+pub turns_settle : (g : Group) (course : Course) (es : List Entity) (e : Entity) → IsLegal g course.past → All (IsEntityOf g) es → is_spoiled g course.past e ≡ false → (turns g [] course es).stopped ≡ false → Settles g e course.past (turns g [] course es).past
+turns_settle g course [] e legal own unharmed going = record { sent = λ more. absurd (omega (arith, more)); kept = λ was. was }
+turns_settle g course (x ∷ es) e legal own unharmed going =
+    let next = turn g [] course x in
     let goes : next.stopped ≡ false = goes_on next.stopped (turns g [] next es).stopped (λ stop. ap (λ (r : Course). r.stopped) (turns-stopped g [] next es stop) ∙ stop) going in
-    let whole = turn-whole g [] run x goes in
-    let legal_next = turn-legal g [] run x legal (All-head (IsEntityOf g) x es own) in
-    let here = turn_by_settles g run.past x e (is_same_entity x e) refl unharmed (subst (λ (journal : List Entry). IsLegal g journal) whole.1 legal_next) in
-    let unharmed_next = ap (λ (journal : List Entry). is_spoiled g journal e) whole.1 ∙ turn_unspoiled g run.past x e unharmed in
-    settles_both g e run.past next.past (turns g [] next es).past (subst (λ (journal : List Entry). Settles g e run.past journal) (sym whole.1) here)
+    let whole = turn-whole g [] course x goes in
+    let legal_next = turn-legal g [] course x legal (All-head (IsEntityOf g) x es own) in
+    let here = turn_by_settles g course.past x e (is_same_entity x e) refl unharmed (subst (λ (journal : List Entry). IsLegal g journal) whole.1 legal_next) in
+    let unharmed_next = ap (λ (journal : List Entry). is_spoiled g journal e) whole.1 ∙ turn_unspoiled g course.past x e unharmed in
+    settles_both g e course.past next.past (turns g [] next es).past (subst (λ (journal : List Entry). Settles g e course.past journal) (sym whole.1) here)
     (turns_settle g next es e legal_next (All-tail (IsEntityOf g) x es own) unharmed_next going)
 
 -- over a loss plan without lines, an entity that a round sends a command, and that never failed, is settled behind the round
 pub round_settles : (g : Group) (past made : List Entry) → IsLegal g past → round g [] past ≡ record { past = made ++ past; stopped = false } → (e : Entity) → WasSent made e → NeverFailed (made ++ past) e → is_settled g (made ++ past) e ≡ true
 round_settles g past made legal is e sent never =
     let unharmed = unspoiled g past e (never_failed_before made past e never) in
-    let settles = turns_settle g (run_from past) (unsettled g past) e legal (unsettled_fit g past) unharmed (ap (λ (r : Course). r.stopped) is) in
+    let settles = turns_settle g (course_from past) (unsettled g past) e legal (unsettled_fit g past) unharmed (ap (λ (r : Course). r.stopped) is) in
     let all = subst (λ (journal : List Entry). Settles g e past journal) (ap (λ (r : Course). r.past) is) settles in
     all.sent (sent_counts made past e sent)
 
@@ -306,6 +306,6 @@ round_settles g past made legal is e sent never =
 pub round_made : (g : Group) (lines : List WireLine) (past whole : List Entry) → IsLegal g past → round g lines past ≡ record { past = whole; stopped = false } → (made : List Entry) × (whole ≡ made ++ past) × (lines ≡ [] → (e : Entity) → WasSent made e → NeverFailed whole e → is_settled g whole e ≡ true)
 round_made g lines past whole legal is =
     let grows : IsBeginning past whole = subst (λ (journal : List Entry). IsBeginning past journal) (ap (λ (r : Course). r.past) is) (round-grows g lines past) in
-    let run : run_from whole ≡ run_from (grows.0 ++ past) = ap run_from grows.1 in
-    let settled = λ (none : lines ≡ []) (e : Entity) (sent : WasSent grows.0 e). round_settles g past grows.0 legal (ap (λ (l : List WireLine). round g l past) (sym none) ∙ is ∙ run) e sent in
+    let course : course_from whole ≡ course_from (grows.0 ++ past) = ap course_from grows.1 in
+    let settled = λ (none : lines ≡ []) (e : Entity) (sent : WasSent grows.0 e). round_settles g past grows.0 legal (ap (λ (l : List WireLine). round g l past) (sym none) ∙ is ∙ course) e sent in
     (grows.0, grows.1, λ none e sent. subst (λ (journal : List Entry). NeverFailed journal e → is_settled g journal e ≡ true) (sym grows.1) (settled none e sent))

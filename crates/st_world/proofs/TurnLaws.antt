@@ -26,7 +26,7 @@ use Rattle.st_wire.specs.Deliveries.{deliveries}
 use Rattle.st_wire.proofs.DeliveryLaws.{few_deliveries}
 use Rattle.st_world.specs.declared.world.rounds.Going.{Going}
 use Rattle.st_world.specs.World.{WorldView, IsBeginning}
-use Rattle.st_world.specs.Rounds.{Course, enter, enter_all, arrivals_of, newest_arrivals, enter_told, update_turn, poll, turn, Goes, IsPartOf}
+use Rattle.st_world.specs.Rounds.{Course, enter, enter_all, follow_ups_of, follow_ups, enter_told, update_turn, poll, turn, Goes, IsPartOf}
 use Rattle.st_world.specs.Acts.{checked_while, proposed, with_room}
 use Rattle.st_world.proofs.RunLaws.{entered, beginning-self}
 
@@ -36,52 +36,52 @@ use Rattle.st_world.proofs.RunLaws.{entered, beginning-self}
 pub beginning-length : (past whole : List Entry) → IsBeginning past whole → length past ≤ length whole
 beginning-length past whole begins = omega (arith, ap length begins.1, length-append begins.0 past)
 
-entered-length : (run : Course) (entry : Entry) (stopped room : Bool) → length (entered run entry stopped room).past ≤ length run.past + 1
-entered-length run entry true room = omega arith
-entered-length run entry false true = omega arith
-entered-length run entry false false = omega arith
+entered-length : (course : Course) (entry : Entry) (stopped room : Bool) → length (entered course entry stopped room).past ≤ length course.past + 1
+entered-length course entry true room = omega arith
+entered-length course entry false true = omega arith
+entered-length course entry false false = omega arith
 
-pub enter-length : (g : Group) (run : Course) (event : Event) → length (enter g run event).past ≤ length run.past + 1
-enter-length g run event = entered-length run (entry_after g run.past event) run.stopped (nat_lt (length run.past) MAX_ENTRIES)
+pub enter-length : (g : Group) (course : Course) (event : Event) → length (enter g course event).past ≤ length course.past + 1
+enter-length g course event = entered-length course (entry_after g course.past event) course.stopped (nat_lt (length course.past) MAX_ENTRIES)
 
-pub enter_all-length : (g : Group) (run : Course) (events : List Event) → length (enter_all g run events).past ≤ length run.past + length events
-enter_all-length g run [] = omega arith
-enter_all-length g run (event ∷ events) =
-    let first = enter-length g run event in
-    let rest = enter_all-length g (enter g run event) events in
+pub enter_all-length : (g : Group) (course : Course) (events : List Event) → length (enter_all g course events).past ≤ length course.past + length events
+enter_all-length g course [] = omega arith
+enter_all-length g course (event ∷ events) =
+    let first = enter-length g course event in
+    let rest = enter_all-length g (enter g course event) events in
     omega (arith, first, rest)
 
-arrivals-length : (lines : List WireLine) (reply : Reply) → length (arrivals_of lines reply) ≤ 1 + length lines
-arrivals-length lines (Sent n) = let few = few_deliveries lines command_kind n in omega (arith, few, length-map (deliveries lines command_kind n) Deliver)
-arrivals-length lines (Reported n) = let few = few_deliveries lines report_kind n in omega (arith, few, length-map (deliveries lines report_kind n) Hear)
-arrivals-length lines _ = omega arith
+follow_ups_of-length : (g : Group) (lines : List WireLine) (past : List Entry) (reply : Reply) → length (follow_ups_of g lines past reply) ≤ 1 + length lines
+follow_ups_of-length g lines past (Sent n) = let few = few_deliveries lines command_kind n in omega (arith, few, length-map (deliveries lines command_kind n) Deliver)
+follow_ups_of-length g lines past (Reported n) = let few = few_deliveries lines report_kind n in omega (arith, few, length-map (deliveries lines report_kind n) Hear)
+follow_ups_of-length g lines past _ = omega arith
 
-newest_arrivals-length : (lines : List WireLine) (past : List Entry) → length (newest_arrivals lines past) ≤ 1 + length lines
-newest_arrivals-length lines [] = omega arith
-newest_arrivals-length lines (entry ∷ past) = arrivals-length lines entry.reply
+follow_ups-length : (g : Group) (lines : List WireLine) (past : List Entry) → length (follow_ups g lines past) ≤ 1 + length lines
+follow_ups-length g lines [] = omega arith
+follow_ups-length g lines (entry ∷ past) = follow_ups_of-length g lines (entry ∷ past) entry.reply
 
-pub enter_told-length : (g : Group) (lines : List WireLine) (run : Course) (event : Event) → length (enter_told g lines run event).past ≤ length run.past + (2 + length lines)
-enter_told-length g lines run event =
-    let next = enter g run event in
-    let first = enter-length g run event in
-    let rest = enter_all-length g next (newest_arrivals lines next.past) in
-    let few = newest_arrivals-length lines next.past in
+pub enter_told-length : (g : Group) (lines : List WireLine) (course : Course) (event : Event) → length (enter_told g lines course event).past ≤ length course.past + (2 + length lines)
+enter_told-length g lines course event =
+    let next = enter g course event in
+    let first = enter-length g course event in
+    let rest = enter_all-length g next (follow_ups g lines next.past) in
+    let few = follow_ups-length g lines next.past in
     omega (arith, first, rest, few)
 
-pub poll-length : (g : Group) (lines : List WireLine) (run : Course) (e : Entity) → length (poll g lines run e).past ≤ length run.past + (2 + length lines)
-poll-length g lines run e = enter_told-length g lines run (make_report e)
+pub poll-length : (g : Group) (lines : List WireLine) (course : Course) (e : Entity) → length (poll g lines course e).past ≤ length course.past + (2 + length lines)
+poll-length g lines course e = enter_told-length g lines course (make_report e)
 
-pub update_turn-length : (g : Group) (lines : List WireLine) (run : Course) (e : Entity) → length (update_turn g lines run e).past ≤ length run.past + (3 + length lines)
-update_turn-length g lines run e =
-    let told = enter_told g lines run (Send e) in
-    let first = enter_told-length g lines run (Send e) in
+pub update_turn-length : (g : Group) (lines : List WireLine) (course : Course) (e : Entity) → length (update_turn g lines course e).past ≤ length course.past + (3 + length lines)
+update_turn-length g lines course e =
+    let told = enter_told g lines course (Send e) in
+    let first = enter_told-length g lines course (Send e) in
     let last = enter-length g told (Finish e) in
     omega (arith, first, last)
 
-pub turn-length : (g : Group) (lines : List WireLine) (run : Course) (e : Entity) → length (turn g lines run e).past ≤ length run.past + (5 + 2 * length lines)
-turn-length g lines run e =
-    let first = update_turn-length g lines run e in
-    let last = poll-length g lines (update_turn g lines run e) e in
+pub turn-length : (g : Group) (lines : List WireLine) (course : Course) (e : Entity) → length (turn g lines course e).past ≤ length course.past + (5 + 2 * length lines)
+turn-length g lines course e =
+    let first = update_turn-length g lines course e in
+    let last = poll-length g lines (update_turn g lines course e) e in
     omega (arith, first, last)
 
 -- what is overlaid
@@ -108,7 +108,7 @@ no_check-accepts (entry ∷ made) past none = by_check (is_check entry.event) re
     by_check true is some rest = absurd (omega (arith, some))
     by_check false is none rest = overlays_same (made ++ past) entry (accepts_none entry.event entry.reply is) ∙ rest none
 
--- a part of a run that makes no check overlays nothing
+-- a part of a course that makes no check overlays nothing
 pub part-accepts : (past new whole : List Entry) → check_count whole ≡ check_count past → IsBeginning past new → IsBeginning new whole → overlays new ≡ overlays past
 part-accepts past new whole same began part =
     let made = began.0 in
@@ -122,85 +122,85 @@ part-accepts past new whole same began part =
 abbrev IsNoCheck : Event → Type 0
 IsNoCheck event = is_check event ≡ false
 
-entered-checks : (run : Course) (entry : Entry) (stopped room : Bool) → IsNoCheck entry.event → check_count (entered run entry stopped room).past ≡ check_count run.past
-entered-checks run entry true room none = refl
-entered-checks run entry false true none = rw none refl
-entered-checks run entry false false none = refl
+entered-checks : (course : Course) (entry : Entry) (stopped room : Bool) → IsNoCheck entry.event → check_count (entered course entry stopped room).past ≡ check_count course.past
+entered-checks course entry true room none = refl
+entered-checks course entry false true none = rw none refl
+entered-checks course entry false false none = refl
 
-pub enter-checks : (g : Group) (run : Course) (event : Event) → is_check event ≡ false → check_count (enter g run event).past ≡ check_count run.past
-enter-checks g run event none = entered-checks run (entry_after g run.past event) run.stopped (nat_lt (length run.past) MAX_ENTRIES) none
+pub enter-checks : (g : Group) (course : Course) (event : Event) → is_check event ≡ false → check_count (enter g course event).past ≡ check_count course.past
+enter-checks g course event none = entered-checks course (entry_after g course.past event) course.stopped (nat_lt (length course.past) MAX_ENTRIES) none
 
-enter_all-checks : (g : Group) (run : Course) (events : List Event) → All IsNoCheck events → check_count (enter_all g run events).past ≡ check_count run.past
-enter_all-checks g run [] none = refl
-enter_all-checks g run (event ∷ events) none =
-    enter_all-checks g (enter g run event) events (All-tail IsNoCheck event events none) ∙ enter-checks g run event (All-head IsNoCheck event events none)
+enter_all-checks : (g : Group) (course : Course) (events : List Event) → All IsNoCheck events → check_count (enter_all g course events).past ≡ check_count course.past
+enter_all-checks g course [] none = refl
+enter_all-checks g course (event ∷ events) none =
+    enter_all-checks g (enter g course event) events (All-tail IsNoCheck event events none) ∙ enter-checks g course event (All-head IsNoCheck event events none)
 
-arrivals-checks : (lines : List WireLine) (reply : Reply) → All IsNoCheck (arrivals_of lines reply)
-arrivals-checks lines (Sent n) = All-map IsNoCheck Deliver (deliveries lines command_kind n) (λ k d low. refl)
-arrivals-checks lines (Reported n) = All-map IsNoCheck Hear (deliveries lines report_kind n) (λ k d low. refl)
-arrivals-checks lines _ = All-nil IsNoCheck
+follow_ups_of-checks : (g : Group) (lines : List WireLine) (past : List Entry) (reply : Reply) → All IsNoCheck (follow_ups_of g lines past reply)
+follow_ups_of-checks g lines past (Sent n) = All-map IsNoCheck Deliver (deliveries lines command_kind n) (λ k d low. refl)
+follow_ups_of-checks g lines past (Reported n) = All-map IsNoCheck Hear (deliveries lines report_kind n) (λ k d low. refl)
+follow_ups_of-checks g lines past _ = All-nil IsNoCheck
 
-newest_arrivals-checks : (lines : List WireLine) (past : List Entry) → All IsNoCheck (newest_arrivals lines past)
-newest_arrivals-checks lines [] = All-nil IsNoCheck
-newest_arrivals-checks lines (entry ∷ past) = arrivals-checks lines entry.reply
+follow_ups-checks : (g : Group) (lines : List WireLine) (past : List Entry) → All IsNoCheck (follow_ups g lines past)
+follow_ups-checks g lines [] = All-nil IsNoCheck
+follow_ups-checks g lines (entry ∷ past) = follow_ups_of-checks g lines (entry ∷ past) entry.reply
 
-enter_told-checks : (g : Group) (lines : List WireLine) (run : Course) (event : Event) → is_check event ≡ false → check_count (enter_told g lines run event).past ≡ check_count run.past
-enter_told-checks g lines run event none =
-    let next = enter g run event in
-    enter_all-checks g next (newest_arrivals lines next.past) (newest_arrivals-checks lines next.past) ∙ enter-checks g run event none
+enter_told-checks : (g : Group) (lines : List WireLine) (course : Course) (event : Event) → is_check event ≡ false → check_count (enter_told g lines course event).past ≡ check_count course.past
+enter_told-checks g lines course event none =
+    let next = enter g course event in
+    enter_all-checks g next (follow_ups g lines next.past) (follow_ups-checks g lines next.past) ∙ enter-checks g course event none
 
-pub poll-checks : (g : Group) (lines : List WireLine) (run : Course) (e : Entity) → check_count (poll g lines run e).past ≡ check_count run.past
-poll-checks g lines run e = enter_told-checks g lines run (make_report e) refl
+pub poll-checks : (g : Group) (lines : List WireLine) (course : Course) (e : Entity) → check_count (poll g lines course e).past ≡ check_count course.past
+poll-checks g lines course e = enter_told-checks g lines course (make_report e) refl
 
-pub update_turn-checks : (g : Group) (lines : List WireLine) (run : Course) (e : Entity) → check_count (update_turn g lines run e).past ≡ check_count run.past
-update_turn-checks g lines run e = enter-checks g (enter_told g lines run (Send e)) (Finish e) refl ∙ enter_told-checks g lines run (Send e) refl
+pub update_turn-checks : (g : Group) (lines : List WireLine) (course : Course) (e : Entity) → check_count (update_turn g lines course e).past ≡ check_count course.past
+update_turn-checks g lines course e = enter-checks g (enter_told g lines course (Send e)) (Finish e) refl ∙ enter_told-checks g lines course (Send e) refl
 
-pub turn-checks : (g : Group) (lines : List WireLine) (run : Course) (e : Entity) → check_count (turn g lines run e).past ≡ check_count run.past
-turn-checks g lines run e = poll-checks g lines (update_turn g lines run e) e ∙ update_turn-checks g lines run e
+pub turn-checks : (g : Group) (lines : List WireLine) (course : Course) (e : Entity) → check_count (turn g lines course e).past ≡ check_count course.past
+turn-checks g lines course e = poll-checks g lines (update_turn g lines course e) e ∙ update_turn-checks g lines course e
 
 -- so they overlay nothing, nor does a part of them
 
-pub enter-accepts : (g : Group) (run : Course) (event : Event) (new : List Entry) → is_check event ≡ false → IsBeginning run.past new → IsBeginning new (enter g run event).past → overlays new ≡ overlays run.past
-enter-accepts g run event new none began part = part-accepts run.past new (enter g run event).past (enter-checks g run event none) began part
+pub enter-accepts : (g : Group) (course : Course) (event : Event) (new : List Entry) → is_check event ≡ false → IsBeginning course.past new → IsBeginning new (enter g course event).past → overlays new ≡ overlays course.past
+enter-accepts g course event new none began part = part-accepts course.past new (enter g course event).past (enter-checks g course event none) began part
 
-pub poll-accepts : (g : Group) (lines : List WireLine) (run : Course) (e : Entity) (new : List Entry) → IsBeginning run.past new → IsBeginning new (poll g lines run e).past → overlays new ≡ overlays run.past
-poll-accepts g lines run e new began part = part-accepts run.past new (poll g lines run e).past (poll-checks g lines run e) began part
+pub poll-accepts : (g : Group) (lines : List WireLine) (course : Course) (e : Entity) (new : List Entry) → IsBeginning course.past new → IsBeginning new (poll g lines course e).past → overlays new ≡ overlays course.past
+poll-accepts g lines course e new began part = part-accepts course.past new (poll g lines course e).past (poll-checks g lines course e) began part
 
-pub update_turn-accepts : (g : Group) (lines : List WireLine) (run : Course) (e : Entity) (new : List Entry) → IsBeginning run.past new → IsBeginning new (update_turn g lines run e).past → overlays new ≡ overlays run.past
-update_turn-accepts g lines run e new began part = part-accepts run.past new (update_turn g lines run e).past (update_turn-checks g lines run e) began part
+pub update_turn-accepts : (g : Group) (lines : List WireLine) (course : Course) (e : Entity) (new : List Entry) → IsBeginning course.past new → IsBeginning new (update_turn g lines course e).past → overlays new ≡ overlays course.past
+update_turn-accepts g lines course e new began part = part-accepts course.past new (update_turn g lines course e).past (update_turn-checks g lines course e) began part
 
-pub turn-accepts : (g : Group) (lines : List WireLine) (run : Course) (e : Entity) (new : List Entry) → IsBeginning run.past new → IsBeginning new (turn g lines run e).past → overlays new ≡ overlays run.past
-turn-accepts g lines run e new began part = part-accepts run.past new (turn g lines run e).past (turn-checks g lines run e) began part
+pub turn-accepts : (g : Group) (lines : List WireLine) (course : Course) (e : Entity) (new : List Entry) → IsBeginning course.past new → IsBeginning new (turn g lines course e).past → overlays new ≡ overlays course.past
+turn-accepts g lines course e new began part = part-accepts course.past new (turn g lines course e).past (turn-checks g lines course e) began part
 
--- a run that was gone through is a part of itself
-pub goes_part : (old new : WorldView) (run : Course) (going : Going) → IsBeginning old.history.past run.past → Goes new run going → IsPartOf old new run
-goes_part old new run going grows goes =
-    let stands : run.past ≡ new.history.past = ap (λ (r : Course). r.past) (sym goes) in
+-- a course that was gone through is a part of itself
+pub goes_part : (old new : WorldView) (course : Course) (going : Going) → IsBeginning old.history.past course.past → Goes new course going → IsPartOf old new course
+goes_part old new course going grows goes =
+    let stands : course.past ≡ new.history.past = ap (λ (r : Course). r.past) (sym goes) in
     record {
       began = subst (λ (past : List Entry). IsBeginning old.history.past past) stands grows;
-      part = subst (λ (past : List Entry). IsBeginning past run.past) stands (beginning-self run.past);
+      part = subst (λ (past : List Entry). IsBeginning past course.past) stands (beginning-self course.past);
     }
 
 -- proposals and checks
 
-by_full-length : (g : Group) (run : Course) (b : Bool) → length (if b then enter g run Check else run).past ≤ length run.past + 1
-by_full-length g run true = enter-length g run Check
-by_full-length g run false = omega arith
+by_full-length : (g : Group) (course : Course) (b : Bool) → length (if b then enter g course Check else course).past ≤ length course.past + 1
+by_full-length g course true = enter-length g course Check
+by_full-length g course false = omega arith
 
-pub with_room-length : (g : Group) (run : Course) → length (with_room g run).past ≤ length run.past + 1
-with_room-length g run = by_full-length g run (length (pending run.past) == MAX_PENDING)
+pub with_room-length : (g : Group) (course : Course) → length (with_room g course).past ≤ length course.past + 1
+with_room-length g course = by_full-length g course (length (pending course.past) == MAX_PENDING)
 
-pub proposed-length : (g : Group) (run : Course) (app : AppId) (rows : List Row) → length (proposed g run app rows).past ≤ length run.past + 2
-proposed-length g run app rows =
-    let first = with_room-length g run in
-    let last = enter-length g (with_room g run) (Submit app rows) in
+pub proposed-length : (g : Group) (course : Course) (app : AppId) (rows : List Row) → length (proposed g course app rows).past ≤ length course.past + 2
+proposed-length g course app rows =
+    let first = with_room-length g course in
+    let last = enter-length g (with_room g course) (Submit app rows) in
     omega (arith, first, last)
 
-pub while-length : (g : Group) (waits : List Proposal → Bool) (n : ℕ) (run : Course) → length (checked_while g waits n run).past ≤ length run.past + n
+pub while-length : (g : Group) (waits : List Proposal → Bool) (n : ℕ) (course : Course) → length (checked_while g waits n course).past ≤ length course.past + n
 unfolding checked_while
-while-length g waits zero run = omega arith
-while-length g waits (suc n) run = by_waiting (waits (pending run.past)) (while-length g waits n (enter g run Check)) (enter-length g run Check)
+while-length g waits zero course = omega arith
+while-length g waits (suc n) course = by_waiting (waits (pending course.past)) (while-length g waits n (enter g course Check)) (enter-length g course Check)
   where
-    by_waiting : (b : Bool) → length (checked_while g waits n (enter g run Check)).past ≤ length (enter g run Check).past + n → length (enter g run Check).past ≤ length run.past + 1 → length (if b then checked_while g waits n (enter g run Check) else run).past ≤ length run.past + suc n
+    by_waiting : (b : Bool) → length (checked_while g waits n (enter g course Check)).past ≤ length (enter g course Check).past + n → length (enter g course Check).past ≤ length course.past + 1 → length (if b then checked_while g waits n (enter g course Check) else course).past ≤ length course.past + suc n
     by_waiting true rest first = omega (arith, rest, first)
     by_waiting false rest first = omega arith

@@ -24,12 +24,12 @@ use Rattle.st_event.specs.Moments.{vals}
 use Rattle.st_event.specs.Proposals.{pending, version, target}
 use Rattle.st_event.specs.Versions.{value_at}
 use Rattle.st_wire.specs.declared.line.WireLine.{WireLine}
-use Rattle.st_world.specs.Rounds.{Course, run_from, enter, poll, turns, unsettled}
+use Rattle.st_world.specs.Rounds.{Course, course_from, enter, poll, turns, unsettled}
 
 -- checks, at most n, while what is pending passes
 unfoldable pub checked_while : Group → (List Proposal → Bool) → ℕ → Course → Course
-checked_while g waits zero run = run
-checked_while g waits (suc n) run = if waits (pending run.past) then checked_while g waits n (enter g run Check) else run
+checked_while g waits zero course = course
+checked_while g waits (suc n) course = if waits (pending course.past) then checked_while g waits n (enter g course Check) else course
 
 -- whether something is pending, and whether something of an application is. The oldest is decided first: so an application's latest proposal is
 -- pending exactly where some of its proposals is
@@ -42,18 +42,18 @@ has_one_of app ps = list_any (λ p. p.app.0 == app.0) ps
 
 -- checks while something is pending, and while something of an application is: no more than 64 proposals are
 abbrev pub all_checked : Group → Course → Course
-all_checked g run = checked_while g is_something MAX_PENDING run
+all_checked g course = checked_while g is_something MAX_PENDING course
 
 abbrev pub awaited : Group → Course → AppId → Course
-awaited g run app = checked_while g (has_one_of app) MAX_PENDING run
+awaited g course app = checked_while g (has_one_of app) MAX_PENDING course
 
 -- a check first where 64 proposals are pending
 abbrev pub with_room : Group → Course → Course
-with_room g run = if length (pending run.past) == MAX_PENDING then enter g run Check else run
+with_room g course = if length (pending course.past) == MAX_PENDING then enter g course Check else course
 
 -- a proposal, for which there is room
 abbrev pub proposed : Group → Course → AppId → List Row → Course
-proposed g run app rows = enter g (with_room g run) (Submit app rows)
+proposed g course app rows = enter g (with_room g course) (Submit app rows)
 
 -- rounds, at most n, while some entity is not settled
 abbrev pub is_none_left : List Entity → Bool
@@ -61,8 +61,8 @@ is_none_left [] = true
 is_none_left (e ∷ es) = false
 
 unfoldable pub rounds_done : Group → List WireLine → ℕ → Course → Course
-rounds_done g lines zero run = run
-rounds_done g lines (suc n) run = if is_none_left (unsettled g run.past) then run else rounds_done g lines n (turns g lines run (unsettled g run.past))
+rounds_done g lines zero course = course
+rounds_done g lines (suc n) course = if is_none_left (unsettled g course.past) then course else rounds_done g lines n (turns g lines course (unsettled g course.past))
 
 -- what an entity's values become where these rows name some of them: the others stay
 abbrev pub failed_vals : Entity → Vals → List Row → Vals
@@ -70,7 +70,7 @@ failed_vals e vals rows = vals_by e vals (λ v. unwrap_or (row_on rows e v) (val
 
 -- the entity changes of itself: to this health, and to the values that rows name
 abbrev pub failed : Group → Course → Entity → ℕ → List Row → Course
-failed g run e health rows = enter g run (fail_event e (failed_vals e (vals g run.past e) rows) health)
+failed g course e health rows = enter g course (fail_event e (failed_vals e (vals g course.past e) rows) health)
 
 -- the group of an act
 abbrev pub group_number : Act → ℕ
@@ -86,19 +86,19 @@ group_number (Poll n entity) = n
 
 -- what an act of an application makes of its group, whose loss plan has these lines
 abbrev pub course_of : AppId → Act → Group → List WireLine → Course → Course
-course_of app (Propose n rows) g lines run = proposed g run app rows
-course_of app (Await n) g lines run = awaited g run app
-course_of app (Settle n rounds) g lines run = rounds_done g lines rounds run
-course_of app (Lock n entity prio) g lines run = enter g run (lock_event app entity prio)
-course_of app (Unlock n entity prio) g lines run = enter g run (unlock_event app entity prio)
-course_of app (Fail n entity health rows) g lines run = failed g run entity health rows
-course_of app (Poll n entity) g lines run = poll g lines run entity
-course_of app (Read n entity var) g lines run = run
-course_of app (ReadAt n version entity var) g lines run = run
+course_of app (Propose n rows) g lines course = proposed g course app rows
+course_of app (Await n) g lines course = awaited g course app
+course_of app (Settle n rounds) g lines course = rounds_done g lines rounds course
+course_of app (Lock n entity prio) g lines course = enter g course (lock_event app entity prio)
+course_of app (Unlock n entity prio) g lines course = enter g course (unlock_event app entity prio)
+course_of app (Fail n entity health rows) g lines course = failed g course entity health rows
+course_of app (Poll n entity) g lines course = poll g lines course entity
+course_of app (Read n entity var) g lines course = course
+course_of app (ReadAt n version entity var) g lines course = course
 
 -- and from where its group stands
 abbrev pub act_course : AppId → Act → History → List WireLine → Course
-act_course app act h lines = course_of app act h.group lines (run_from h.past)
+act_course app act h lines = course_of app act h.group lines (course_from h.past)
 
 -- what is seen of a variable: its value in the target now, and at a version, if there is that version
 abbrev pub seen_now : History → Entity → Var → LogSaw

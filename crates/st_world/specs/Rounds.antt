@@ -28,64 +28,65 @@ pub record Course : Type 0 where
   pub past : List Entry
   pub stopped : Bool
 
-abbrev pub run_from : List Entry → Course
-run_from past = record { past = past; stopped = false }
+abbrev pub course_from : List Entry → Course
+course_from past = record { past = past; stopped = false }
 
 -- an event with its reply, where there is room
 abbrev pub enter : Group → Course → Event → Course
-enter g run event =
-    if run.stopped then run else (if nat_lt (length run.past) MAX_ENTRIES then record { past = entry_after g run.past event ∷ run.past; stopped = false } else record { past = run.past; stopped = true })
+enter g course event =
+    if course.stopped then course else (if nat_lt (length course.past) MAX_ENTRIES then record { past = entry_after g course.past event ∷ course.past; stopped = false } else record { past = course.past; stopped = true })
 
 abbrev pub enter_all : Group → Course → List Event → Course
-enter_all g run [] = run
-enter_all g run (event ∷ events) = enter_all g (enter g run event) events
+enter_all g course [] = course
+enter_all g course (event ∷ events) = enter_all g (enter g course event) events
 
--- the arrivals that a reply calls for: those of the turn of the message that was sent or made
-abbrev pub arrivals_of : List WireLine → Reply → List Event
-arrivals_of lines (Sent n) = map Deliver (deliveries lines command_kind n)
-arrivals_of lines (Reported n) = map Hear (deliveries lines report_kind n)
-arrivals_of lines (Queued ticket) = []
-arrivals_of lines (full_queue pending) = []
-arrivals_of lines (Decided receipt) = []
-arrivals_of lines Idle = []
-arrivals_of lines Granted = []
-arrivals_of lines (Held holder) = []
-arrivals_of lines Released = []
-arrivals_of lines (NotYours holder) = []
-arrivals_of lines Settled = []
-arrivals_of lines (Blocked row) = []
-arrivals_of lines Begun = []
-arrivals_of lines (Stale fence) = []
-arrivals_of lines (NoSuch made) = []
-arrivals_of lines Done = []
-arrivals_of lines NotBusy = []
-arrivals_of lines Taken = []
-arrivals_of lines (Old kept) = []
-arrivals_of lines Changed = []
+-- what follows an entry of this reply, the newest of the journal: the arrivals of the turn of the message that was sent or made
+abbrev pub follow_ups_of : Group → List WireLine → List Entry → Reply → List Event
+follow_ups_of g lines past (Sent n) = map Deliver (deliveries lines command_kind n)
+follow_ups_of g lines past (Reported n) = map Hear (deliveries lines report_kind n)
+follow_ups_of g lines past (Queued ticket) = []
+follow_ups_of g lines past (full_queue pending) = []
+follow_ups_of g lines past (Decided receipt) = []
+follow_ups_of g lines past Idle = []
+follow_ups_of g lines past Granted = []
+follow_ups_of g lines past (Held holder) = []
+follow_ups_of g lines past Released = []
+follow_ups_of g lines past (NotYours holder) = []
+follow_ups_of g lines past Settled = []
+follow_ups_of g lines past (Blocked row) = []
+follow_ups_of g lines past Begun = []
+follow_ups_of g lines past (Stale fence) = []
+follow_ups_of g lines past (NoSuch made) = []
+follow_ups_of g lines past Done = []
+follow_ups_of g lines past NotBusy = []
+follow_ups_of g lines past Taken = []
+follow_ups_of g lines past (Old kept) = []
+follow_ups_of g lines past Changed = []
 
-abbrev pub newest_arrivals : List WireLine → List Entry → List Event
-newest_arrivals lines [] = []
-newest_arrivals lines (entry ∷ past) = arrivals_of lines entry.reply
+-- what follows the newest entry
+abbrev pub follow_ups : Group → List WireLine → List Entry → List Event
+follow_ups g lines [] = []
+follow_ups g lines (entry ∷ past) = follow_ups_of g lines (entry ∷ past) entry.reply
 
--- an event, and then the arrivals that its reply calls for
+-- an event, and then what follows its entry
 abbrev pub enter_told : Group → List WireLine → Course → Event → Course
-enter_told g lines run event = let next = enter g run event in enter_all g next (newest_arrivals lines next.past)
+enter_told g lines course event = let next = enter g course event in enter_all g next (follow_ups g lines next.past)
 
 -- the half of an entity's turn that updates it: Send with the arrivals of its command, and Finish
 abbrev pub update_turn : Group → List WireLine → Course → Entity → Course
-update_turn g lines run e = enter g (enter_told g lines run (Send e)) (Finish e)
+update_turn g lines course e = enter g (enter_told g lines course (Send e)) (Finish e)
 
 -- the half that monitors it: Report with the arrivals of its report
 abbrev pub poll : Group → List WireLine → Course → Entity → Course
-poll g lines run e = enter_told g lines run (make_report e)
+poll g lines course e = enter_told g lines course (make_report e)
 
 -- the turn of an entity: the one half and then the other
 abbrev pub turn : Group → List WireLine → Course → Entity → Course
-turn g lines run e = poll g lines (update_turn g lines run e) e
+turn g lines course e = poll g lines (update_turn g lines course e) e
 
 abbrev pub turns : Group → List WireLine → Course → List Entity → Course
-turns g lines run [] = run
-turns g lines run (e ∷ es) = turns g lines (turn g lines run e) es
+turns g lines course [] = course
+turns g lines course (e ∷ es) = turns g lines (turn g lines course e) es
 
 -- the entities that are not settled, in order
 abbrev pub unsettled : Group → List Entry → List Entity
@@ -93,29 +94,29 @@ unsettled g past = filter (λ e. not (is_settled g past e)) (entities_of g)
 
 -- a round: the turns of the entities that are not settled at its start
 abbrev pub round : Group → List WireLine → List Entry → Course
-round g lines past = turns g lines (run_from past) (unsettled g past)
+round g lines past = turns g lines (course_from past) (unsettled g past)
 
 -- all of a round was entered, and so many entities are not settled behind it; or it met a full journal
 abbrev pub Rounds : WorldView → WorldView → Rounded → Type 0
 Rounds old new (Did count) = (round old.history.group old.lines old.history.past ≡ record { past = new.history.past; stopped = false }) × (count ≡ length (unsettled new.history.group new.history.past))
 Rounds old new (JournalFull entries) = (round old.history.group old.lines old.history.past ≡ record { past = new.history.past; stopped = true }) × (entries ≡ MAX_ENTRIES)
 
--- how a run stands, by the world that made it and by whether it met a full journal
+-- how a course stands, by the world that made it and by whether it met a full journal
 abbrev pub is_full : Going → Bool
 is_full On = false
 is_full Full = true
 
-abbrev pub run_at : Going → WorldView → Course
-run_at going w = record { past = w.history.past; stopped = is_full going }
+abbrev pub course_at : Going → WorldView → Course
+course_at going w = record { past = w.history.past; stopped = is_full going }
 
--- the world has gone through a run, and it is told whether that met a full journal
+-- the world has gone through a course, and it is told whether that met a full journal
 abbrev pub Goes : WorldView → Course → Going → Type 0
-Goes new run going = run_at going new ≡ run
+Goes new course going = course_at going new ≡ course
 
--- a part of a run was entered, from its start
-pub record IsPartOf (old new : WorldView) (run : Course) : Type 0 where
+-- a part of a course was entered, from its start
+pub record IsPartOf (old new : WorldView) (course : Course) : Type 0 where
   pub began : IsBeginning old.history.past new.history.past
-  pub part : IsBeginning new.history.past run.past
+  pub part : IsBeginning new.history.past course.past
 
 -- the group and the loss plan are as before
 pub record HasSamePlant (old new : WorldView) : Type 0 where

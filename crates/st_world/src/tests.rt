@@ -8,6 +8,7 @@ mod detour;
 mod replies;
 mod steps;
 mod two_path;
+mod ups;
 
 use st_event::MAX_ENTRIES;
 use st_net::{AppId, Entity};

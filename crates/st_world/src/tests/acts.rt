@@ -11,7 +11,7 @@ use st_net::{Prio, Var};
 use std::alloc::Global;
 use std::test::Fail;
 
-/// The run went on, and the journal has so many entries then.
+/// The course went on, and the journal has so many entries then.
 fn leads(world: &World, going: Going, entries: u32) -> Result<(), Fail> {
     expect(going == Going::On && world.entries() == entries)
 }

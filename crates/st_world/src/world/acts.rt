@@ -7,7 +7,7 @@ ghost use Rattle.st_net.specs.Ranges.{RowsFit, IsChangeOf};
 ghost use Rattle.st_event.specs.declared.event.Event.TheVariants.{Lock as lock_event, Unlock as unlock_event};
 ghost use Rattle.st_event.specs.Proposals.{pending};
 ghost use Rattle.st_world.specs.Acts.{ActFits, act_course, all_checked, awaited, failed, failed_vals as failed_vals_lem, group_number as group_number_lem, has_one_of, proposed, rounds_done, seen_at as seen_at_lem, seen_by as seen_by_lem, seen_now as seen_now_lem, with_room};
-ghost use Rattle.st_world.specs.Rounds.{enter, run_from, Goes, IsPartOf, HasSamePlant};
+ghost use Rattle.st_world.specs.Rounds.{enter, course_from, Goes, IsPartOf, HasSamePlant};
 
 use crate::world::World;
 use crate::world::rounds::{Going, Rounded};
@@ -116,8 +116,8 @@ impl World {
     /// Makes a check where 64 proposals are pending. As at each of these calls, at `Full` an event met a full journal; then, and at
     /// `Err`, a part of the events was entered, from the first, and stands.
     fn make_room(&mut self) -> Result<Going, AllocError>
-        ensures ok { IfOk result (Goes self.new (with_room self.old.history.group (run_from self.old.history.past))) }
-        ensures err { OnErr result (IsPartOf self.old self.new (with_room self.old.history.group (run_from self.old.history.past))) }
+        ensures ok { IfOk result (Goes self.new (with_room self.old.history.group (course_from self.old.history.past))) }
+        ensures err { OnErr result (IsPartOf self.old self.new (with_room self.old.history.group (course_from self.old.history.past))) }
         ensures plant { HasSamePlant self.old self.new }
     {
         if self.pending() == MAX_PENDING {
@@ -130,8 +130,8 @@ impl World {
     /// events was entered, from the first, and stands.
     pub fn propose(&mut self, app: AppId, rows: Rows) -> Result<Going, AllocError>
         requires { RowsFit self.old.history.group rows }
-        ensures ok { IfOk result (Goes self.new (proposed self.old.history.group (run_from self.old.history.past) app rows)) }
-        ensures err { OnErr result (IsPartOf self.old self.new (proposed self.old.history.group (run_from self.old.history.past) app rows)) }
+        ensures ok { IfOk result (Goes self.new (proposed self.old.history.group (course_from self.old.history.past) app rows)) }
+        ensures err { OnErr result (IsPartOf self.old self.new (proposed self.old.history.group (course_from self.old.history.past) app rows)) }
         ensures plant { HasSamePlant self.old self.new }
     {
         match self.make_room()? {
@@ -143,8 +143,8 @@ impl World {
     /// Makes a proposal of a copy of these rows. The copy comes first: where it is refused nothing was entered.
     fn propose_copy(&mut self, app: AppId, rows: &Rows) -> Result<Going, AllocError>
         requires { RowsFit self.old.history.group rows.now }
-        ensures ok { IfOk result (Goes self.new (proposed self.old.history.group (run_from self.old.history.past) app rows.now)) }
-        ensures err { OnErr result (IsPartOf self.old self.new (proposed self.old.history.group (run_from self.old.history.past) app rows.now)) }
+        ensures ok { IfOk result (Goes self.new (proposed self.old.history.group (course_from self.old.history.past) app rows.now)) }
+        ensures err { OnErr result (IsPartOf self.old self.new (proposed self.old.history.group (course_from self.old.history.past) app rows.now)) }
         ensures plant { HasSamePlant self.old self.new }
     {
         let rows = rows.copy(self.alloc)?;
@@ -154,8 +154,8 @@ impl World {
     /// Checks until an application's latest proposal is decided: the oldest is decided first, so until none of its proposals is
     /// pending. At `Full` a check met a full journal; then, and at `Err`, a part of the checks was entered, and stands.
     pub fn await_latest(&mut self, app: AppId) -> Result<Going, AllocError>
-        ensures ok { IfOk result (Goes self.new (awaited self.old.history.group (run_from self.old.history.past) app)) }
-        ensures err { OnErr result (IsPartOf self.old self.new (awaited self.old.history.group (run_from self.old.history.past) app)) }
+        ensures ok { IfOk result (Goes self.new (awaited self.old.history.group (course_from self.old.history.past) app)) }
+        ensures err { OnErr result (IsPartOf self.old self.new (awaited self.old.history.group (course_from self.old.history.past) app)) }
         ensures plant { HasSamePlant self.old self.new }
     {
         for _left in 0..MAX_PENDING {
@@ -173,8 +173,8 @@ impl World {
     /// Checks while something is pending, of which there are no more than 64. At `Full` a check met a full journal; then, and at
     /// `Err`, a part of the checks was entered, and stands.
     pub fn check_all(&mut self) -> Result<Going, AllocError>
-        ensures ok { IfOk result (Goes self.new (all_checked self.old.history.group (run_from self.old.history.past))) }
-        ensures err { OnErr result (IsPartOf self.old self.new (all_checked self.old.history.group (run_from self.old.history.past))) }
+        ensures ok { IfOk result (Goes self.new (all_checked self.old.history.group (course_from self.old.history.past))) }
+        ensures err { OnErr result (IsPartOf self.old self.new (all_checked self.old.history.group (course_from self.old.history.past))) }
         ensures plant { HasSamePlant self.old self.new }
     {
         for _left in 0..MAX_PENDING {
@@ -192,8 +192,8 @@ impl World {
     /// Does rounds, so many at the most, while some entity is not settled. At `Full` an event met a full journal; then, and at `Err`,
     /// a part of the rounds was entered, from their start, and stands.
     pub fn settle(&mut self, rounds: u32) -> Result<Going, AllocError>
-        ensures ok { IfOk result (Goes self.new (rounds_done self.old.history.group self.old.lines rounds (run_from self.old.history.past))) }
-        ensures err { OnErr result (IsPartOf self.old self.new (rounds_done self.old.history.group self.old.lines rounds (run_from self.old.history.past))) }
+        ensures ok { IfOk result (Goes self.new (rounds_done self.old.history.group self.old.lines rounds (course_from self.old.history.past))) }
+        ensures err { OnErr result (IsPartOf self.old self.new (rounds_done self.old.history.group self.old.lines rounds (course_from self.old.history.past))) }
         ensures plant { HasSamePlant self.old self.new }
     {
         for _round in 0..rounds {
@@ -209,8 +209,8 @@ impl World {
     /// Asks for a lock of an entity. At `Full` the journal is full; then, and at `Err`, nothing was entered.
     pub fn lock(&mut self, app: AppId, entity: Entity, prio: Prio) -> Result<Going, AllocError>
         requires { IsEntityOf self.old.history.group entity }
-        ensures ok { IfOk result (Goes self.new (enter self.old.history.group (run_from self.old.history.past) (lock_event app entity prio))) }
-        ensures err { OnErr result (IsPartOf self.old self.new (enter self.old.history.group (run_from self.old.history.past) (lock_event app entity prio))) }
+        ensures ok { IfOk result (Goes self.new (enter self.old.history.group (course_from self.old.history.past) (lock_event app entity prio))) }
+        ensures err { OnErr result (IsPartOf self.old self.new (enter self.old.history.group (course_from self.old.history.past) (lock_event app entity prio))) }
         ensures none { OnErr result (self.new.history ≡ self.old.history) }
         ensures plant { HasSamePlant self.old self.new }
     {
@@ -220,8 +220,8 @@ impl World {
     /// Gives a lock of an entity back. At `Full` the journal is full; then, and at `Err`, nothing was entered.
     pub fn unlock(&mut self, app: AppId, entity: Entity, prio: Prio) -> Result<Going, AllocError>
         requires { IsEntityOf self.old.history.group entity }
-        ensures ok { IfOk result (Goes self.new (enter self.old.history.group (run_from self.old.history.past) (unlock_event app entity prio))) }
-        ensures err { OnErr result (IsPartOf self.old self.new (enter self.old.history.group (run_from self.old.history.past) (unlock_event app entity prio))) }
+        ensures ok { IfOk result (Goes self.new (enter self.old.history.group (course_from self.old.history.past) (unlock_event app entity prio))) }
+        ensures err { OnErr result (IsPartOf self.old self.new (enter self.old.history.group (course_from self.old.history.past) (unlock_event app entity prio))) }
         ensures none { OnErr result (self.new.history ≡ self.old.history) }
         ensures plant { HasSamePlant self.old self.new }
     {
@@ -232,8 +232,8 @@ impl World {
     /// the journal is full; then, and at `Err`, nothing was entered.
     pub fn fail(&mut self, entity: Entity, health: u32, rows: &[Row]) -> Result<Going, AllocError>
         requires { IsChangeOf entity health rows.now self.old.history.group }
-        ensures ok { IfOk result (Goes self.new (failed self.old.history.group (run_from self.old.history.past) entity health rows.now)) }
-        ensures err { OnErr result (IsPartOf self.old self.new (failed self.old.history.group (run_from self.old.history.past) entity health rows.now)) }
+        ensures ok { IfOk result (Goes self.new (failed self.old.history.group (course_from self.old.history.past) entity health rows.now)) }
+        ensures err { OnErr result (IsPartOf self.old self.new (failed self.old.history.group (course_from self.old.history.past) entity health rows.now)) }
         ensures none { OnErr result (self.new.history ≡ self.old.history) }
         ensures plant { HasSamePlant self.old self.new }
     {

@@ -5,7 +5,7 @@ ghost use Rattle.std.specs.Prelude.{◌≡◌, All, IfOk, OnErr, map};
 ghost use Rattle.st_net.specs.Groups.{IsEntityOf};
 ghost use Rattle.st_event.specs.declared.event.Event.TheVariants.{Deliver, Hear};
 ghost use Rattle.st_event.specs.Legal.{Fits};
-ghost use Rattle.st_world.specs.Rounds.{arrivals_of, enter as enter_lem, enter_all, enter_told, update_turn as update_turn_lem, poll as poll_lem, turn as turn_lem, turns as turns_lem, round as round_lem, run_from, unsettled as unsettled_lem, Goes, Rounds, IsPartOf, HasSamePlant, DidSettle};
+ghost use Rattle.st_world.specs.Rounds.{follow_ups_of, enter as enter_lem, enter_all, enter_told, update_turn as update_turn_lem, poll as poll_lem, turn as turn_lem, turns as turns_lem, round as round_lem, course_from, unsettled as unsettled_lem, Goes, Rounds, IsPartOf, HasSamePlant, DidSettle};
 
 use crate::world::{Stepped, World};
 use st_event::{Event, MAX_ENTRIES, Reply};
@@ -23,7 +23,7 @@ pub enum Rounded {
     JournalFull { entries: u32 },
 }
 
-/// Whether a run of events goes on, or met a full journal.
+/// Whether a course of events goes on, or met a full journal.
 #[derive(Clone, Copy, Debug, PartialEq, Eq)]
 pub enum Going {
     On,
@@ -47,11 +47,11 @@ impl World {
         )
     }
 
-    /// Enters an event. As in all of these runs, at `Full` and at `Err` what was entered is a part of the run, from its start.
+    /// Enters an event. As in all of these courses, at `Full` and at `Err` what was entered is a part of the course, from its start.
     pub(crate) fn enter(&mut self, event: Event) -> Result<Going, AllocError>
         requires { Fits self.old.history.group event }
-        ensures ok { IfOk result (Goes self.new (enter_lem self.old.history.group (run_from self.old.history.past) event)) }
-        ensures err { OnErr result (IsPartOf self.old self.new (enter_lem self.old.history.group (run_from self.old.history.past) event)) }
+        ensures ok { IfOk result (Goes self.new (enter_lem self.old.history.group (course_from self.old.history.past) event)) }
+        ensures err { OnErr result (IsPartOf self.old self.new (enter_lem self.old.history.group (course_from self.old.history.past) event)) }
         ensures none { OnErr result (self.new.history ≡ self.old.history) }
         ensures plant { HasSamePlant self.old self.new }
     {
@@ -63,8 +63,8 @@ impl World {
 
     /// Delivers these commands, one after another.
     fn deliver_all(&mut self, commands: &[u32]) -> Result<Going, AllocError>
-        ensures ok { IfOk result (Goes self.new (enter_all self.old.history.group (run_from self.old.history.past) (map Deliver commands.now))) }
-        ensures err { OnErr result (IsPartOf self.old self.new (enter_all self.old.history.group (run_from self.old.history.past) (map Deliver commands.now))) }
+        ensures ok { IfOk result (Goes self.new (enter_all self.old.history.group (course_from self.old.history.past) (map Deliver commands.now))) }
+        ensures err { OnErr result (IsPartOf self.old self.new (enter_all self.old.history.group (course_from self.old.history.past) (map Deliver commands.now))) }
         ensures plant { HasSamePlant self.old self.new }
     {
         for command in commands {
@@ -78,8 +78,8 @@ impl World {
 
     /// Hears these reports, one after another.
     fn hear_all(&mut self, reports: &[u32]) -> Result<Going, AllocError>
-        ensures ok { IfOk result (Goes self.new (enter_all self.old.history.group (run_from self.old.history.past) (map Hear reports.now))) }
-        ensures err { OnErr result (IsPartOf self.old self.new (enter_all self.old.history.group (run_from self.old.history.past) (map Hear reports.now))) }
+        ensures ok { IfOk result (Goes self.new (enter_all self.old.history.group (course_from self.old.history.past) (map Hear reports.now))) }
+        ensures err { OnErr result (IsPartOf self.old self.new (enter_all self.old.history.group (course_from self.old.history.past) (map Hear reports.now))) }
         ensures plant { HasSamePlant self.old self.new }
     {
         for report in reports {
@@ -91,10 +91,10 @@ impl World {
         Ok(Going::On)
     }
 
-    /// Enters the arrivals that a reply calls for: those of the turn of the message that was sent or made.
-    fn enter_arrivals(&mut self, reply: Reply) -> Result<Going, AllocError>
-        ensures ok { IfOk result (Goes self.new (enter_all self.old.history.group (run_from self.old.history.past) (arrivals_of self.old.lines reply))) }
-        ensures err { OnErr result (IsPartOf self.old self.new (enter_all self.old.history.group (run_from self.old.history.past) (arrivals_of self.old.lines reply))) }
+    /// Enters what follows the newest entry, which has this reply: the arrivals of the turn of the message that was sent or made.
+    fn enter_follow_ups(&mut self, reply: Reply) -> Result<Going, AllocError>
+        ensures ok { IfOk result (Goes self.new (enter_all self.old.history.group (course_from self.old.history.past) (follow_ups_of self.old.history.group self.old.lines self.old.history.past reply))) }
+        ensures err { OnErr result (IsPartOf self.old self.new (enter_all self.old.history.group (course_from self.old.history.past) (follow_ups_of self.old.history.group self.old.lines self.old.history.past reply))) }
         ensures plant { HasSamePlant self.old self.new }
     {
         match reply {
@@ -110,15 +110,15 @@ impl World {
         }
     }
 
-    /// Enters an event, and then the arrivals that its reply calls for.
-    fn enter_with_arrivals(&mut self, event: Event) -> Result<Going, AllocError>
+    /// Enters an event, and then what follows its entry.
+    fn enter_with_follow_ups(&mut self, event: Event) -> Result<Going, AllocError>
         requires { Fits self.old.history.group event }
-        ensures ok { IfOk result (Goes self.new (enter_told self.old.history.group self.old.lines (run_from self.old.history.past) event)) }
-        ensures err { OnErr result (IsPartOf self.old self.new (enter_told self.old.history.group self.old.lines (run_from self.old.history.past) event)) }
+        ensures ok { IfOk result (Goes self.new (enter_told self.old.history.group self.old.lines (course_from self.old.history.past) event)) }
+        ensures err { OnErr result (IsPartOf self.old self.new (enter_told self.old.history.group self.old.lines (course_from self.old.history.past) event)) }
         ensures plant { HasSamePlant self.old self.new }
     {
         match self.step(event)? {
-            Stepped::Did(reply) => self.enter_arrivals(reply),
+            Stepped::Did(reply) => self.enter_follow_ups(reply),
             Stepped::JournalFull { .. } => Ok(Going::Full),
         }
     }
@@ -128,11 +128,11 @@ impl World {
     /// events was entered, from the first, and stands.
     pub fn update_turn(&mut self, entity: Entity) -> Result<Going, AllocError>
         requires { IsEntityOf self.old.history.group entity }
-        ensures ok { IfOk result (Goes self.new (update_turn_lem self.old.history.group self.old.lines (run_from self.old.history.past) entity)) }
-        ensures err { OnErr result (IsPartOf self.old self.new (update_turn_lem self.old.history.group self.old.lines (run_from self.old.history.past) entity)) }
+        ensures ok { IfOk result (Goes self.new (update_turn_lem self.old.history.group self.old.lines (course_from self.old.history.past) entity)) }
+        ensures err { OnErr result (IsPartOf self.old self.new (update_turn_lem self.old.history.group self.old.lines (course_from self.old.history.past) entity)) }
         ensures plant { HasSamePlant self.old self.new }
     {
-        match self.enter_with_arrivals(Event::Send { entity })? {
+        match self.enter_with_follow_ups(Event::Send { entity })? {
             Going::On => self.enter(Event::Finish { entity }),
             Going::Full => Ok(Going::Full),
         }
@@ -142,19 +142,19 @@ impl World {
     /// its limit; then, and at `Err`, a part of these events was entered, from the first, and stands.
     pub fn poll(&mut self, entity: Entity) -> Result<Going, AllocError>
         requires { IsEntityOf self.old.history.group entity }
-        ensures ok { IfOk result (Goes self.new (poll_lem self.old.history.group self.old.lines (run_from self.old.history.past) entity)) }
-        ensures err { OnErr result (IsPartOf self.old self.new (poll_lem self.old.history.group self.old.lines (run_from self.old.history.past) entity)) }
+        ensures ok { IfOk result (Goes self.new (poll_lem self.old.history.group self.old.lines (course_from self.old.history.past) entity)) }
+        ensures err { OnErr result (IsPartOf self.old self.new (poll_lem self.old.history.group self.old.lines (course_from self.old.history.past) entity)) }
         ensures plant { HasSamePlant self.old self.new }
     {
-        self.enter_with_arrivals(Event::Report { entity })
+        self.enter_with_follow_ups(Event::Report { entity })
     }
 
     /// The turn of an entity: it is updated, and then monitored. At `Full` the journal met its limit; then, and at `Err`, a part of
     /// these events was entered, from the first, and stands.
     pub fn turn(&mut self, entity: Entity) -> Result<Going, AllocError>
         requires { IsEntityOf self.old.history.group entity }
-        ensures ok { IfOk result (Goes self.new (turn_lem self.old.history.group self.old.lines (run_from self.old.history.past) entity)) }
-        ensures err { OnErr result (IsPartOf self.old self.new (turn_lem self.old.history.group self.old.lines (run_from self.old.history.past) entity)) }
+        ensures ok { IfOk result (Goes self.new (turn_lem self.old.history.group self.old.lines (course_from self.old.history.past) entity)) }
+        ensures err { OnErr result (IsPartOf self.old self.new (turn_lem self.old.history.group self.old.lines (course_from self.old.history.past) entity)) }
         ensures plant { HasSamePlant self.old self.new }
     {
         match self.update_turn(entity)? {
@@ -166,8 +166,8 @@ impl World {
     /// The turns of these entities, one after another.
     fn turns(&mut self, entities: &[Entity]) -> Result<Going, AllocError>
         requires { All (IsEntityOf self.old.history.group) entities.now }
-        ensures ok { IfOk result (Goes self.new (turns_lem self.old.history.group self.old.lines (run_from self.old.history.past) entities.now)) }
-        ensures err { OnErr result (IsPartOf self.old self.new (turns_lem self.old.history.group self.old.lines (run_from self.old.history.past) entities.now)) }
+        ensures ok { IfOk result (Goes self.new (turns_lem self.old.history.group self.old.lines (course_from self.old.history.past) entities.now)) }
+        ensures err { OnErr result (IsPartOf self.old self.new (turns_lem self.old.history.group self.old.lines (course_from self.old.history.past) entities.now)) }
         ensures plant { HasSamePlant self.old self.new }
     {
         for entity in entities {

@@ -1,7 +1,7 @@
 -- Each turn is one work, after those before it.
 use Rattle.std.proofs.Common.{◌*◌, ◌+◌, List, ℕ, length, get_or, subst, ◌∙◌}
 use Rattle.st_net.specs.declared.entity.Entity.TheVariants.{Device}
-use Rattle.st_world.specs.Rounds.{Course, run_from}
+use Rattle.st_world.specs.Rounds.{Course, course_from}
 use Rattle.st_world.specs.declared.world.rounds.Going.{Going}
 use Rattle.st_world.specs.declared.world.rounds.Going.TheVariants.{On, Full}
 use Rattle.st_event.specs.declared.journal.Entry.{Entry}
@@ -30,7 +30,7 @@ returns-in-Full-clause-turned g c =
     let k = c.loop-entity.entity-index in
     let es = c.args.entities.now in
     let inv = c.loop-entity.invariant in
-    let course : List Entry → Course = λ past. part_of c.args.part (g.J.Naming.group n) (g.J.Naming.lines n) (run_from past) (get_or es k (Device 0)) in
+    let course : List Entry → Course = λ past. part_of c.args.part (g.J.Naming.group n) (g.J.Naming.lines n) (course_from past) (get_or es k (Device 0)) in
     let done = c.in_ok-work.ensures.entered in
     let full : Enters course Full mid.number done.0 (front_at mid.fronts n) (mine_at mid.mines n) (front_at new.fronts n) (mine_at new.mines n) =
     subst (λ (going : Going). Enters course going mid.number done.0 (front_at mid.fronts n) (mine_at mid.mines n) (front_at new.fronts n) (mine_at new.mines n)) c.in-Full.is done.1 in
@@ -48,7 +48,7 @@ loop-entity-preserved g c =
     let es = c.args.entities.now in
     let inv = c.loop-entity.invariant in
     let w = turn_share c.args.part (g.J.Naming.lines n) in
-    let course : List Entry → Course = λ past. part_of c.args.part (g.J.Naming.group n) (g.J.Naming.lines n) (run_from past) (get_or es k (Device 0)) in
+    let course : List Entry → Course = λ past. part_of c.args.part (g.J.Naming.group n) (g.J.Naming.lines n) (course_from past) (get_or es k (Device 0)) in
     let done = c.in_ok-work.ensures.entered in
     let on : Enters course On mid.number done.0 (front_at mid.fronts n) (mine_at mid.mines n) (front_at new.fronts n) (mine_at new.mines n) =
     subst (λ (going : Going). Enters course going mid.number done.0 (front_at mid.fronts n) (mine_at mid.mines n) (front_at new.fronts n) (mine_at new.mines n)) c.in-On.is done.1 in
