@@ -35,7 +35,7 @@ pub record AreJudgedIn (k : ControlView) (p : Proposal) (judged : Weighed) : Typ
   pub marks : MarksOf k.group judged.changed
   pub altered : is_in judged.changed ≡ alters k.group (value_in k.store.target) p.rows
 
--- its last step: the first promise that holds of the sure entities, and not without these
+-- its last step: the first demand that holds of the sure entities, and not without these
 abbrev pub sure_without : ControlView → Marks → Entity → Bool
 sure_without k changed = λ e. sure_in k.group (standing_in k) e && not (is_in changed e)
 

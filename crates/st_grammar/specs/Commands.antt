@@ -1,4 +1,4 @@
--- What the commands of applications ask for, and what wire lines say, over what the lines before them declared, or the first kind that applies.
+-- What the acts of applications ask for, and what wire lines say, over what the lines before them declared, or the first kind that applies.
 -- The kinds of a line are tested in the order in which they stand here: each `do` line is one test.
 use Rattle.std.specs.Prelude.{ℕ, List, [], nat_le, length, if◌then◌else◌, Result, Ok, Err, ok_or, slice_get}
 use Rattle.st_net.specs.declared.entity.Entity.{Entity}
@@ -106,7 +106,7 @@ poll_of d args = do
   e ← group_entity_in d words.0 words.1
   Ok (acts.Poll e.0 e.1)
 
--- what the command of a word asks for
+-- what the act of a word asks for
 abbrev pub act_of : Draft → ActWord → List (List ℕ) → Result Act FaultKind
 act_of d act_words.Propose args = propose_of d args
 act_of d act_words.Await args = await_of d args

@@ -14,7 +14,7 @@ pub enum Keyword {
     Wire(WireWord),
     /// Begins an application.
     App,
-    /// A command of the application that is begun.
+    /// An act of the application that is begun.
     Act(ActWord),
     /// Applications in the order in which they begin.
     Order,
@@ -38,7 +38,7 @@ pub enum WireWord {
     Hold,
 }
 
-/// The commands of an application.
+/// The acts of an application.
 #[derive(Clone, Copy, Debug, PartialEq, Eq)]
 pub enum ActWord {
     Propose,
@@ -130,7 +130,7 @@ pub fn keyword_of(word: &[u8]) -> Option<Keyword>
         return Some(Keyword::Wire(wire));
     }
     match act_word_of(word) {
-        Some(command) => Some(Keyword::Act(command)),
+        Some(act) => Some(Keyword::Act(act)),
         None => None,
     }
 }

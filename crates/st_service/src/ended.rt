@@ -50,7 +50,7 @@ impl<H: Wait + Drop> Ended<H> {
         Ok(Ended { world, held, note })
     }
 
-    /// Teaches a reader of the room the whole front, which is all that was accepted.
+    /// Teaches a reader of the room the whole front, which has every overlay of its journal.
     pub fn teach(&self, reader: &mut TargetReader)
         requires { reader.old.book ≡ self.now.published.book }
         ensures same { (reader.new.book ≡ reader.old.book) × (reader.new.group ≡ reader.old.group) }

@@ -87,7 +87,7 @@ fn going_of(committed: &Committed) -> Going
     }
 }
 
-/// How many proposals were accepted in a world.
+/// How many overlays the target of a world has.
 fn version_of(world: &World) -> u32
     ensures { result ≡ length (overlays world.now.history.past) }
 {
@@ -115,7 +115,7 @@ impl<H: Wait + Drop> Room<H> {
         }
     }
 
-    /// Does a work for the pass of this number, and publishes what that accepts. At `Full` an event met a full journal; then, and at
+    /// Does a work for the pass of this number, and publishes what that overlays the target with. At `Full` an event met a full journal; then, and at
     /// `Err`, a part of the events was entered, from the first, and stands. Where the publication is refused, the room is spent.
     pub fn work(&mut self, alloc: Global, number: u32, work: Work<'_>) -> Result<Going, AllocError>
         requires open { self.old.spent ≡ false }
