@@ -12,9 +12,10 @@ use Rattle.st_event.specs.declared.event.Event.{Event}
 use Rattle.st_event.specs.declared.event.Event.TheVariants.{Submit, Check, Lock, Unlock, Send, Deliver, Finish, Report, Hear, Fail}
 use Rattle.st_event.specs.declared.journal.Entry.{Entry}
 use Rattle.st_event.specs.declared.reply.Reply.{Reply}
-use Rattle.st_event.specs.declared.reply.Reply.TheVariants.{Decided}
+use Rattle.st_event.specs.declared.reply.Receipt.{Receipt}
 use Rattle.st_event.specs.Moments.{commands, reports}
 use Rattle.st_event.specs.Proposals.{is_queued, pending, first_rows}
+use Rattle.st_event.specs.Receipts.{receipt_given}
 use Rattle.st_entry.specs.Entries.{entry_words as journal_words}
 use Rattle.st_player.specs.Fields.{changes_from}
 use Rattle.st_player.specs.Json.{number_data, put_list, put_some, put_where}
@@ -26,15 +27,22 @@ use Rattle.st_player.specs.Snapshots.{Shown, shown_of}
 abbrev pub line_of : Group → List (List ℕ) → ℕ → Entry → List ℕ
 line_of g apps n entry = line_text (drop 1 (journal_words g apps n entry))
 
--- the rows of a proposal, and of one that is decided
-abbrev pub decided_rows : Reply → List Row → List Row
-decided_rows (Decided receipt) rows = rows
-decided_rows _ rows = []
+-- the rows of a proposal, and of one that is decided, where a receipt is given
+abbrev pub decided_rows : Option Receipt → List Row → List Row
+decided_rows None rows = []
+decided_rows (Some receipt) rows = rows
 
 abbrev pub rows_about : List Entry → Event → Reply → List Row
 rows_about past (Submit app rows) reply = rows
-rows_about past Check reply = decided_rows reply (first_rows (pending past))
-rows_about past _ reply = []
+rows_about past Check reply = decided_rows (receipt_given reply) (first_rows (pending past))
+rows_about past (Lock app e prio) reply = []
+rows_about past (Unlock app e prio) reply = []
+rows_about past (Send e) reply = []
+rows_about past (Deliver n) reply = []
+rows_about past (Finish e) reply = []
+rows_about past (Report e) reply = []
+rows_about past (Hear n) reply = []
+rows_about past (Fail e vals health) reply = []
 
 -- the entity that an event names: by a lock, by a message that there is, or itself
 abbrev pub named_by : Group → List Entry → Event → Option Entity
@@ -46,7 +54,8 @@ named_by g past (Finish e) = Some e
 named_by g past (Report e) = Some e
 named_by g past (Hear n) = option_map (λ r. r.entity) (nth (reports g past) n)
 named_by g past (Fail e vals health) = Some e
-named_by g past _ = None
+named_by g past (Submit app rows) = None
+named_by g past Check = None
 
 abbrev pub is_entity : Option Entity → Entity → Bool
 is_entity None e = false
@@ -65,20 +74,36 @@ about g past entry = numbers_of g (is_about (rows_about past entry.event entry.r
 -- the numbers of the entries by which tickets 1, 2, 3 and so on were given
 abbrev pub askers_after : Event → Reply → ℕ → List ℕ → List ℕ
 askers_after (Submit app rows) reply n before = if is_queued reply then before ++ n ∷ [] else before
-askers_after _ reply n before = before
+askers_after Check reply n before = before
+askers_after (Lock app e prio) reply n before = before
+askers_after (Unlock app e prio) reply n before = before
+askers_after (Send e) reply n before = before
+askers_after (Deliver number) reply n before = before
+askers_after (Finish e) reply n before = before
+askers_after (Report e) reply n before = before
+askers_after (Hear number) reply n before = before
+askers_after (Fail e vals health) reply n before = before
 
 abbrev pub askers : List Entry → List ℕ
 askers [] = []
 askers (entry ∷ past) = askers_after entry.event entry.reply (length past + 1) (askers past)
 
 -- of a check that decides, the number of the entry that gave its ticket
-abbrev pub asked_by : List Entry → Reply → Option ℕ
-asked_by past (Decided receipt) = nth (askers past) receipt.ticket
-asked_by past _ = None
+abbrev pub asked_by : List Entry → Option Receipt → Option ℕ
+asked_by past None = None
+asked_by past (Some receipt) = nth (askers past) receipt.ticket
 
 abbrev pub asked_of : List Entry → Event → Reply → Option ℕ
-asked_of past Check reply = asked_by past reply
-asked_of past _ reply = None
+asked_of past Check reply = asked_by past (receipt_given reply)
+asked_of past (Submit app rows) reply = None
+asked_of past (Lock app e prio) reply = None
+asked_of past (Unlock app e prio) reply = None
+asked_of past (Send e) reply = None
+asked_of past (Deliver n) reply = None
+asked_of past (Finish e) reply = None
+asked_of past (Report e) reply = None
+asked_of past (Hear n) reply = None
+asked_of past (Fail e vals health) reply = None
 
 -- of two lists, the numbers from n on of the promises that hold in the first and not in the second
 abbrev pub lost_from : ℕ → List Bool → List Bool → List ℕ

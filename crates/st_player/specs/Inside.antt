@@ -5,7 +5,7 @@ use Rattle.st_net.specs.Agents.{Agent, is_at_work, is_agent_up, agent_level}
 use Rattle.st_net.specs.Groups.{Group, IsEntityOf}
 use Rattle.st_net.specs.InOrder.{entity_count, item_in, place_in}
 use Rattle.st_event.specs.declared.event.Event.{Event}
-use Rattle.st_event.specs.declared.event.Event.TheVariants.{Report, Fail}
+use Rattle.st_event.specs.declared.event.Event.TheVariants.{Submit, Check, Lock, Unlock, Send, Deliver, Finish, Report, Hear, Fail}
 use Rattle.st_event.specs.declared.journal.Entry.{Entry}
 use Rattle.st_event.specs.History.{History}
 use Rattle.st_event.specs.Moments.{is_fail_of, number}
@@ -53,7 +53,14 @@ told_at g told e = slice_index_or told (place_in g e) no_told
 abbrev pub told_after : Group → Event → List Told → List Told
 told_after g (Report e) told = slice_set told (place_in g e) (record { made = (told_at g told e).made + 1; failed = (told_at g told e).failed })
 told_after g (Fail e vals health) told = slice_set told (place_in g e) (record { made = (told_at g told e).made; failed = Some (told_at g told e).made })
-told_after g _ told = told
+told_after g (Submit app rows) told = told
+told_after g Check told = told
+told_after g (Lock app e prio) told = told
+told_after g (Unlock app e prio) told = told
+told_after g (Send e) told = told
+told_after g (Deliver n) told = told
+told_after g (Finish e) told = told
+told_after g (Hear n) told = told
 
 -- what is kept beside a world is that of its journal
 pub record IsPlayback (h : History) (told : List Told) (asked : List ℕ) : Type 0 where

@@ -10,17 +10,18 @@ use Rattle.st_net.specs.InOrder.{place_in}
 use Rattle.st_token.specs.Words.{prio_word}
 use Rattle.st_entry.specs.Keywords.{kind_word}
 use Rattle.st_event.specs.declared.event.Event.{Event}
-use Rattle.st_event.specs.declared.event.Event.TheVariants.{Check}
+use Rattle.st_event.specs.declared.event.Event.TheVariants.{Submit, Check, Lock, Unlock, Send, Deliver, Finish, Report, Hear, Fail}
 use Rattle.st_event.specs.declared.journal.Entry.{Entry}
 use Rattle.st_event.specs.declared.reply.Cause.{Cause}
 use Rattle.st_event.specs.declared.reply.Cause.TheVariants.{NotControllable, Locked, Broken as broken_cause}
 use Rattle.st_event.specs.declared.reply.Lack.{Lack}
 use Rattle.st_event.specs.declared.reply.Lack.TheVariants.{Level, PowerOff}
 use Rattle.st_event.specs.declared.reply.Reply.{Reply}
-use Rattle.st_event.specs.declared.reply.Reply.TheVariants.{Decided}
+use Rattle.st_event.specs.declared.reply.Receipt.{Receipt}
 use Rattle.st_event.specs.declared.reply.Verdict.{Verdict}
 use Rattle.st_event.specs.declared.reply.Verdict.TheVariants.{Accepted, Refused}
 use Rattle.st_event.specs.Proposals.{pending, first_rows}
+use Rattle.st_event.specs.Receipts.{receipt_given}
 use Rattle.st_player.specs.Cuts.{Stands, cut_of, is_far_smaller}
 use Rattle.st_player.specs.Json.{number_data, numbers_data}
 
@@ -75,13 +76,24 @@ abbrev pub cause_of : Verdict → Option Cause
 cause_of (Accepted version) = None
 cause_of (Refused cause) = Some cause
 
+abbrev pub cause_given : Option Receipt → Option Cause
+cause_given None = None
+cause_given (Some receipt) = cause_of receipt.verdict
+
 abbrev pub cause_in : Reply → Option Cause
-cause_in (Decided receipt) = cause_of receipt.verdict
-cause_in _ = None
+cause_in reply = cause_given (receipt_given reply)
 
 abbrev pub refusal_of : Event → Reply → Option Cause
 refusal_of Check reply = cause_in reply
-refusal_of _ reply = None
+refusal_of (Submit app rows) reply = None
+refusal_of (Lock app e prio) reply = None
+refusal_of (Unlock app e prio) reply = None
+refusal_of (Send e) reply = None
+refusal_of (Deliver n) reply = None
+refusal_of (Finish e) reply = None
+refusal_of (Report e) reply = None
+refusal_of (Hear n) reply = None
+refusal_of (Fail e vals health) reply = None
 
 -- of a check that refuses, why
 abbrev pub refused_of : Group → List Entry → Event → Reply → Option Data
