@@ -1,10 +1,9 @@
 -- A check away from its checker: what it is judged on, and what was found.
-use Rattle.std.specs.Prelude.{◌≡◌, ℕ, ◌+◌, ◌<◌, ◌≤◌, Bool, List, map, take, length, Option}
+use Rattle.std.specs.Prelude.{◌≡◌, ℕ, ◌+◌, ◌<◌, ◌≤◌, Bool, List, take, length, Option}
 use Rattle.st_net.specs.declared.promise.Broken.{Broken}
 use Rattle.st_net.specs.Groups.{Group}
 use Rattle.st_net.specs.Merge.{without_altered}
-use Rattle.st_net.specs.Demands.{first_broken_of}
-use Rattle.st_net.specs.Promises.{is_kept}
+use Rattle.st_net.specs.Demands.{first_broken_of, held_list}
 use Rattle.st_net.specs.Sets.{Marks, MarksOf, is_in}
 use Rattle.st_event.specs.Proposals.{first_rows}
 use Rattle.st_event.specs.Standing.{sure_in}
@@ -46,7 +45,7 @@ pub record IsJudged (j : JudgedView) : Type 0 where
   pub sure : MarksOf j.group j.sure
   pub after : MarksOf j.group j.after
   pub first : j.first ≡ first_broken_of j.group (is_in j.sure) (is_in j.after)
-  pub holds : j.holds ≡ take (told_to j.group j.first) (map (is_kept j.group (is_in j.after)) j.group.promises)
+  pub holds : j.holds ≡ take (told_to j.group j.first) (held_list j.group (is_in j.after))
 
 -- this was judged on that
 pub record IsJudgedOf (b : BasisView) (j : JudgedView) : Type 0 where

@@ -4,7 +4,7 @@ ghost use Rattle.std.specs.Prelude.{◌≡◌, ◌↔◌, option_map, ℕ, ◌<�
 ghost use Rattle.std.specs.Arc.{arc_value};
 ghost use Rattle.st_net.specs.declared.entity.Entity.{Entity};
 ghost use Rattle.st_net.specs.Groups.{IsEntityOf, promise_of};
-ghost use Rattle.st_net.specs.Demands.{first_broken_of};
+ghost use Rattle.st_net.specs.Demands.{first_broken_of, held_list};
 ghost use Rattle.st_net.specs.Promises.{is_kept};
 ghost use Rattle.st_net.specs.Ranges.{RowsFit};
 ghost use Rattle.st_net.specs.Sets.{is_in, MarksOf};
@@ -227,7 +227,7 @@ impl Control {
     /// one.
     pub fn held_in(&self, up: &EntitySet) -> Result<Vec<bool>, AllocError>
         requires { MarksOf self.now.group up.now }
-        ensures { IfOk result (λ held. held.items ≡ map (is_kept self.now.group (is_in up.now)) self.now.group.promises) }
+        ensures { IfOk result (λ held. held.items ≡ held_list self.now.group (is_in up.now)) }
     {
         self.book.held_in(&self.topo, up)
     }

@@ -3,7 +3,8 @@ use Rattle.std.specs.Prelude.{ℕ, List, [], ◌∷◌, decimal}
 use Rattle.st_net.specs.declared.entity.Entity.TheVariants.{Device}
 use Rattle.st_net.specs.declared.entity.Row.{Row}
 use Rattle.st_net.specs.declared.promise.Broken.{Broken}
-use Rattle.st_net.specs.Groups.{Group, name_of, promise_of}
+use Rattle.st_net.specs.Groups.{Group, name_of}
+use Rattle.st_net.specs.Demands.{broken_pair}
 use Rattle.st_event.specs.declared.reply.Lack.{Lack}
 use Rattle.st_event.specs.declared.reply.Lack.TheVariants.{Level, PowerOff}
 use Rattle.st_event.specs.declared.reply.Cause.{Cause}
@@ -21,10 +22,10 @@ abbrev pub lack_words : Group → Row → Lack → Words
 lack_words g row (Level e level needs) = cause_word causes.Level ∷ assignment g row ∷ of_word ∷ name_of g e ∷ has_word ∷ decimal level ∷ needs_word ∷ decimal needs ∷ []
 lack_words g row PowerOff = cause_word causes.Off ∷ assignment g row ∷ []
 
--- a broken promise, by its two ends as it was declared
+-- a broken demand, by the two devices between which it is broken
 abbrev pub broken_words : Group → Broken → Words
 broken_words g broken =
-    cause_word causes.Broken ∷ name_of g (Device (promise_of g broken.promise).a) ∷ name_of g (Device (promise_of g broken.promise).b) ∷ kind_word broken.kind ∷
+    cause_word causes.Broken ∷ name_of g (Device (broken_pair g broken).0) ∷ name_of g (Device (broken_pair g broken).1) ∷ kind_word broken.kind ∷
     need_word ∷ decimal broken.need ∷ has_word ∷ decimal broken.has ∷ side_word ∷ device_words g broken.side
 
 -- what a refusal names

@@ -1,18 +1,26 @@
 -- What every proof needs of the demands of a group, however they are kept.
 use Rattle.std.proofs.Common.{◌≡◌, ℕ, zero, suc, ◌+◌, ◌<◌, List, [], ◌∷◌, length, Some, None, refl, arith}
+use Rattle.std.proofs.lemmas.List.{get_or-map, length-map}
 use Rattle.std.specs.Prelude.{Bool, true, false, ◌&&◌, not, slice_index_or, if◌then◌else◌}
 use Rattle.st_net.specs.declared.entity.Entity.{Entity}
 use Rattle.st_net.specs.declared.promise.Promise.{Promise}
 use Rattle.st_net.specs.declared.promise.Broken.{Broken}
 use Rattle.st_net.specs.Groups.{Group, IsSound, no_promise, promise_of}
-use Rattle.st_net.specs.Promises.{first_broken, is_broken}
+use Rattle.st_net.specs.Promises.{first_broken, is_broken, is_kept}
 use Rattle.st_net.specs.Demands.{is_held_in}
-use Rattle.st_net.specs.Laws.{DemandsHoldWithMore, TellsDemands, BreaksNone}
+use Rattle.st_net.specs.Laws.{DemandsHoldWithMore, TellsDemands, ListsDemands, BreaksNone}
 use Rattle.st_net.proofs.GroupLaws.{keeps_with_more, tells_kept}
 
 -- a demand that holds goes on to hold with more entities up
 pub holds_with_more : (g : Group) → DemandsHoldWithMore g
 holds_with_more g up more i within holds = keeps_with_more g up more (promise_of g i) within holds
+
+-- the list has the test of each demand
+pub lists_demands : (g : Group) (up : Entity → Bool) → ListsDemands g up
+lists_demands g up = record {
+  count = length-map g.promises (is_kept g up);
+  each = λ i default low. get_or-map (is_kept g up) g.promises i no_promise default low;
+}
 
 -- the test tells of each demand whether it holds
 pub tells_demands : (g : Group) → IsSound g → TellsDemands g

@@ -1,5 +1,5 @@
 -- What is true of the promises, demands, cuts and sides of every sound group.
-use Rattle.std.specs.Prelude.{◌≡◌, ◌≢◌, ◌↔◌, ℕ, ◌<◌, ◌≤◌, Bool, true, List, length, None}
+use Rattle.std.specs.Prelude.{◌≡◌, ◌≢◌, ◌↔◌, ℕ, ◌<◌, ◌≤◌, Bool, true, List, length, slice_index_or, None}
 use Rattle.st_net.specs.declared.entity.Entity.{Entity}
 use Rattle.st_net.specs.declared.topo.LinkOpening.{LinkOpening}
 use Rattle.st_net.specs.declared.promise.Promise.{Promise}
@@ -8,7 +8,7 @@ use Rattle.st_net.specs.Sets.{IsWithin}
 use Rattle.st_net.specs.UpGraph.{IsWalk}
 use Rattle.st_net.specs.Cuts.{IsCut, cut_value, least_cut, is_in_least_side}
 use Rattle.st_net.specs.Promises.{Keeps, is_kept}
-use Rattle.st_net.specs.Demands.{demand_count, HoldsIn, is_held_in, first_broken_of}
+use Rattle.st_net.specs.Demands.{demand_count, HoldsIn, is_held_in, held_list, first_broken_of}
 
 -- a promise that holds goes on to hold with more entities up
 abbrev pub KeepsWithMore : Group → Type 0
@@ -25,6 +25,11 @@ DemandsHoldWithMore g = (up more : Entity → Bool) (i : ℕ) → IsWithin up mo
 -- the test tells of each demand whether it holds
 abbrev pub TellsDemands : Group → Type 0
 TellsDemands g = (up : Entity → Bool) (i : ℕ) → i < demand_count g → (is_held_in g up i ≡ true) ↔ HoldsIn g up i
+
+-- the list of which demands hold has the test of each, by its number
+pub record ListsDemands (g : Group) (up : Entity → Bool) : Type 0 where
+  pub count : length (held_list g up) ≡ demand_count g
+  pub each : (i : ℕ) (default : Bool) → i < demand_count g → slice_index_or (held_list g up) i default ≡ is_held_in g up i
 
 -- where no demand is broken first, each that held with the first set up holds with the second
 abbrev pub BreaksNone : Group → Type 0

@@ -1,7 +1,9 @@
 //! Laws of every topology: what its soundness gives for promises, cuts and sides. The bodies do nothing; callers read the
 //! clauses.
 
-ghost use Rattle.st_net.specs.Laws.{KeepsWithMore, TellsKept, DemandsHoldWithMore, TellsDemands, BreaksNone, HasLeastCuts, WalksWhereCut, TellsLeastSide, HasOneLeastSide};
+ghost use Rattle.std.specs.Prelude.{Bool};
+ghost use Rattle.st_net.specs.declared.entity.Entity.{Entity};
+ghost use Rattle.st_net.specs.Laws.{KeepsWithMore, TellsKept, DemandsHoldWithMore, TellsDemands, ListsDemands, BreaksNone, HasLeastCuts, WalksWhereCut, TellsLeastSide, HasOneLeastSide};
 
 use crate::topo::GroupTopo;
 
@@ -20,11 +22,12 @@ impl GroupTopo {
         self.is_sound()
     }
 
-    /// A demand that holds with some entities up holds with more of them up, and the test tells whether it does; where none is
-    /// broken first, each that held goes on to hold.
+    /// A demand that holds with some entities up holds with more of them up, and the test tells whether it does, which the list of
+    /// them has by its number; where none is broken first, each that held goes on to hold.
     pub fn demands_are_judged(&self)
         ensures more { DemandsHoldWithMore self.now }
         ensures tells { TellsDemands self.now }
+        ensures lists { (up : Entity → Bool) → ListsDemands self.now up }
         ensures none_breaks { BreaksNone self.now }
     {
         self.is_sound()

@@ -8,7 +8,8 @@ use Rattle.st_net.specs.declared.entity.Row.{Row}
 use Rattle.st_net.specs.declared.promise.Broken.{Broken}
 use Rattle.st_net.specs.declared.topo.LinkOpening.{LinkOpening}
 use Rattle.st_net.specs.Cuts.{is_crossing, numbers_in}
-use Rattle.st_net.specs.Groups.{Group, no_link, promise_of}
+use Rattle.st_net.specs.Demands.{broken_pair}
+use Rattle.st_net.specs.Groups.{Group, no_link}
 use Rattle.st_net.specs.InOrder.{entities_of, place_in}
 use Rattle.st_net.specs.Merge.{alters}
 use Rattle.st_net.specs.UpGraph.{is_up_link}
@@ -97,7 +98,7 @@ abbrev pub out_with : Group → (Entity → Bool) → List ℕ → List ℕ → 
 out_with g up side far = crossing_links g up false (is_device_of g (part_of side far))
 
 abbrev pub far_of : Group → (Entity → Bool) → Broken → List ℕ
-far_of g up broken = numbers_in (length g.devices) (is_far g up (is_device_of g broken.side) (promise_of g broken.promise).b)
+far_of g up broken = numbers_in (length g.devices) (is_far g up (is_device_of g broken.side) (broken_pair g broken).1)
 
 -- the cut of a broken promise, by the sets of what changes, of what is sure, and of what is sure and does not change
 abbrev pub cut_by : Group → (Entity → Bool) → (Entity → Bool) → (Entity → Bool) → Broken → Stands

@@ -1,9 +1,10 @@
 //! Promises asked for one set of entities, by a book that stays as it is: what its kept flows show, and where these show nothing, what
 //! the network of the set tells. No run is counted and no flow is kept.
 
-ghost use Rattle.std.specs.Prelude.{◌≡◌, ◌<◌, length, map, IfOk, IfSome};
+ghost use Rattle.std.specs.Prelude.{◌≡◌, ◌<◌, length, IfOk, IfSome};
 ghost use Rattle.st_net.specs.Groups.{promise_of};
 ghost use Rattle.st_net.specs.Sets.{is_in, MarksOf};
+ghost use Rattle.st_net.specs.Demands.{held_list};
 ghost use Rattle.st_net.specs.Promises.{is_kept};
 ghost use Rattle.st_promise.specs.UpNetwork.{up_network};
 ghost use Rattle.st_promise.specs.Book.{IsBookOf};
@@ -75,7 +76,7 @@ impl Book {
     pub fn held_in(&self, topo: &GroupTopo, up: &EntitySet) -> Result<Vec<bool>, AllocError>
         requires book { IsBookOf topo.now self.now.of }
         requires marks { MarksOf topo.now up.now }
-        ensures { IfOk result (λ held. held.items ≡ map (is_kept topo.now (is_in up.now)) topo.now.promises) }
+        ensures { IfOk result (λ held. held.items ≡ held_list topo.now (is_in up.now)) }
     {
         let shown = self.shown_in(topo, up)?;
         let mut network = None;

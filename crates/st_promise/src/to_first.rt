@@ -7,8 +7,8 @@ ghost use Rattle.std.specs.List.{AllZip};
 ghost use Rattle.st_net.specs.declared.entity.Entity.{Entity};
 ghost use Rattle.st_net.specs.Groups.{Group, promise_of};
 ghost use Rattle.st_net.specs.Sets.{is_in, MarksOf};
-ghost use Rattle.st_net.specs.Demands.{first_broken_of};
-ghost use Rattle.st_net.specs.Promises.{need_of, is_kept};
+ghost use Rattle.st_net.specs.Demands.{first_broken_of, held_list};
+ghost use Rattle.st_net.specs.Promises.{need_of};
 ghost use Rattle.st_promise.specs.UpNetwork.{up_network};
 ghost use Rattle.st_promise.specs.Book.{AreNeedsOf, AreKept};
 ghost use Rattle.st_promise.specs.Change.{IsChange};
@@ -226,7 +226,7 @@ pub fn judge_to_first(
     requires before { MarksOf topo.now before.now }
     requires after { MarksOf topo.now after.now }
     ensures first { IfOk result (λ told. told.first ≡ first_broken_of topo.now (is_in before.now) (is_in after.now)) }
-    ensures holds { IfOk result (λ told. told.holds.items ≡ take (told_to topo.now told.first) (map (is_kept topo.now (is_in after.now)) topo.now.promises)) }
+    ensures holds { IfOk result (λ told. told.holds.items ≡ take (told_to topo.now told.first) (held_list topo.now (is_in after.now))) }
 {
     let mut holds = Vec::with_capacity(alloc, topo.promise_count() as usize)?;
     let mut ahead = Ahead::none(alloc);

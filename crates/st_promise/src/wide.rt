@@ -4,7 +4,7 @@
 ghost use Rattle.std.specs.Prelude.{◌≡◌, ◌<◌, ◌+◌, Bool, true, length, map, Some, None, IfOk, if◌then◌else◌};
 ghost use Rattle.st_net.specs.Groups.{promise_of};
 ghost use Rattle.st_net.specs.Sets.{is_in, MarksOf};
-ghost use Rattle.st_net.specs.Demands.{first_broken_of};
+ghost use Rattle.st_net.specs.Demands.{first_broken_of, held_list};
 ghost use Rattle.st_net.specs.Promises.{need_of, is_kept, is_broken, broken_at, first_broken as first_broken_lem};
 ghost use Rattle.st_promise.specs.UpNetwork.{up_network};
 ghost use Rattle.st_promise.specs.Book.{AreNeedsOf};
@@ -135,7 +135,7 @@ pub fn judge_wide(
     requires before { MarksOf topo.now before.now }
     requires after { MarksOf topo.now after.now }
     ensures first { IfOk result (λ wide. wide.first ≡ first_broken_of topo.now (is_in before.now) (is_in after.now)) }
-    ensures holds { IfOk result (λ wide. wide.holds.items ≡ map (is_kept topo.now (is_in after.now)) topo.now.promises) }
+    ensures holds { IfOk result (λ wide. wide.holds.items ≡ held_list topo.now (is_in after.now)) }
 {
     let before = UpNetwork::of(alloc, topo, before)?;
     let after = UpNetwork::of(alloc, topo, after)?;
