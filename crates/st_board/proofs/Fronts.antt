@@ -1,18 +1,13 @@
 -- What one post more makes of a front, and what two fronts of one line have in common.
-use Rattle.std.proofs.Common.{◌≡◌, ℕ, ◌<◌, ◌+◌, Bool, true, false, List, [], ◌∷◌, ◌++◌, length, All, get_or, refl, ap, sym, ◌∙◌, arith, length-append}
+use Rattle.std.proofs.Common.{◌≡◌, ℕ, ◌<◌, ◌+◌, Bool, true, false, List, [], ◌∷◌, ◌++◌, length, All, refl, ap, sym, ◌∙◌, arith, length-append}
 use Rattle.std.proofs.lemmas.List.{append-nil}
 use mathlib.Core.List.{IsPrefix}
 use Rattle.st_net.specs.declared.entity.Row.{Row}
-use Rattle.st_net.specs.declared.entity.Entity.{Entity}
-use Rattle.st_net.specs.declared.entity.Entity.TheVariants.{Device, Link}
-use Rattle.st_net.specs.declared.entity.Var.{Var}
-use Rattle.st_net.specs.declared.entity.Var.TheVariants.{Power, Firmware, Config, Routing, LinkPower, Iface}
-use Rattle.st_net.specs.Entities.{is_var_of}
-use Rattle.st_net.specs.Groups.{Group, IsEntityOf}
-use Rattle.st_net.specs.Ranges.{RowFits, is_in_range}
+use Rattle.st_net.specs.Groups.{Group}
+use Rattle.st_net.specs.Ranges.{RowFits}
 use Rattle.st_net.specs.Merge.{target_with}
 use Rattle.st_net.proofs.MergeLaws.{merge_of-push_all}
-use Rattle.st_overlay.specs.Values.{Values, IsIn, IsRowIn, HasSameShape, IsTableOf, overlaid}
+use Rattle.st_overlay.specs.Values.{Values, HasSameShape, IsTableOf, overlaid}
 use Rattle.st_overlay.proofs.Overlaying.{Overlays-overlaid}
 use Rattle.st_board.specs.declared.post.Post.{Post}
 use Rattle.st_board.specs.declared.post.Post.TheVariants.{Open, Merge, End}
@@ -108,30 +103,6 @@ counts_end version ended log new merges marked going counted is =
 -- two tables of one group have one shape
 pub shape_of : (g : Group) (t u : Values) → IsTableOf g t → IsTableOf g u → HasSameShape t u
 shape_of g t u a b = record { devices = b.devices ∙ sym a.devices; links = b.links ∙ sym a.links }
-
-var_of_device : (v : Var) (i n : ℕ) → is_in_range (Device i) v n ≡ true → is_var_of (Device i) v ≡ true
-var_of_device Power i n e = refl
-var_of_device Firmware i n e = refl
-var_of_device Config i n e = refl
-var_of_device Routing i n e = refl
-var_of_device LinkPower i n e = absurd cc
-var_of_device Iface i n e = absurd cc
-
-var_of_link : (v : Var) (i n : ℕ) → is_in_range (Link i) v n ≡ true → is_var_of (Link i) v ≡ true
-var_of_link Power i n e = absurd cc
-var_of_link Firmware i n e = absurd cc
-var_of_link Config i n e = absurd cc
-var_of_link Routing i n e = absurd cc
-var_of_link LinkPower i n e = refl
-var_of_link Iface i n e = refl
-
-row_in : (g : Group) (t : Values) (e : Entity) (v : Var) (n : ℕ) → IsTableOf g t → IsEntityOf g e → is_in_range e v n ≡ true → IsIn t e × (is_var_of e v ≡ true)
-row_in g t (Device i) v n of here range = (omega (arith, of.devices, here), var_of_device v i n range)
-row_in g t (Link i) v n of here range = (omega (arith, of.links, here), var_of_link v i n range)
-
--- rows that fit a group are in each table of it
-pub rows_in : (g : Group) (t : Values) (rows : List Row) → IsTableOf g t → All (RowFits g) rows → All (IsRowIn t) rows
-rows_in g t rows of fit = λ k d lt. let row = get_or rows k d in let fits = fit k d lt in row_in g t row.entity row.var row.value of fits.entity fits.range
 
 -- a merge more is laid over the table
 pub merge_more : (g : Group) (proposals : List (List Row)) (rows : List Row) (t : Values) → IsMergeOf g proposals t → All (RowFits g) rows → IsMergeOf g (proposals ++ rows ∷ []) (overlaid t rows)

@@ -20,7 +20,8 @@ use Rattle.st_board.specs.Recent.{Latest, rows_in, merges_with, AreLatestOf}
 use Rattle.st_board.specs.declared.post.Post.{Post}
 use Rattle.st_board.specs.declared.post.Post.TheVariants.{Merge, End}
 use Rattle.st_board.specs.Posts.{group_in, proposals_in}
-use Rattle.st_board.proofs.Fronts.{rows_in as are_rows_in, group_more, proposals_more, proposals_end, shown_more, shown_end}
+use Rattle.st_overlay.proofs.FittingRows.{rows_in as are_rows_in}
+use Rattle.st_board.proofs.Fronts.{group_more, proposals_more, proposals_end, shown_more, shown_end}
 
 rows_in-push : (ps : List (List Row)) (rows : List Row) → rows_in (ps ++ rows ∷ []) ≡ rows_in ps ++ rows
 rows_in-push [] rows = append-nil rows

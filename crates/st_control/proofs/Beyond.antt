@@ -11,7 +11,8 @@ use Rattle.st_net.specs.Groups.{Group, no_device, no_link, opening_of}
 use Rattle.st_net.specs.Sets.{Marks, is_in, is_of}
 use Rattle.st_net.specs.Reports.{opening_report}
 use Rattle.st_net.specs.InOrder.{entity_count}
-use Rattle.st_net.proofs.SetLaws.{not_less, own_at_once}
+use Rattle.st_net.proofs.SetLaws.{own_at_once}
+use Rattle.st_net.proofs.Tests.{not_less}
 use Rattle.st_net.proofs.InOrder.{item_beyond}
 use Rattle.st_overlay.specs.Values.{Values}
 use Rattle.st_control.specs.Sure.{shown_by, MarksShown}

@@ -1,7 +1,6 @@
 -- What is observed is the report with the greatest number that was heard, and the fence the greatest stamp that was delivered.
 use Rattle.std.proofs.Common.{◌≡◌, ℕ, ◌≤◌, List, [], ◌∷◌, Option, Some, None, refl, sym, ◌∙◌, subst, inl, inr, arith}
 use Rattle.std.specs.Prelude.{Bool, true, false, ◌&&◌, max, nat_lt, if◌then◌else◌, ◌⊎◌}
-use Rattle.std.proofs.lemmas.Bool.Decides.{nat_tests}
 use Rattle.st_net.specs.declared.entity.Entity.{Entity}
 use Rattle.st_net.specs.declared.message.Command.{Command}
 use Rattle.st_net.specs.declared.message.Report.{Report}
@@ -13,7 +12,7 @@ use Rattle.st_event.specs.Moments.{heard, told, fence_after, commands, reports, 
 use Rattle.st_net.specs.Reports.{opening_report, later_report}
 use Rattle.st_event.specs.Observed.{observed}
 use Rattle.st_event.specs.Heard.{WasHeard, WasTold}
-use Rattle.st_net.proofs.Tests.{same_self, both, less_is}
+use Rattle.st_net.proofs.Tests.{same_self, both, less_is, not_less}
 use Rattle.st_event.proofs.Stamps.{fence_grows}
 
 newer_if : (e : Entity) (r kept : Report) (b : Bool) → (is_same_entity r.entity e && nat_lt kept.number r.number) ≡ b → kept.number ≤ (if b then r else kept).number
@@ -23,9 +22,6 @@ newer_if e r kept false is = omega arith
 number_rises : (e : Entity) (o : Option Report) (kept : Report) → kept.number ≤ (later_report e o kept).number
 number_rises e None kept = omega arith
 number_rises e (Some r) kept = newer_if e r kept (is_same_entity r.entity e && nat_lt kept.number r.number) refl
-
-not_less : (m n : ℕ) → nat_lt m n ≡ false → n ≤ m
-not_less m n is = grind (arith, nat_tests)
 
 reached_if : (r kept : Report) (b : Bool) → nat_lt kept.number r.number ≡ b → r.number ≤ (if b then r else kept).number
 reached_if r kept true is = omega arith

@@ -2,7 +2,6 @@
 -- than entries.
 use Rattle.std.proofs.Common.{◌≡◌, ℕ, suc, ◌<◌, ◌≤◌, List, [], ◌∷◌, ◌++◌, length, take, Option, Some, None, refl, ap, ◌∙◌, arith}
 use Rattle.std.specs.Prelude.{Bool, true, false, nat_le, if◌then◌else◌}
-use Rattle.std.proofs.lemmas.Bool.Decides.{nat_tests}
 use Rattle.std.proofs.lemmas.List.{length-append, take-append-le, take_all}
 use Rattle.std.proofs.Math.Seq.{take-nil}
 use mathlib.Core.Path.{fun_ext}
@@ -17,18 +16,13 @@ use Rattle.st_event.specs.Proposals.{accepted, accepted_among, deciders, is_acce
 use Rattle.st_event.specs.Standing.{standing_of}
 use Rattle.st_event.specs.Versions.{value_at, versions_with, versions_after}
 use Rattle.st_event.proofs.Standings.{length-deciders}
-
-true_le : (m n : ℕ) → nat_le m n ≡ true → m ≤ n
-true_le m n is = grind (arith, nat_tests, is)
-
-false_le : (m n : ℕ) → nat_le m n ≡ false → n < m
-false_le m n is = grind (arith, nat_tests, is)
+use Rattle.st_net.proofs.Tests.{at_most_is, more_is}
 
 -- the merges of the first overlays of a list that is one longer
 merge_at : (g : Group) (before : List (List Row)) (rows : List Row) (v : ℕ) (b : Bool) → nat_le v (length before) ≡ b → merge_of g (take v (before ++ rows ∷ [])) ≡ (if b then merge_of g (take v before) else target_with (merge_of g before) rows)
-merge_at g before rows v true le = ap (merge_of g) (take-append-le v before (rows ∷ []) (true_le v (length before) le))
+merge_at g before rows v true le = ap (merge_of g) (take-append-le v before (rows ∷ []) (at_most_is v (length before) le))
 merge_at g before rows v false gt =
-    let all : take v (before ++ rows ∷ []) ≡ before ++ rows ∷ [] = take_all v (before ++ rows ∷ []) (let l = false_le v (length before) gt in let n = length-append before (rows ∷ []) in omega (arith, l, n)) in
+    let all : take v (before ++ rows ∷ []) ≡ before ++ rows ∷ [] = take_all v (before ++ rows ∷ []) (let l = more_is v (length before) gt in let n = length-append before (rows ∷ []) in omega (arith, l, n)) in
     ap (merge_of g) all ∙ merge_of-push_all g before rows
 
 overlaid_versions : (g : Group) (past : List Entry) (o : Option (List Row)) → (λ (v : ℕ). merge_of g (take v (with_overlay o (overlays past)))) ≡ versions_with o (standing_of g past) (value_at g past)

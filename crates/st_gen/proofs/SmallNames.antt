@@ -4,8 +4,7 @@ use Rattle.std.proofs.lemmas.List.{take_all}
 use Rattle.std.specs.Prelude.{true, Bool, ◌&&◌, nat_le, decimal, flat_map}
 use Rattle.std.specs.Fmt.{digits}
 use Rattle.std.specs.List.{list_all, AllByRecursion}
-use Rattle.std.proofs.lemmas.Bool.Decides.{nat_tests}
-use Rattle.st_net.proofs.Tests.{both}
+use Rattle.st_net.proofs.Tests.{both, at_most_is, at_most}
 use Rattle.st_net.specs.Names.{is_name, is_letter, is_name_byte, are_name_bytes}
 use Rattle.st_gen.specs.declared.step.Step.{Step}
 use Rattle.st_gen.specs.declared.step.Step.TheVariants.{Pod, Tor, Aggregation, Core}
@@ -25,16 +24,10 @@ record IsShort (n : ℕ) : Type 0 where
   bytes : are_name_bytes (decimal n) ≡ true
   few : length (decimal n) ≤ 2
 
-le_told : (m n : ℕ) → nat_le m n ≡ true → m ≤ n
-le_told m n is = grind (arith, nat_tests)
-
-le_tells : (m n : ℕ) → m ≤ n → nat_le m n ≡ true
-le_tells m n is = grind (arith, nat_tests)
-
 short : (n : ℕ) → n < 100 → IsShort n
 short n small =
     let parts : (are_name_bytes (decimal n) ≡ true) × (nat_le (length (decimal n)) 2 ≡ true) = both (are_name_bytes (decimal n)) (nat_le (length (decimal n)) 2) (passes is_short 100 n all_short small) in
-    record { bytes = parts.0; few = le_told (length (decimal n)) 2 (parts.1) }
+    record { bytes = parts.0; few = at_most_is (length (decimal n)) 2 (parts.1) }
 
 and_both : (p q : Bool) → p ≡ true → q ≡ true → (p && q) ≡ true
 and_both p q hp hq = rw (hp, hq) refl
@@ -79,7 +72,7 @@ all_three : (p q r : Bool) → p ≡ true → q ≡ true → r ≡ true → (p &
 all_three p q r hp hq hr = rw (hp, hq, hr) refl
 
 named : (b : ℕ) (bs : List ℕ) → is_letter b ≡ true → are_name_bytes (b ∷ bs) ≡ true → length (b ∷ bs) ≤ 32 → is_name (b ∷ bs) ≡ true
-named b bs letter bytes few = all_three (is_letter b) (nat_le (length (b ∷ bs)) 32) (are_name_bytes (b ∷ bs)) letter (le_tells (length (b ∷ bs)) 32 few) bytes
+named b bs letter bytes few = all_three (is_letter b) (nat_le (length (b ∷ bs)) 32) (are_name_bytes (b ∷ bs)) letter (at_most (length (b ∷ bs)) 32 few) bytes
 
 begun : (s : Step) (ss : List Step) → are_name_bytes (name_at (s ∷ ss)) ≡ true → length (name_at (s ∷ ss)) ≤ 32 → is_name (name_at (s ∷ ss)) ≡ true
 begun (Pod p) ss bytes few = named 112 (decimal p ++ name_at ss) refl bytes few

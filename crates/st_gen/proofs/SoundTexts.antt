@@ -1,8 +1,7 @@
 -- The document that is generated is sound.
 use Rattle.std.proofs.Common.{◌≡◌, sym, subst, ℕ, ◌+◌, ◌<◌, ◌≤◌, ◌%◌, ◌^◌, ◌∷◌, [], List, length, refl, arith, length-append, lit<, lit≤}
-use Rattle.std.specs.Prelude.{Result, Ok, Err, IfOk, All, true, map, flat_map, nat_lt, nat_le}
+use Rattle.std.specs.Prelude.{Result, Ok, Err, IfOk, All, true, map, flat_map, nat_lt}
 use Rattle.std.specs.List.{list_all}
-use Rattle.std.proofs.lemmas.Bool.Decides.{nat_tests}
 use Rattle.std.proofs.lemmas.List.{length-map}
 use Rattle.std.proofs.lemmas.List.FromFn.{length-map-range_with_len}
 use Rattle.std.proofs.lemmas.List.Elements.{All-nil, All-cons, All-append, All-map}
@@ -23,15 +22,7 @@ use Rattle.st_gen.specs.Generated.{IsPods, generated}
 use Rattle.st_gen.proofs.Numbers.{passes, all_below, all_joined}
 use Rattle.st_gen.proofs.Counted.{IsCounted, counted}
 use Rattle.st_gen.proofs.SoundParts.{sound_tree}
-
-lt_told : (m n : ℕ) → nat_lt m n ≡ true → m < n
-lt_told m n is = grind (arith, nat_tests)
-
-lt_tells : (m n : ℕ) → m < n → nat_lt m n ≡ true
-lt_tells m n is = grind (arith, nat_tests)
-
-le_told : (m n : ℕ) → nat_le m n ≡ true → m ≤ n
-le_told m n is = grind (arith, nat_tests)
+use Rattle.st_net.proofs.Tests.{less_is, less, at_most_is}
 
 abbrev group : ℕ → Group
 group pods = group_of (fat_tree pods)
@@ -44,14 +35,14 @@ device_count pods = length-map (devices pods) device_opening
 
 -- a device by its number
 in_group : (pods n : ℕ) → nat_lt n (length (devices pods)) ≡ true → n < length (map device_opening (devices pods))
-in_group pods n is = let low : n < length (devices pods) = lt_told n (length (devices pods)) is in omega (arith, device_count pods, low)
+in_group pods n is = let low : n < length (devices pods) = less_is n (length (devices pods)) is in omega (arith, device_count pods, low)
 
 row_fits : (pods value p j : ℕ) → IsCounted pods → p < pods → j < half pods → value < 2 ^ 32 → RowFits (group pods) (firmware_row (half pods) value p j)
 row_fits pods value p j c pod switch small =
     let row = passes (λ p. list_all (λ j. nat_lt (aggregation_number (half pods) p j) (length (devices pods))) (numbers (half pods))) pods p c.within pod in
     record {
       entity = in_group pods (aggregation_number (half pods) p j) (passes (λ j. nat_lt (aggregation_number (half pods) p j) (length (devices pods))) (half pods) j row switch);
-      range = lt_tells value (2 ^ 32) small;
+      range = less value (2 ^ 32) small;
     }
 
 -- the rows of a stage, and those of one pod
@@ -103,7 +94,7 @@ sound_upgrader pods seed is c =
     let pod : seed % pods < pods = omega arith in
     let stages : List Act = flat_map (stage pods value) (numbers (half pods)) in
     let last : List Act = whole_pod pods (value + 1) (seed % pods) in
-    let few_stages : length stages ≤ 1000 = le_told (length stages) 1000 (c.few value) in
+    let few_stages : length stages ≤ 1000 = at_most_is (length stages) 1000 (c.few value) in
     record {
       name = refl;
       few = omega (arith, length-append stages last, few_stages);

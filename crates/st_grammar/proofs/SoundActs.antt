@@ -27,7 +27,7 @@ use Rattle.st_token.specs.Spelling.{name_in, known_name_in, entity_in, number_in
 use Rattle.st_token.specs.Variables.{new_assignment_in, var_named, var_in, assigned_in, variable_by, variable_in, dotted_variable_in, undotted_variable_in, new_value_in, rows_in, values_in}
 use Rattle.st_token.specs.Counts.{one_of, two_of, three_of, four_of, three_and_more_of, one_and_some_of}
 use Rattle.st_token.proofs.PrintedTokens.{each}
-use Rattle.st_token.proofs.ReadTokens.{came_from, chose, chosen, was_some, place_below, number_range, number_bound, number_from_is, number_above_is, IsRowOf, assigned_range, var_known}
+use Rattle.st_token.proofs.ReadTokens.{came_from, chose, chosen, was_some, place_below, number_range, number_bound, number_from_is, number_above_is, IsRowOf, assigned_range, var_known, some_tokens}
 use Rattle.st_token.proofs.RowLemmas.{apart_last}
 use Rattle.st_grammar.specs.declared.limits.TheConstants.{MAX_ROUNDS}
 use Rattle.st_grammar.specs.declared.keyword.ActWord.{ActWord}
@@ -85,11 +85,6 @@ group_found d token found is =
     let number : n.0 ≡ found.0 = cc in
     let group : g.0 ≡ found.1 = cc in
     subst (λ (k : ℕ). slice_get (groups_of d) k ≡ Some found.1) number (at ∙ ap Some group)
-
-some_tokens : (args : List (List ℕ)) (words : List ℕ × List (List ℕ)) → one_and_some_of args ≡ Ok words → 1 ≤ length words.1
-some_tokens [] words is = absurd (cc)
-some_tokens (a ∷ []) words is = absurd (cc)
-some_tokens (a ∷ b ∷ more) words is = let same : b ∷ more ≡ words.1 = cc in subst (λ (ws : List (List ℕ)). 1 ≤ length ws) same (omega arith)
 
 pub propose_good : (d : Draft) (args : List (List ℕ)) (act : Act) → propose_of d args ≡ Ok act → IsSoundAct (map parts_of (groups_of d)) act
 unfolding propose_of

@@ -27,7 +27,7 @@ use Rattle.st_token.specs.Places.{cut_at}
 use Rattle.st_token.specs.Counts.{none_of, one_of, three_of, one_and_some_of, two_and_some_of}
 use Rattle.st_token.specs.Spelling.{name_in, entity_in, number_in, number_within, most_health, prio_in}
 use Rattle.st_token.specs.Variables.{dotted_in, undotted_in, assignment_by, assignment_in, new_assignment_in, rows_in, number_of_var_in, value_by, value_in}
-use Rattle.st_token.proofs.ReadTokens.{came_from, chose, chosen, was_some, number_range, place_below, assigned_range}
+use Rattle.st_token.proofs.ReadTokens.{came_from, chose, chosen, was_some, number_range, place_below, assigned_range, some_tokens}
 use Rattle.st_token.proofs.RowLemmas.{apart_last}
 use Rattle.st_journal.specs.EventReading.{app_in, vals_in, submit_of, check_of, lock_of, unlock_of, send_of, finish_of, report_of, deliver_of, hear_of, fail_of, event_of, has_few_rows}
 
@@ -89,11 +89,6 @@ rows_read g (token ∷ tokens) set rows count s had is =
     let more : AreRowsOf g (count + 1) (set ++ row.0 ∷ []) = record { each = pushed (RowFits g) set row.0 had.each fits; apart = apart_last set row.0 had.apart fresh; count_is = let n : length set ≡ count = had.count_is in rw (length_push set row.0) (omega arith) } in
     let number : (count + 1) + length tokens ≡ count + suc (length tokens) = omega arith in
     subst (λ (n : ℕ). AreRowsOf g n rows) number (rows_read g tokens (set ++ row.0 ∷ []) rows (count + 1) s more row.2)
-
-some_tokens : (args : List (List ℕ)) (words : List ℕ × List (List ℕ)) → one_and_some_of args ≡ Ok words → 1 ≤ length words.1
-some_tokens [] words is = absurd (cc)
-some_tokens (a ∷ []) words is = absurd (cc)
-some_tokens (a ∷ b ∷ more) words is = let same : b ∷ more ≡ words.1 = cc in subst (λ (ws : List (List ℕ)). 1 ≤ length ws) same (omega arith)
 
 -- an event that fits, but for how many rows it has
 abbrev pub FitsIfFew : Group → Event → Type 0

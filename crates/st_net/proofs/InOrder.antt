@@ -10,7 +10,8 @@ use Rattle.st_net.specs.Groups.{Group, IsEntityOf}
 use Rattle.st_net.specs.Sets.{is_of}
 use Rattle.st_net.specs.InOrder.{entities_of, entity_count, place_in, item_in}
 use Rattle.st_net.proofs.EntityOrder.{entities_count, at_place}
-use Rattle.st_net.proofs.SetLaws.{not_less, own_is}
+use Rattle.st_net.proofs.SetLaws.{own_is}
+use Rattle.st_net.proofs.Tests.{not_less}
 
 take_at : {X : Type 0} (n : ℕ) (xs : List X) (i : ℕ) (d : X) → i < n → get_or (take n xs) i d ≡ get_or xs i d
 take_at zero xs i d lt = absurd (omega arith)

@@ -1,19 +1,15 @@
 -- The entities of a group as a set, and sets of them.
 use Rattle.std.proofs.Common.{◌≡◌, ℕ, ◌≤◌, length, refl, sym, ◌∙◌, arith}
-use Rattle.std.specs.Prelude.{Bool, true, false, ◌&&◌, nat_lt}
-use Rattle.std.proofs.lemmas.Bool.Decides.{nat_tests}
+use Rattle.std.specs.Prelude.{Bool, true, false, ◌&&◌}
 use Rattle.std.proofs.lemmas.List.{get_or_past}
 use mathlib.Core.Path.{fun_ext}
 use Rattle.st_net.specs.declared.entity.Entity.{Entity}
 use Rattle.st_net.specs.declared.entity.Entity.TheVariants.{Device, Link}
 use Rattle.st_net.specs.Groups.{Group, IsEntityOf}
 use Rattle.st_net.specs.Sets.{Marks, MarksOf, HasSameMarks, is_of, is_in}
-use Rattle.st_net.proofs.Tests.{less_is}
+use Rattle.st_net.proofs.Tests.{less_is, not_less}
 
 -- a number that is not less than another is at least that
-pub not_less : (m n : ℕ) → nat_lt m n ≡ false → n ≤ m
-not_less m n is = grind (arith, nat_tests)
-
 pub own_is : (g : Group) (e : Entity) → is_of g e ≡ true → IsEntityOf g e
 own_is g (Device i) is = less_is i (length g.devices) is
 own_is g (Link i) is = less_is i (length g.links) is

@@ -20,6 +20,7 @@ use Rattle.std.proofs.lemmas.List.{length-map}
 use Rattle.st_net.specs.Faults.{device_names, link_names, first_twice, first_link, first_promise, is_own, is_unknown_end, has_unknown_end, has_unknown_tor, is_loop, is_cross, device_limit, link_limit, promise_limit, limit_or, tors_with, first_device_limit, first_link_limit, first_promise_limit, is_tor, is_tor_name, is_on_names, was_promised, is_bad_pair, first_bad_pair, place_or, fault_or, promises_at, number_of, device_opening, link_opening, promise_opening, twice_of, unknown_of, loop_of, cross_of, limit_of, pair_of, fault_of, group_of}
 use Rattle.st_net.proofs.NameSteps.{all_new}
 use Rattle.st_net.proofs.PairSteps.{at_place, one_place, was_promised_last, or_none, or_assoc}
+use Rattle.st_net.proofs.Tests.{at_most_is, more_is}
 
 -- nothing of two is nothing of each
 fault_none : (a b : Option TopoFault) → fault_or a b ≡ None → (a ≡ None) × (b ≡ None)
@@ -55,12 +56,6 @@ turned : (p : Bool) → not p ≡ false → p ≡ true
 turned true is = refl
 turned false is = cc
 
-at_most : (m n : ℕ) → nat_le m n ≡ true → m ≤ n
-at_most m n is = grind (arith, nat_tests)
-
-below : (m n : ℕ) → nat_le n m ≡ false → m < n
-below m n is = grind (arith, nat_tests)
-
 -- devices
 
 record IsFineDevice (at tors : ℕ) (d : DevicePart) : Type 0 where
@@ -78,7 +73,7 @@ fine_device : (at tors : ℕ) (d : DevicePart) → device_limit at tors d ≡ No
 fine_device at tors d is =
     let parts = device_choice (nat_le MAX_DEVICES at) (d.tor && nat_le MAX_TORS tors) (are_device_vals d.vals && nat_le d.health 5) is in
     let opens = both (are_device_vals d.vals) (nat_le d.health 5) parts.2 in
-    record { few = below at MAX_DEVICES parts.0; tors_fit = parts.1; opens = record { vals = opens.0; health = at_most d.health 5 opens.1 } }
+    record { few = more_is MAX_DEVICES at parts.0; tors_fit = parts.1; opens = record { vals = opens.0; health = at_most_is d.health 5 opens.1 } }
 
 fine_devices : (at tors : ℕ) (ds : List DevicePart) → first_device_limit at tors ds ≡ None → AreDevices (map device_opening ds)
 fine_devices at tors [] is = tt
@@ -95,7 +90,7 @@ few_devices at tors (d ∷ ds) low is =
     omega (arith, rest)
 
 tors_step : (tors rest : ℕ) (b : Bool) → (b && nat_le MAX_TORS tors) ≡ false → tors ≤ MAX_TORS → ((if b then tors + 1 else tors) ≤ MAX_TORS → (if b then tors + 1 else tors) + rest ≤ MAX_TORS) → tors + ((if b then 1 else 0) + rest) ≤ MAX_TORS
-tors_step tors rest true fit low later = let under = below tors MAX_TORS fit in let most = later (omega (arith, under)) in omega (arith, most)
+tors_step tors rest true fit low later = let under = more_is MAX_TORS tors fit in let most = later (omega (arith, under)) in omega (arith, most)
 tors_step tors rest false fit low later = let most = later low in omega (arith, most)
 
 few_tors : (at tors : ℕ) (ds : List DevicePart) → tors ≤ MAX_TORS → first_device_limit at tors ds ≡ None → tors + tor_count (map device_opening ds) ≤ MAX_TORS
@@ -154,15 +149,15 @@ fine_link group names number l unknown loops cross limit =
     let other : bytes_eq l.a.name l.b.name ≡ false = not_loop (is_own group l.a) (is_own group l.b) (bytes_eq l.a.name l.b.name) loops owns.0 owns.1 in
     let fits = link_choice (nat_le MAX_LINKS number) (nat_le 1 l.capacity) (nat_le l.capacity MAX_CAPACITY) (are_link_vals l.vals && nat_le l.health 1) limit in
     let opens = both (are_link_vals l.vals) (nat_le l.health 1) fits.3 in (
-      below number MAX_LINKS fits.0,
+      more_is MAX_LINKS number fits.0,
       record {
         a_in = known_low names l.a.name in_a;
         b_in = known_low names l.b.name in_b;
         apart = numbers_differ names l.a.name l.b.name in_a in_b other;
-        carries = at_most 1 l.capacity fits.1;
-        bounded = at_most l.capacity MAX_CAPACITY fits.2;
+        carries = at_most_is 1 l.capacity fits.1;
+        bounded = at_most_is l.capacity MAX_CAPACITY fits.2;
         vals = opens.0;
-        health = at_most l.health 1 opens.1;
+        health = at_most_is l.health 1 opens.1;
       },
     )
 
@@ -239,14 +234,14 @@ fine_promise devices number p ends tor_a tor_b other limit =
     let many = many_devices devices in
     let low_a = known_low (device_names devices) p.a ends.a in
     let low_b = known_low (device_names devices) p.b ends.b in (
-      below number MAX_PROMISES fits.0,
+      more_is MAX_PROMISES number fits.0,
       record {
         a_in = omega (arith, many, low_a);
         b_in = omega (arith, many, low_b);
         apart = numbers_differ (device_names devices) p.a p.b ends.a ends.b other;
         a_tor = tor_named devices p.a ends.a tor_a;
         b_tor = tor_named devices p.b ends.b tor_b;
-        share = at_most p.percent MAX_PERCENT fits.1;
+        share = at_most_is p.percent MAX_PERCENT fits.1;
       },
     )
 

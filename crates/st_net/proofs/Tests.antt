@@ -45,6 +45,18 @@ equal_self n = grind (arith, nat_tests)
 pub at_most : (m n : ℕ) → m ≤ n → nat_le m n ≡ true
 at_most m n is = grind (arith, nat_tests)
 
+pub at_most_is : (m n : ℕ) → nat_le m n ≡ true → m ≤ n
+at_most_is m n is = grind (arith, nat_tests)
+
+pub more : (m n : ℕ) → n < m → nat_le m n ≡ false
+more m n is = grind (arith, nat_tests)
+
+pub more_is : (m n : ℕ) → nat_le m n ≡ false → n < m
+more_is m n is = grind (arith, nat_tests)
+
+pub not_less : (m n : ℕ) → nat_lt m n ≡ false → n ≤ m
+not_less m n is = grind (arith, nat_tests)
+
 pub less : (m n : ℕ) → m < n → nat_lt m n ≡ true
 less m n is = grind (arith, nat_tests)
 

@@ -9,6 +9,7 @@ use Rattle.st_net.specs.UpGraph.{is_up_link, is_joint, Leads, IsWalk}
 use Rattle.st_net.specs.Cuts.{is_crossing, cut_value_from, cut_value, IsCut, with_number, cut_of, least_cut}
 use Rattle.st_net.specs.Promises.{Holds, is_held}
 use Rattle.st_net.proofs.CutLaws.{both, least_over-attained, least_over-below}
+use Rattle.st_net.proofs.Tests.{turned}
 
 -- an up link that crosses a set
 record Crosses (links : List LinkOpening) (up : Entity → Bool) (side : ℕ → Bool) (i : ℕ) : Type 0 where
@@ -38,10 +39,6 @@ first_or_later at link links up side false q is_up crosses some later = later_li
 crossing_from : (at : ℕ) (links : List LinkOpening) (up : Entity → Bool) (side : ℕ → Bool) → 0 < cut_value_from at links up side → (i : ℕ) × CrossesFrom at links up side i
 crossing_from at [] up side some = absurd (omega arith)
 crossing_from at (link ∷ links) up side some = first_or_later at link links up side (is_up_link up at link) (is_crossing side link) refl refl some (crossing_from (at + 1) links up side)
-
-turned : (b : Bool) → not b ≡ true → b ≡ false
-turned true is = sym is
-turned false is = refl
 
 -- a walk with one link more
 walk_push : (links : List LinkOpening) (up : Entity → Bool) (a : ℕ) (walk : List ℕ) (x y i : ℕ) → IsWalk links up a walk x → Leads links up i x y → IsWalk links up a (walk ++ i ∷ []) y

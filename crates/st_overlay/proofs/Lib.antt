@@ -2,3 +2,4 @@ pub mod RowSets
 pub mod Overlaying
 pub mod Openings
 pub mod Alterations
+pub mod FittingRows

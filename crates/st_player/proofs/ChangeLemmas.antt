@@ -16,7 +16,7 @@ use Rattle.st_net.specs.Promises.{is_kept}
 use Rattle.st_net.specs.Sets.{IsWithin}
 use Rattle.st_net.proofs.EntityOrder.{device_at, entities_count, link_at}
 use Rattle.st_net.proofs.GroupLaws.{keeps_with_more, tells_kept}
-use Rattle.st_net.proofs.Tests.{equal_numbers, same_entity}
+use Rattle.st_net.proofs.Tests.{equal_numbers, same_entity, turned}
 use Rattle.st_event.specs.History.{History}
 use Rattle.st_player.specs.declared.snapshot.Held.{Held}
 use Rattle.st_player.specs.declared.state.State.{State}
@@ -32,12 +32,8 @@ use Rattle.st_player.specs.Touched.{IsRenewed, Touches, change_at, may_show, set
 use Rattle.st_player.proofs.StateParts.{same_as_itself}
 
 -- a state does not differ from itself, nor a list of them
-not_so : (b : Bool) → not b ≡ true → b ≡ false
-not_so true is = sym is
-not_so false is = refl
-
 no_field : (s : State) → has_field (fields_between s s) ≡ false
-no_field s = not_so (has_field (fields_between s s)) (same_as_itself s)
+no_field s = turned (has_field (fields_between s s)) (same_as_itself s)
 
 pub changes_none : (n : ℕ) (states : List State) → changes_from n states states ≡ []
 changes_none n [] = refl

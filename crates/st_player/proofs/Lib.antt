@@ -18,7 +18,6 @@ pub mod StateParts
 pub mod ToldCuts
 pub mod ToldEntries
 pub mod Untouched
-pub mod WeighLemmas
 mod WorkedCalls
 mod WorkedCuts
 mod WorkedEntries

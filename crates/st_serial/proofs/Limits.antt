@@ -1,7 +1,6 @@
 -- A group in which nothing is wrong keeps the limits, and so the counts of a document are small.
 use Rattle.std.proofs.Common.{◌≡◌, ℕ, ◌+◌, ◌^◌, ◌<◌, ◌≤◌, ◌&&◌, List, [], ◌∷◌, length, Bool, true, false, Option, Some, None, refl, arith}
 use Rattle.std.specs.Prelude.{if◌then◌else◌, nat_le, slice_index_or, sum_by}
-use Rattle.std.proofs.lemmas.Bool.Decides.{nat_tests}
 use Rattle.std.proofs.lemmas.List.Sums.{sum_by-le}
 use Rattle.st_net.specs.declared.parts.Parts.{Parts}
 use Rattle.st_net.specs.declared.parts.DevicePart.{DevicePart}
@@ -17,6 +16,7 @@ use Rattle.st_grammar.specs.declared.doc.Doc.{Doc}
 use Rattle.st_grammar.specs.declared.doc.Script.{Script}
 use Rattle.st_grammar.specs.declared.limits.TheConstants.{MAX_ACTS}
 use Rattle.st_grammar.specs.Sound.{IsSoundDoc}
+use Rattle.st_net.proofs.Tests.{more_is}
 
 fault_none : (a b : Option TopoFault) → fault_or a b ≡ None → (a ≡ None) × (b ≡ None)
 fault_none None b is = (refl, is)
@@ -30,14 +30,11 @@ not_taken : (p : Bool) (l : Limit) (rest : Option Limit) → (if p then Some l e
 not_taken true l rest is = cc
 not_taken false l rest is = refl
 
-below : (m n : ℕ) → nat_le n m ≡ false → m < n
-below m n is = grind (arith, nat_tests)
-
 few_devices : (at tors : ℕ) (ds : List DevicePart) → at ≤ MAX_DEVICES → first_device_limit at tors ds ≡ None → at + length ds ≤ MAX_DEVICES
 few_devices at tors [] low is = omega arith
 few_devices at tors (d ∷ ds) low is =
     let parts = limit_none (device_limit at tors d) at (first_device_limit (at + 1) (tors_with tors d) ds) is in
-    let under = below at MAX_DEVICES (not_taken (nat_le MAX_DEVICES at) Devices (if d.tor && nat_le MAX_TORS tors then Some Tors else (if are_device_vals d.vals && nat_le d.health 5 then None else Some Opening)) parts.0) in
+    let under = more_is MAX_DEVICES at (not_taken (nat_le MAX_DEVICES at) Devices (if d.tor && nat_le MAX_TORS tors then Some Tors else (if are_device_vals d.vals && nat_le d.health 5 then None else Some Opening)) parts.0) in
     let rest = few_devices (at + 1) (tors_with tors d) ds (omega (arith, under)) parts.1 in
     omega (arith, rest)
 
@@ -45,7 +42,7 @@ few_links : (before number : ℕ) (ls : List LinkPart) → number ≤ MAX_LINKS 
 few_links before number [] low is = omega arith
 few_links before number (l ∷ ls) low is =
     let parts = limit_none (link_limit number l) (before + number) (first_link_limit before (number + 1) ls) is in
-    let under = below number MAX_LINKS (not_taken (nat_le MAX_LINKS number) Links (if nat_le 1 l.capacity && nat_le l.capacity MAX_CAPACITY then (if are_link_vals l.vals && nat_le l.health 1 then None else Some Opening) else Some Capacity) parts.0) in
+    let under = more_is MAX_LINKS number (not_taken (nat_le MAX_LINKS number) Links (if nat_le 1 l.capacity && nat_le l.capacity MAX_CAPACITY then (if are_link_vals l.vals && nat_le l.health 1 then None else Some Opening) else Some Capacity) parts.0) in
     let rest = few_links before (number + 1) ls (omega (arith, under)) parts.1 in
     omega (arith, rest)
 
@@ -53,7 +50,7 @@ few_promises : (before number : ℕ) (ps : List PromisePart) → number ≤ MAX_
 few_promises before number [] low is = omega arith
 few_promises before number (p ∷ ps) low is =
     let parts = limit_none (promise_limit number p) (before + number) (first_promise_limit before (number + 1) ps) is in
-    let under = below number MAX_PROMISES (not_taken (nat_le MAX_PROMISES number) Promises (if nat_le p.percent MAX_PERCENT then None else Some Percent) parts.0) in
+    let under = more_is MAX_PROMISES number (not_taken (nat_le MAX_PROMISES number) Promises (if nat_le p.percent MAX_PERCENT then None else Some Percent) parts.0) in
     let rest = few_promises before (number + 1) ps (omega (arith, under)) parts.1 in
     omega (arith, rest)
 

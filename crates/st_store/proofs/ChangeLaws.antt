@@ -6,17 +6,12 @@ use Rattle.std.proofs.lemmas.List.Elements.{All-push}
 use Rattle.st_net.specs.declared.entity.Vals.{Vals}
 use Rattle.st_store.specs.declared.change.Change.{Change}
 use Rattle.st_store.specs.Changes.{vals_upto, is_last_at, with_change, IsAscending, IsUpTo, IsOrderly}
+use Rattle.st_net.proofs.Tests.{at_most, more}
 
 -- one change more at the end counts where it is of that version or an earlier one
 pub vals_upto-append : (v : ℕ) (cs : List Change) (c : Change) (before : Vals) → vals_upto v (cs ++ c ∷ []) before ≡ (if nat_le c.version v then c.vals else vals_upto v cs before)
 vals_upto-append v [] c before = refl
 vals_upto-append v (x ∷ cs) c before = vals_upto-append v cs c (if nat_le x.version v then x.vals else before)
-
-le_true : (m n : ℕ) → m ≤ n → nat_le m n ≡ true
-le_true m n le = grind (arith, nat_tests)
-
-le_false : (m n : ℕ) → n < m → nat_le m n ≡ false
-le_false m n lt = grind (arith, nat_tests)
 
 first_upto : (n : ℕ) (c : Change) (cs : List Change) → All (IsUpTo n) (c ∷ cs) → c.version ≤ n
 first_upto n c cs all = all 0 c (omega arith)
@@ -30,7 +25,7 @@ vals_upto-beyond n v [] before le all = refl
 vals_upto-beyond n v (c ∷ cs) before le all =
     let here : c.version ≤ n = first_upto n c cs all in
     let there : c.version ≤ v = omega arith in
-    rw (le_true c.version n here, le_true c.version v there) (vals_upto-beyond n v cs c.vals le (rest_upto n c cs all))
+    rw (at_most c.version n here, at_most c.version v there) (vals_upto-beyond n v cs c.vals le (rest_upto n c cs all))
 
 -- no change is of that version or an earlier one
 none_upto : (v : ℕ) (cs : List Change) (before : Vals) → ((k : ℕ) (d : Change) → k < length cs → nat_le (get_or cs k d).version v ≡ false) → vals_upto v cs before ≡ before

@@ -1,7 +1,6 @@
 -- A store's versions after a list of accepted proposals.
 use Rattle.std.proofs.Common.{◌≡◌, ℕ, ◌+◌, ◌<◌, ◌≤◌, List, [], ◌∷◌, ◌++◌, length, take, refl, sym, ap, ◌∙◌, subst, arith, append_assoc, append-nil}
 use Rattle.std.specs.Prelude.{Bool, true, false, nat_le, if◌then◌else◌}
-use Rattle.std.proofs.lemmas.Bool.Decides.{nat_tests}
 use Rattle.std.proofs.lemmas.List.{length-append, take-append-le, take_all}
 use Rattle.std.proofs.Math.Seq.{take-nil}
 use Rattle.st_net.specs.declared.entity.Entity.{Entity}
@@ -14,12 +13,7 @@ use Rattle.st_net.proofs.MergeLaws.{merge_of-push_all}
 use Rattle.st_store.specs.Changes.{value_at}
 use Rattle.st_store.specs.Store.{StoreView, IsStart, Decides}
 use Rattle.st_store.specs.Laws.{HasMerged, KeepsVersions, ComesBy, MakesOne}
-
-true_le : (m n : ℕ) → nat_le m n ≡ true → m ≤ n
-true_le m n is = grind (arith, nat_tests, is)
-
-false_le : (m n : ℕ) → nat_le m n ≡ false → n < m
-false_le m n is = grind (arith, nat_tests, is)
+use Rattle.st_net.proofs.Tests.{at_most_is, more_is}
 
 -- nothing is accepted at the start
 pub HasMerged-start : (g : Group) (s : StoreView) → IsStart g s → HasMerged g [] s
@@ -42,11 +36,11 @@ HasMerged-accept g accepted old new entry was step = record {
 
     by_version : (v : ℕ) (b : Bool) → nat_le v old.version ≡ b → (if b then value_at old.versions v else target_with (value_at old.versions old.version) rows) ≡ merge_of g (take v (accepted ++ rows ∷ []))
     by_version v true le =
-        let few : v ≤ length accepted = let version = was.version in let l = true_le v old.version le in omega (arith, l, version) in
+        let few : v ≤ length accepted = let version = was.version in let l = at_most_is v old.version le in omega (arith, l, version) in
         was.versions v ∙ ap (merge_of g) (sym (take-append-le v accepted (rows ∷ []) few))
     by_version v false gt =
         let all : take old.version accepted ≡ accepted = take_all old.version accepted (let version = was.version in omega (arith, version)) in
-        let more : take v (accepted ++ rows ∷ []) ≡ accepted ++ rows ∷ [] = take_all v (accepted ++ rows ∷ []) (let version = was.version in let l = false_le v old.version gt in let n = length-append accepted (rows ∷ []) in omega (arith, l, version, n)) in
+        let more : take v (accepted ++ rows ∷ []) ≡ accepted ++ rows ∷ [] = take_all v (accepted ++ rows ∷ []) (let version = was.version in let l = more_is v old.version gt in let n = length-append accepted (rows ∷ []) in omega (arith, l, version, n)) in
         ap (λ (target : Entity → Var → ℕ). target_with target rows) (was.versions old.version ∙ ap (merge_of g) all)
         ∙ sym (merge_of-push_all g accepted rows)
         ∙ ap (merge_of g) (sym more)

@@ -13,7 +13,7 @@ use Rattle.st_net.specs.declared.entity.Var.{Var}
 use Rattle.st_net.specs.Entities.{is_same_entity, value_of, value_set}
 use Rattle.st_net.specs.Groups.{Group}
 use Rattle.st_net.specs.Merge.{target_with, merge_of}
-use Rattle.st_net.proofs.Tests.{neither}
+use Rattle.st_net.proofs.Tests.{neither, at_most, more, at_most_is, more_is}
 use Rattle.st_overlay.specs.Values.{Values, IsIn, IsRowIn, IsTableOf, Overlays, vals_at, vals_set, value_in, row_set, overlaid}
 use Rattle.st_overlay.proofs.Alterations.{is_named}
 use Rattle.st_store.specs.declared.change.Change.{Change}
@@ -43,18 +43,6 @@ vals_at-overlaid_other t (row ∷ rows) e none =
     let apart = neither (is_same_entity row.entity e) (is_named rows e) none in
     vals_at-overlaid_other (row_set t row) rows e apart.1
     ∙ vals_at-vals_set_other t row.entity e (value_set row.entity (vals_at t row.entity) row.var row.value) apart.0
-
-le_true : (m n : ℕ) → m ≤ n → nat_le m n ≡ true
-le_true m n le = grind (arith, nat_tests)
-
-le_false : (m n : ℕ) → n < m → nat_le m n ≡ false
-le_false m n lt = grind (arith, nat_tests)
-
-true_le : (m n : ℕ) → nat_le m n ≡ true → m ≤ n
-true_le m n is = grind (arith, nat_tests, is)
-
-false_le : (m n : ℕ) → nat_le m n ≡ false → n < m
-false_le m n is = grind (arith, nat_tests, is)
 
 -- the lists have the entities that the target has, and so do the tables
 pub HasEntity-current : (v : VersionsView) (e : Entity) → HasSameEntities v → IsIn v.target e → HasEntity v.changes e
@@ -91,7 +79,7 @@ module _ (old : VersionsView) (table : Values) (rows : List Row) (is : IsCurrent
   from_next : (v : ℕ) (e : Entity) → old.version + 1 ≤ v → vals_at_version (entered (old.version + 1) table old.changes rows) v e ≡ vals_at table e
   from_next v e le =
       vals_at_version-entered (old.version + 1) table old.changes rows v e (HasEntities-current old rows is.entities fits)
-      ∙ ap (λ (from : Bool). if is_named rows e && from then vals_at table e else vals_at_version old.changes v e) (le_true (old.version + 1) v le)
+      ∙ ap (λ (from : Bool). if is_named rows e && from then vals_at table e else vals_at_version old.changes v e) (at_most (old.version + 1) v le)
       ∙ by_name (is_named rows e) refl
     where
       by_name : (named : Bool) → is_named rows e ≡ named → (if named && true then vals_at table e else vals_at_version old.changes v e) ≡ vals_at table e
@@ -102,7 +90,7 @@ module _ (old : VersionsView) (table : Values) (rows : List Row) (is : IsCurrent
   before_next : (v : ℕ) (e : Entity) → v ≤ old.version → vals_at_version (entered (old.version + 1) table old.changes rows) v e ≡ vals_at_version old.changes v e
   before_next v e le =
       vals_at_version-entered (old.version + 1) table old.changes rows v e (HasEntities-current old rows is.entities fits)
-      ∙ ap (λ (from : Bool). if is_named rows e && from then vals_at table e else vals_at_version old.changes v e) (le_false (old.version + 1) v (omega arith))
+      ∙ ap (λ (from : Bool). if is_named rows e && from then vals_at table e else vals_at_version old.changes v e) (more (old.version + 1) v (omega arith))
       ∙ by_name (is_named rows e)
     where
       by_name : (named : Bool) → (if named && false then vals_at table e else vals_at_version old.changes v e) ≡ vals_at_version old.changes v e
@@ -113,9 +101,9 @@ module _ (old : VersionsView) (table : Values) (rows : List Row) (is : IsCurrent
   value_at-merged over = fun_ext (λ v. by_version v (nat_le v old.version) refl)
     where
       by_version : (v : ℕ) (b : Bool) → nat_le v old.version ≡ b → value_at (entered (old.version + 1) table old.changes rows) v ≡ (if b then value_at old.changes v else target_with (value_at old.changes old.version) rows)
-      by_version v true le = fun_ext (λ e. ap (value_of e) (before_next v e (true_le v old.version le)))
+      by_version v true le = fun_ext (λ e. ap (value_of e) (before_next v e (at_most_is v old.version le)))
       by_version v false gt =
-          fun_ext (λ e. ap (value_of e) (from_next v e (let lt = false_le v old.version gt in omega (arith, lt))))
+          fun_ext (λ e. ap (value_of e) (from_next v e (let lt = more_is v old.version gt in omega (arith, lt))))
           ∙ over.values
           ∙ ap (λ (target : Entity → Var → ℕ). target_with target rows) (sym (value_at-latest old is old.version (omega arith)))
 

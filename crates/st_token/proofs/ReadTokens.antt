@@ -16,6 +16,7 @@ use Rattle.st_net.specs.Entities.{is_var_of}
 use Rattle.st_net.specs.Ranges.{is_in_range}
 use Rattle.st_token.specs.declared.fault.FaultKind.TheVariants as kinds
 use Rattle.st_token.specs.Steps.{◌>>=◌}
+use Rattle.st_token.specs.Counts.{one_and_some_of}
 use Rattle.st_token.specs.Spelling.{name_in, new_name_in, number_in, number_within, number_from, number_above}
 use Rattle.st_token.specs.Variables.{var_named, var_in, set_in, unset_in, assigned_by}
 
@@ -135,3 +136,9 @@ link_var i false false v e = absurd (cc)
 pub var_known : (e : Entity) (text : List ℕ) (v : Var) → var_named e text ≡ Some v → is_var_of e v ≡ true
 var_known (Device i) text v is = device_var i (bytes_eq text (codes "power")) (bytes_eq text (codes "firmware")) (bytes_eq text (codes "config")) (bytes_eq text (codes "routing")) v is
 var_known (Link i) text v is = link_var i (bytes_eq text (codes "power")) (bytes_eq text (codes "iface")) v is
+
+-- one word and some more are two words at least
+pub some_tokens : (args : List (List ℕ)) (words : List ℕ × List (List ℕ)) → one_and_some_of args ≡ Ok words → 1 ≤ length words.1
+some_tokens [] words is = absurd (cc)
+some_tokens (a ∷ []) words is = absurd (cc)
+some_tokens (a ∷ b ∷ more) words is = let same : b ∷ more ≡ words.1 = cc in subst (λ (ws : List (List ℕ)). 1 ≤ length ws) same (omega arith)

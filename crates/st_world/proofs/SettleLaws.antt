@@ -1,7 +1,6 @@
 -- Over a loss plan without lines, each entity that a round sends a command, and that never failed, is settled behind the round.
 use Rattle.std.proofs.Common.{◌≡◌, ℕ, ◌+◌, ◌<◌, ◌≤◌, suc, List, [], ◌∷◌, ◌++◌, length, Option, Some, None, refl, ap, sym, ◌∙◌, subst, inl, inr, arith}
 use Rattle.std.specs.Prelude.{Bool, true, false, ◌&&◌, ◌==◌, ◌⊎◌, not, nat_lt, All, if◌then◌else◌}
-use Rattle.std.proofs.lemmas.Bool.Decides.{nat_tests}
 use Rattle.std.proofs.lemmas.List.Elements.{All-head, All-tail}
 use Rattle.st_net.specs.declared.entity.Entity.{Entity}
 use Rattle.st_net.specs.declared.entity.Row.{Row}
@@ -12,7 +11,7 @@ use Rattle.st_net.specs.Groups.{Group, IsEntityOf}
 use Rattle.st_net.specs.Merge.{vals_in}
 use Rattle.st_net.specs.Numbered.{nth}
 use Rattle.st_net.specs.Reports.{is_settled_by}
-use Rattle.st_net.proofs.Tests.{both, equal_numbers, same_entity, same_self, less_is}
+use Rattle.st_net.proofs.Tests.{both, equal_numbers, same_entity, same_self, less_is, not_less}
 use Rattle.st_event.specs.declared.event.Event.{Event}
 use Rattle.st_event.specs.declared.event.Event.TheVariants.{Send, Deliver, Finish, Report as make_report, Hear}
 use Rattle.st_event.specs.declared.reply.Lack.{Lack}
@@ -264,9 +263,6 @@ turn_unspoiled g past x e whole = ended (told_by g [] (Send x) past) (begun (len
     begun : (n : ℕ) (answer : Reply) → Answers g x past n answer → is_spoiled g (sent_by g x past answer) e ≡ false
     begun n answer (inl is) = ap (λ (a : Reply). is_spoiled g (sent_by g x past a) e) is ∙ rw whole refl
     begun n answer (inr not_sent) = ap (λ (journal : List Entry). is_spoiled g journal e) (unsent_by g x past answer not_sent.0) ∙ rw whole refl
-
-not_less : (m n : ℕ) → nat_lt m n ≡ false → n ≤ m
-not_less m n is = grind (arith, nat_tests)
 
 -- what holds of the entries up to a journal, and of those behind it, holds of all of them
 settles_both : (g : Group) (e : Entity) (before middle after : List Entry) → Settles g e before middle → Settles g e middle after → Settles g e before after

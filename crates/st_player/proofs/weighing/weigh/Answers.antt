@@ -13,7 +13,7 @@ use Rattle.st_event.specs.Standing.{Standing, sure_in}
 use Rattle.st_overlay.specs.Values.{Values, IsTableOf, value_in}
 use Rattle.st_store.specs.Store.{StoreView}
 use Rattle.st_control.specs.Control.{standing_in}
-use Rattle.st_player.proofs.WeighLemmas.{rows_in}
+use Rattle.st_overlay.proofs.FittingRows.{rows_in}
 use Rattle.st_player.proofs.weighing.weigh.Goals as goal
 
 pub changed-requires : goal.changed-requires
