@@ -5,7 +5,7 @@ ghost use Rattle.std.specs.Arc.{arc_value};
 ghost use Rattle.st_net.specs.declared.entity.Entity.{Entity};
 ghost use Rattle.st_net.specs.Groups.{IsEntityOf, promise_of};
 ghost use Rattle.st_net.specs.Demands.{first_broken_of, held_list};
-ghost use Rattle.st_net.specs.Promises.{is_kept};
+ghost use Rattle.st_net.specs.Promises.{is_kept, need_of};
 ghost use Rattle.st_net.specs.Ranges.{RowsFit};
 ghost use Rattle.st_net.specs.Sets.{is_in, MarksOf};
 ghost use Rattle.st_event.specs.declared.event.Event.TheVariants.{Submit, Check as check_event, Lock, Unlock};
@@ -211,6 +211,14 @@ impl Control {
         ensures { result ≡ self.now.flows_run }
     {
         self.book.flows_run()
+    }
+
+    /// What promise number `i` needs: the least value that each cut of its pair has to have, in the unit of capacities.
+    pub fn need(&self, i: u32) -> u64
+        requires { i < length self.now.group.promises }
+        ensures { result ≡ need_of self.now.group (promise_of self.now.group i) }
+    {
+        self.book.need(i)
     }
 
     /// Whether promise number `i` holds while these entities are up: as the flow that is kept of it shows, or else by one that is not
