@@ -1,8 +1,7 @@
 //! The program but for its streams: its arguments in, its exit status out.
 
-ghost use Rattle.std.specs.Prelude.{◌≡◌, drop, map, string_bytes, IfOk};
+ghost use Rattle.std.specs.Prelude.{◌≡◌, map, string_bytes, IfOk};
 ghost use Rattle.std.specs.Process.{exit_status};
-ghost use Rattle.std.specs.Vec.Iter.{into_iter_items};
 ghost use Rattle.st_replay.specs.Statuses.{exit_code_of};
 ghost use Rattle.st_top.specs.Program.{words_in, ProgramEnds};
 
@@ -10,6 +9,7 @@ use crate::answer::Outcome;
 use crate::top::statesman;
 use st_crew::NoGate;
 use st_io::{Sink, Source};
+use st_replay::after_name;
 use std::alloc::{AllocError, Global};
 use std::env::Args;
 use std::io;
@@ -17,18 +17,6 @@ use std::io::ErrorKind;
 use std::process::ExitCode;
 use std::sync::Wait;
 use std::thread::Threads;
-
-/// The words after the first of these, which is the program's name.
-fn after_name(alloc: Global, mut args: Args) -> Result<Vec<String>, AllocError>
-    ensures { IfOk result (λ words. words.items ≡ drop 1 (into_iter_items args)) }
-{
-    let _name = args.next();
-    let mut words = Vec::new(alloc);
-    for word in args {
-        words.push(word)?;
-    }
-    Ok(words)
-}
 
 /// The words after the program's name. An argument that is not text is no word of a command: then there are none.
 fn words_after(alloc: Global, args: io::Result<Args>) -> Result<Vec<String>, AllocError>

@@ -1,6 +1,6 @@
 use Rattle.std.proofs.Common.{◌≡◌, ◌++◌, drop}
 use Rattle.std.specs.Vec.Iter.{into_iter_items}
-use Rattle.st_top.proofs.program.after_name.Given as goal
+use Rattle.st_replay.proofs.args.after_name.Given as goal
 
 -- the words so far were taken from those after the first
 abbrev pub invariant-loop-word : goal.invariant-loop-word
