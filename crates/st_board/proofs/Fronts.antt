@@ -9,6 +9,7 @@ use Rattle.st_net.specs.Merge.{target_with}
 use Rattle.st_net.proofs.MergeLaws.{merge_of-push_all}
 use Rattle.st_overlay.specs.Values.{Values, HasSameShape, IsTableOf, overlaid}
 use Rattle.st_overlay.proofs.Overlaying.{Overlays-overlaid}
+use Rattle.st_overlay.proofs.FittingRows.{rows_in}
 use Rattle.st_board.specs.declared.post.Post.{Post}
 use Rattle.st_board.specs.declared.post.Post.TheVariants.{Open, Merge, End}
 use Rattle.st_board.specs.Posts.{MarkIsLast, is_end, is_ended, flag, group_in, proposals_in}
