@@ -8,8 +8,8 @@ pub fn versions_are_merges()
     ensures { VersionsAreMerges }
 {}
 
-/// There are no more versions than entries: a start has none but the opening, and an entry that decides makes at most one. So
-/// there are also no more than were decided, as long as nothing else makes them.
+/// At a start there are no more versions than decided tickets. A decision makes at most one version and decides a ticket: so there are no
+/// more behind it, and where there were no more versions than so many entries, there are no more than with one entry more.
 pub fn versions_are_few()
     ensures start { StartsAtNone }
     ensures decision { DecisionsMakeOne }

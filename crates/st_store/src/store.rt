@@ -183,10 +183,12 @@ impl Store {
         self.observed.as_slice()
     }
 
-    /// The last version of the target, which is how many overlays it has.
+    /// The last version of the target, which is how many overlays it has. There are no more of them than decided tickets, since only a
+    /// decision overlays it.
     pub fn version(&self) -> u32
         ensures version { result ≡ self.now.version }
         ensures counted { IsCounted self.now }
+        ensures few { result ≤ length self.now.decided }
     {
         self.versions.version()
     }

@@ -16,7 +16,7 @@ use Rattle.st_world.specs.declared.world.rounds.Going.TheVariants.{On, Full}
 use Rattle.st_world.specs.declared.world.rounds.Rounded.{Rounded}
 use Rattle.st_world.specs.declared.world.rounds.Rounded.TheVariants.{Did, JournalFull}
 use Rattle.st_world.specs.World.{WorldView, IsBeginning}
-use Rattle.st_world.specs.Rounds.{Course, course_from, course_at, enter, turns, unsettled, round, Rounds, Goes, HasSamePlant, IsPartOf}
+use Rattle.st_world.specs.Rounds.{Course, course_from, course_with, enter, turns, unsettled, round, Rounds, Goes, HasSamePlant, IsPartOf}
 use Rattle.st_world.specs.Acts.{checked_while, is_something, is_none_left, proposed, rounds_done, with_room}
 use Rattle.st_world.proofs.RunLaws.{beginning-self, beginning-more, enter-grows, enter-stopped, turns-grows, turns-stopped, round-grows}
 use Rattle.st_world.proofs.RoundLaws.{IsOnWay, part_goes, part_parts, stops_there}
@@ -130,7 +130,7 @@ check_goes waits old now next made going way few some =
 -- where a check meets a full journal no other follows
 pub check_stops : (waits : List Proposal → Bool) (old now next : WorldView) (made : ℕ) (going : Going) → IsChecking waits old now made → made < MAX_PENDING → waits (pending now.history.past) ≡ true → Goes next (check_now now) going → going ≡ Full → Goes next (checks_from waits MAX_PENDING old) Full
 check_stops waits old now next made going way few some is full =
-    stops_there (checks_behind waits made now.history.group now.lines) next (check_now now) going is full (while-stopped now.history.group waits (MAX_PENDING - (made + 1)) (course_at Full next) refl)
+    stops_there (checks_behind waits made now.history.group now.lines) next (check_now now) going is full (while-stopped now.history.group waits (MAX_PENDING - (made + 1)) (course_with Full next) refl)
     ∙ sym (first_check waits now made few some)
     ∙ way.ends
 
@@ -252,7 +252,7 @@ round_settles rounds old now next made answer count way few is none does plant =
 pub round_stops : (rounds : ℕ) (old now next : WorldView) (made : ℕ) (answer : Rounded) (entries : ℕ) → IsSettling rounds old now made → made < rounds → answer ≡ JournalFull entries → Rounds now next answer → Goes next (rounds_from rounds old) Full
 round_stops rounds old now next made answer entries way few is does =
     let stopped : Rounds now next (JournalFull entries) = subst (λ (a : Rounded). Rounds now next a) is does in
-    stops_there (rounds_behind rounds made now.history.group now.lines) next (round_now now) Full (sym stopped.0) refl (rounds-stopped now.history.group now.lines (rounds - (made + 1)) (course_at Full next) refl)
+    stops_there (rounds_behind rounds made now.history.group now.lines) next (round_now now) Full (sym stopped.0) refl (rounds-stopped now.history.group now.lines (rounds - (made + 1)) (course_with Full next) refl)
     ∙ sym (first_round rounds now made few)
     ∙ way.ends
 

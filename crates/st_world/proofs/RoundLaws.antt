@@ -36,7 +36,7 @@ use Rattle.st_world.specs.declared.world.Stepped.TheVariants.{Did, JournalFull}
 use Rattle.st_world.specs.declared.world.rounds.Going.{Going}
 use Rattle.st_world.specs.declared.world.rounds.Going.TheVariants.{On, Full}
 use Rattle.st_world.specs.World.{WorldView, IsBeginning, Steps}
-use Rattle.st_world.specs.Rounds.{Course, course_from, course_at, enter, enter_all, enter_told, follow_ups_of, follow_ups, poll, turn, turns, round, unsettled, HasSamePlant, IsPartOf, SettlesSent}
+use Rattle.st_world.specs.Rounds.{Course, course_from, course_with, enter, enter_all, enter_told, follow_ups_of, follow_ups, poll, turn, turns, round, unsettled, HasSamePlant, IsPartOf, SettlesSent}
 use Rattle.st_world.proofs.RunLaws.{entered, beginning-self, beginning-more, enter-grows, enter_all-grows, turn-grows, turns-grows, enter_all-stopped, turns-stopped, unsettled_fit}
 use Rattle.st_world.proofs.SettleLaws.{round_made}
 
@@ -61,11 +61,11 @@ way_more old now next whole left less way more = record {
 }
 
 -- a first part was entered whole: what follows it is left
-pub way_from : (rest : Group → List WireLine → Course → Course) (old now : WorldView) (first : Course) (going : Going) → IsBeginning old.history.past first.past → course_at going now ≡ first → going ≡ On → HasSamePlant old now → IsOnWay old now (rest old.history.group old.lines first) (rest now.history.group now.lines (course_from now.history.past))
+pub way_from : (rest : Group → List WireLine → Course → Course) (old now : WorldView) (first : Course) (going : Going) → IsBeginning old.history.past first.past → course_with going now ≡ first → going ≡ On → HasSamePlant old now → IsOnWay old now (rest old.history.group old.lines first) (rest now.history.group now.lines (course_from now.history.past))
 way_from rest old now first going grows is on plant = record {
   began = subst (λ (course : Course). IsBeginning old.history.past course.past) (sym is) grows;
   plant = plant;
-  ends = ap (λ (g : Group). rest g now.lines (course_from now.history.past)) plant.group ∙ ap (λ (lines : List WireLine). rest old.history.group lines (course_from now.history.past)) plant.lines ∙ ap (λ (at : Going). rest old.history.group old.lines (course_at at now)) (sym on) ∙ ap (rest old.history.group old.lines) is;
+  ends = ap (λ (g : Group). rest g now.lines (course_from now.history.past)) plant.group ∙ ap (λ (lines : List WireLine). rest old.history.group lines (course_from now.history.past)) plant.lines ∙ ap (λ (at : Going). rest old.history.group old.lines (course_with at now)) (sym on) ∙ ap (rest old.history.group old.lines) is;
 }
 
 -- a part of what is left makes a part of all
@@ -105,7 +105,7 @@ not_less_self : (n m : ℕ) → n ≡ m → nat_lt n m ≡ false
 not_less_self n m is = grind (arith, nat_tests)
 
 -- where there is none, the course stops
-stops_full : (old new : WorldView) (event : Event) (entries : ℕ) → Steps old.history new.history event (JournalFull entries) → course_at Full new ≡ enter old.history.group (course_from old.history.past) event
+stops_full : (old new : WorldView) (event : Event) (entries : ℕ) → Steps old.history new.history event (JournalFull entries) → course_with Full new ≡ enter old.history.group (course_from old.history.past) event
 stops_full old new event entries steps =
     ap (λ (h : History). entered (course_from h.past) (entry_after old.history.group old.history.past event) false false) steps.2
     ∙ sym (ap (entered (course_from old.history.past) (entry_after old.history.group old.history.past event) false) (not_less_self (length old.history.past) MAX_ENTRIES steps.0))
@@ -124,10 +124,10 @@ told_way old now event stepped answer steps is lines =
     record { began = way.began; plant = way.plant; ends = ap (enter_all now.history.group (course_from now.history.past)) (sym newest) ∙ way.ends }
 
 -- an event with what follows it met a full journal
-pub told_stops : (old now : WorldView) (event : Event) (stepped : Stepped) (entries : ℕ) → Steps old.history now.history event stepped → stepped ≡ JournalFull entries → course_at Full now ≡ enter_told old.history.group old.lines (course_from old.history.past) event
+pub told_stops : (old now : WorldView) (event : Event) (stepped : Stepped) (entries : ℕ) → Steps old.history now.history event stepped → stepped ≡ JournalFull entries → course_with Full now ≡ enter_told old.history.group old.lines (course_from old.history.past) event
 told_stops old now event stepped entries steps is =
     let full = stops_full old now event entries (subst (λ (s : Stepped). Steps old.history now.history event s) is steps) in
-    sym (enter_all-stopped old.history.group (course_at Full now) (follow_ups old.history.group old.lines now.history.past) refl)
+    sym (enter_all-stopped old.history.group (course_with Full now) (follow_ups old.history.group old.lines now.history.past) refl)
     ∙ ap (with_newest old.history.group old.lines) full
 
 -- one part after another. `first` is the next of the parts that are left, and `rest` are those behind it
@@ -137,14 +137,14 @@ first_left : {X : Type 0} (xs : List X) (i : ℕ) (default : X) → i < length x
 first_left xs i default low = rw (add-one, drop-cons xs i default low) refl
 
 -- the next part was entered whole
-pub part_goes : (rest : Group → List WireLine → Course → Course) (old now next : WorldView) (whole left first : Course) (going : Going) → IsOnWay old now whole left → left ≡ rest now.history.group now.lines first → IsBeginning now.history.past first.past → course_at going next ≡ first → going ≡ On → HasSamePlant now next → IsOnWay old next whole (rest next.history.group next.lines (course_from next.history.past))
+pub part_goes : (rest : Group → List WireLine → Course → Course) (old now next : WorldView) (whole left first : Course) (going : Going) → IsOnWay old now whole left → left ≡ rest now.history.group now.lines first → IsBeginning now.history.past first.past → course_with going next ≡ first → going ≡ On → HasSamePlant now next → IsOnWay old next whole (rest next.history.group next.lines (course_from next.history.past))
 part_goes rest old now next whole left first going way split grows is on plant =
     let here = way_from rest now next first going grows is on plant in
     way_more old now next whole left (rest next.history.group next.lines (course_from next.history.past)) way (record { began = here.began; plant = here.plant; ends = here.ends ∙ sym split })
 
 -- the next part met a full journal: the course stops there, whatever was to follow
-pub stops_there : (rest : Course → Course) (now : WorldView) (first : Course) (going : Going) → course_at going now ≡ first → going ≡ Full → rest (course_at Full now) ≡ course_at Full now → course_at Full now ≡ rest first
-stops_there rest now first going is full stays = sym stays ∙ ap (λ (at : Going). rest (course_at at now)) (sym full) ∙ ap rest is
+pub stops_there : (rest : Course → Course) (now : WorldView) (first : Course) (going : Going) → course_with going now ≡ first → going ≡ Full → rest (course_with Full now) ≡ course_with Full now → course_with Full now ≡ rest first
+stops_there rest now first going is full stays = sym stays ∙ ap (λ (at : Going). rest (course_with at now)) (sym full) ∙ ap rest is
 
 -- a part of the next part was entered
 pub part_parts : {T E : Type 0} (r : Result T E) (old now next : WorldView) (whole left behind first : Course) → IsOnWay old now whole left → left ≡ behind → IsBeginning first.past behind.past → IsPartOf now next first → OnErr r (IsPartOf old next whole)
@@ -174,15 +174,15 @@ first_arrival : (make : ℕ → Event) (w : WorldView) (numbers : List ℕ) (i :
 first_arrival make w numbers i low = ap (arrivals_from make w) (first_left numbers i 0 low)
 
 -- one message more arrived
-pub arrival_goes : (make : ℕ → Event) (old now next : WorldView) (numbers : List ℕ) (i : ℕ) (going : Going) → IsArriving make old now numbers i → i < length numbers → course_at going next ≡ arrival_at make now numbers i → going ≡ On → HasSamePlant now next → IsArriving make old next numbers (i + 1)
+pub arrival_goes : (make : ℕ → Event) (old now next : WorldView) (numbers : List ℕ) (i : ℕ) (going : Going) → IsArriving make old now numbers i → i < length numbers → course_with going next ≡ arrival_at make now numbers i → going ≡ On → HasSamePlant now next → IsArriving make old next numbers (i + 1)
 arrival_goes make old now next numbers i going way low =
     part_goes (arrivals_behind make numbers i) old now next (arrivals_from make old numbers) (arrivals_from make now (drop i numbers)) (arrival_at make now numbers i) going way
     (first_arrival make now numbers i low) (enter-grows now.history.group (course_from now.history.past) (make (get_or numbers i 0)))
 
 -- the next one met a full journal
-pub arrival_stops : (make : ℕ → Event) (old now next : WorldView) (numbers : List ℕ) (i : ℕ) (going : Going) → IsArriving make old now numbers i → i < length numbers → course_at going next ≡ arrival_at make now numbers i → going ≡ Full → course_at Full next ≡ arrivals_from make old numbers
+pub arrival_stops : (make : ℕ → Event) (old now next : WorldView) (numbers : List ℕ) (i : ℕ) (going : Going) → IsArriving make old now numbers i → i < length numbers → course_with going next ≡ arrival_at make now numbers i → going ≡ Full → course_with Full next ≡ arrivals_from make old numbers
 arrival_stops make old now next numbers i going way low is full =
-    stops_there (arrivals_behind make numbers i now.history.group now.lines) next (arrival_at make now numbers i) going is full (enter_all-stopped now.history.group (course_at Full next) (map make (drop (i + 1) numbers)) refl)
+    stops_there (arrivals_behind make numbers i now.history.group now.lines) next (arrival_at make now numbers i) going is full (enter_all-stopped now.history.group (course_with Full next) (map make (drop (i + 1) numbers)) refl)
     ∙ sym (first_arrival make now numbers i low)
     ∙ way.ends
 
@@ -230,15 +230,15 @@ first_turn : (w : WorldView) (es : List Entity) (i : ℕ) → i < length es → 
 first_turn w es i low = ap (turns_from w) (first_left es i (Device 0) low)
 
 -- one entity more had its turn
-pub turn_goes : (old now next : WorldView) (es : List Entity) (i : ℕ) (going : Going) → IsTurning old now es i → i < length es → course_at going next ≡ turn_at now es i → going ≡ On → HasSamePlant now next → IsTurning old next es (i + 1)
+pub turn_goes : (old now next : WorldView) (es : List Entity) (i : ℕ) (going : Going) → IsTurning old now es i → i < length es → course_with going next ≡ turn_at now es i → going ≡ On → HasSamePlant now next → IsTurning old next es (i + 1)
 turn_goes old now next es i going way low =
     part_goes (turns_behind es i) old now next (turns_from old es) (turns_from now (drop i es)) (turn_at now es i) going way
     (first_turn now es i low) (turn-grows now.history.group now.lines (course_from now.history.past) (get_or es i (Device 0)))
 
 -- the next turn met a full journal
-pub turn_stops : (old now next : WorldView) (es : List Entity) (i : ℕ) (going : Going) → IsTurning old now es i → i < length es → course_at going next ≡ turn_at now es i → going ≡ Full → course_at Full next ≡ turns_from old es
+pub turn_stops : (old now next : WorldView) (es : List Entity) (i : ℕ) (going : Going) → IsTurning old now es i → i < length es → course_with going next ≡ turn_at now es i → going ≡ Full → course_with Full next ≡ turns_from old es
 turn_stops old now next es i going way low is full =
-    stops_there (turns_behind es i now.history.group now.lines) next (turn_at now es i) going is full (turns-stopped now.history.group now.lines (course_at Full next) (drop (i + 1) es) refl)
+    stops_there (turns_behind es i now.history.group now.lines) next (turn_at now es i) going is full (turns-stopped now.history.group now.lines (course_with Full next) (drop (i + 1) es) refl)
     ∙ sym (first_turn now es i low)
     ∙ way.ends
 
@@ -299,12 +299,12 @@ count_fits g h past entities count sound group is counted =
 -- a round
 
 -- the turns of the entities that are not settled are the round
-pub round_entered : (old new : WorldView) (es items : List Entity) (going other : Going) → course_at going new ≡ turns_from old es → going ≡ other → es ≡ items → items ≡ unsettled old.history.group old.history.past → course_at other new ≡ round old.history.group old.lines old.history.past
+pub round_entered : (old new : WorldView) (es items : List Entity) (going other : Going) → course_with going new ≡ turns_from old es → going ≡ other → es ≡ items → items ≡ unsettled old.history.group old.history.past → course_with other new ≡ round old.history.group old.lines old.history.past
 round_entered old new es items going other is at read all =
-    ap (λ (x : Going). course_at x new) (sym at) ∙ is ∙ ap (turns_from old) read ∙ ap (turns_from old) all
+    ap (λ (x : Going). course_with x new) (sym at) ∙ is ∙ ap (turns_from old) read ∙ ap (turns_from old) all
 
 -- a course that was entered is a part of itself
-pub all_part : {T E : Type 0} (r : Result T E) (old new : WorldView) (whole : Course) (going : Going) → IsBeginning old.history.past whole.past → course_at going new ≡ whole → OnErr r (IsPartOf old new whole)
+pub all_part : {T E : Type 0} (r : Result T E) (old new : WorldView) (whole : Course) (going : Going) → IsBeginning old.history.past whole.past → course_with going new ≡ whole → OnErr r (IsPartOf old new whole)
 all_part r old new whole going grows is =
     let stands : whole.past ≡ new.history.past = ap (λ (course : Course). course.past) (sym is) in
     err_of r (record {
@@ -313,7 +313,7 @@ all_part r old new whole going grows is =
     })
 
 -- a round that met no full journal settles what it is to settle
-pub round_did_settle : (old new : WorldView) → IsLegal old.history.group old.history.past → course_at On new ≡ round old.history.group old.lines old.history.past → HasSamePlant old new → SettlesSent old new
+pub round_did_settle : (old new : WorldView) → IsLegal old.history.group old.history.past → course_with On new ≡ round old.history.group old.lines old.history.past → HasSamePlant old new → SettlesSent old new
 round_did_settle old new legal is plant =
     let made = round_made old.history.group old.lines old.history.past new.history.past legal (sym is) in
     record {

@@ -106,12 +106,12 @@ abbrev pub is_full : Going → Bool
 is_full On = false
 is_full Full = true
 
-abbrev pub course_at : Going → WorldView → Course
-course_at going w = record { past = w.history.past; stopped = is_full going }
+abbrev pub course_with : Going → WorldView → Course
+course_with going w = record { past = w.history.past; stopped = is_full going }
 
 -- the world has gone through a course, and it is told whether that met a full journal
 abbrev pub Goes : WorldView → Course → Going → Type 0
-Goes new course going = course_at going new ≡ course
+Goes new course going = course_with going new ≡ course
 
 -- a part of a course was entered, from its start
 pub record IsPartOf (old new : WorldView) (course : Course) : Type 0 where

@@ -1,7 +1,7 @@
 use Rattle.std.proofs.Common.{refl}
 use Rattle.st_event.specs.declared.event.Event.TheVariants.{Submit}
 use Rattle.st_world.specs.Acts.{with_room}
-use Rattle.st_world.specs.Rounds.{course_from, course_at}
+use Rattle.st_world.specs.Rounds.{course_from, course_with}
 use Rattle.st_world.specs.declared.world.rounds.Going.TheVariants.{Full}
 use Rattle.st_world.proofs.RunLaws.{enter-grows, enter-stopped}
 use Rattle.st_world.proofs.RoundLaws.{part_more, part_whole, way_from, stops_there}
@@ -22,4 +22,4 @@ returns-in-On-clause-err c =
     part_whole c.enter.result c.args.self.now c.make_room.new.self c.enter.new.self _ _ way c.enter.ensures.err
 
 pub returns-in-Full-clause-ok : goal.returns-in-Full-clause-ok
-returns-in-Full-clause-ok c = stops_there (submitting c.args.app c.args.rows c.args.self.now.history.group c.args.self.now.lines) c.make_room.new.self _ c.in_ok-make_room.field-0 c.in_ok-make_room.ensures.ok c.in-Full.is (enter-stopped c.args.self.now.history.group (course_at Full c.make_room.new.self) (Submit c.args.app c.args.rows) refl)
+returns-in-Full-clause-ok c = stops_there (submitting c.args.app c.args.rows c.args.self.now.history.group c.args.self.now.lines) c.make_room.new.self _ c.in_ok-make_room.field-0 c.in_ok-make_room.ensures.ok c.in-Full.is (enter-stopped c.args.self.now.history.group (course_with Full c.make_room.new.self) (Submit c.args.app c.args.rows) refl)

@@ -1,5 +1,5 @@
 use Rattle.std.proofs.Common.{refl}
-use Rattle.st_world.specs.Rounds.{update_turn, course_from, course_at}
+use Rattle.st_world.specs.Rounds.{update_turn, course_from, course_with}
 use Rattle.st_world.specs.declared.world.rounds.Going.TheVariants.{Full}
 use Rattle.st_world.proofs.RunLaws.{update_turn-grows, poll-grows, poll-stopped}
 use Rattle.st_world.proofs.RoundLaws.{part_more, part_whole, way_from, stops_there, polling}
@@ -17,4 +17,4 @@ returns-in-On-clause-err c =
     part_whole c.poll.result c.args.self.now c.update_turn.new.self c.poll.new.self _ _ way c.poll.ensures.err
 
 pub returns-in-Full-clause-ok : goal.returns-in-Full-clause-ok
-returns-in-Full-clause-ok c = stops_there (polling c.args.entity c.args.self.now.history.group c.args.self.now.lines) c.update_turn.new.self _ c.in_ok-update_turn.field-0 c.in_ok-update_turn.ensures.ok c.in-Full.is (poll-stopped c.args.self.now.history.group c.args.self.now.lines (course_at Full c.update_turn.new.self) c.args.entity refl)
+returns-in-Full-clause-ok c = stops_there (polling c.args.entity c.args.self.now.history.group c.args.self.now.lines) c.update_turn.new.self _ c.in_ok-update_turn.field-0 c.in_ok-update_turn.ensures.ok c.in-Full.is (poll-stopped c.args.self.now.history.group c.args.self.now.lines (course_with Full c.update_turn.new.self) c.args.entity refl)

@@ -1,6 +1,6 @@
 use Rattle.std.proofs.Common.{refl}
 use Rattle.st_event.specs.declared.event.Event.TheVariants.{Send, Finish}
-use Rattle.st_world.specs.Rounds.{enter_told, course_from, course_at}
+use Rattle.st_world.specs.Rounds.{enter_told, course_from, course_with}
 use Rattle.st_world.specs.declared.world.rounds.Going.TheVariants.{Full}
 use Rattle.st_world.proofs.RunLaws.{enter-grows, enter-stopped, enter_told-grows}
 use Rattle.st_world.proofs.RoundLaws.{part_more, part_whole, way_from, stops_there, finishing}
@@ -18,4 +18,4 @@ returns-in-On-clause-err c =
     part_whole c.enter.result c.args.self.now c.enter_with_follow_ups.new.self c.enter.new.self _ _ way c.enter.ensures.err
 
 pub returns-in-Full-clause-ok : goal.returns-in-Full-clause-ok
-returns-in-Full-clause-ok c = stops_there (finishing c.args.entity c.args.self.now.history.group c.args.self.now.lines) c.enter_with_follow_ups.new.self _ c.in_ok-enter_with_follow_ups.field-0 c.in_ok-enter_with_follow_ups.ensures.ok c.in-Full.is (enter-stopped c.args.self.now.history.group (course_at Full c.enter_with_follow_ups.new.self) (Finish c.args.entity) refl)
+returns-in-Full-clause-ok c = stops_there (finishing c.args.entity c.args.self.now.history.group c.args.self.now.lines) c.enter_with_follow_ups.new.self _ c.in_ok-enter_with_follow_ups.field-0 c.in_ok-enter_with_follow_ups.ensures.ok c.in-Full.is (enter-stopped c.args.self.now.history.group (course_with Full c.enter_with_follow_ups.new.self) (Finish c.args.entity) refl)
