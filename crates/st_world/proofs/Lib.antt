@@ -9,3 +9,4 @@ pub mod ActLaws
 pub mod TurnLaws
 pub mod WorldLaws
 pub mod CommitLaws
+mod WorkedFollowUps

@@ -106,7 +106,24 @@ impl World {
                 let reports = self.plan().deliveries(WireKind::Report, report)?;
                 self.hear_all(reports.as_slice())
             }
-            _ => Ok(Going::On),
+            Reply::Queued { .. }
+            | Reply::Full { .. }
+            | Reply::Decided(_)
+            | Reply::Idle
+            | Reply::Granted
+            | Reply::Held { .. }
+            | Reply::Released
+            | Reply::NotYours { .. }
+            | Reply::Settled
+            | Reply::Blocked { .. }
+            | Reply::Begun
+            | Reply::Stale { .. }
+            | Reply::NoSuch { .. }
+            | Reply::Done
+            | Reply::NotBusy
+            | Reply::Taken
+            | Reply::Old { .. }
+            | Reply::Changed => Ok(Going::On),
         }
     }
 
