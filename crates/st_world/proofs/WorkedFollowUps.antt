@@ -2,7 +2,6 @@
 use Rattle.std.proofs.Common.{◌≡◌, List, [], ◌∷◌, refl}
 use Rattle.st_net.specs.declared.entity.Row.{Row}
 use Rattle.st_net.specs.Groups.{Group}
-use Rattle.st_event.specs.declared.event.Event.{Event}
 use Rattle.st_event.specs.declared.event.Event.TheVariants.{Check, Deliver, Hear}
 use Rattle.st_event.specs.declared.journal.Entry.{Entry}
 use Rattle.st_event.specs.declared.reply.Reply.{Reply}
@@ -13,7 +12,7 @@ use Rattle.st_wire.specs.declared.line.WireLine.TheVariants.{Drop, Repeat, Hold}
 use Rattle.st_world.specs.Rounds.{follow_ups}
 
 -- a journal whose newest entry has this reply, which alone counts
-behind : Reply → List Entry
+abbrev behind : Reply → List Entry
 behind answer = record { event = Check; reply = answer } ∷ []
 
 -- a command arrives at the turn at which it was sent, and a report at that at which it was made
