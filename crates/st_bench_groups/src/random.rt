@@ -1,5 +1,6 @@
 //! The random group at every limit, part by part. It is the same in every run: its numbers are those of a fixed generator.
-ghost use Rattle.std.specs.Prelude.{◌<◌};
+ghost use Rattle.std.specs.Prelude.{◌<◌, ◌≤◌, ◌+◌, ◌*◌, All, length, vec_len, IfOk, IfSome, OnOk};
+ghost use Rattle.st_bench_groups.specs.Measured.{AreFew, AsksPercent};
 
 use st_net::{
     DevicePart, DeviceParts, EndPart, LinkPart, LinkParts, MAX_CAPACITY, MAX_LINKS, Name, Parts,
@@ -115,7 +116,9 @@ fn promise_part(
     a: u32,
     b: u32,
     percent: u32,
-) -> Result<Option<PromisePart>, AllocError> {
+) -> Result<Option<PromisePart>, AllocError>
+    ensures { IfOk result (λ part. IfSome part (AsksPercent percent)) }
+{
     let a = named(alloc, "d", a)?;
     let b = named(alloc, "d", b)?;
     match (a, b) {
@@ -124,7 +127,9 @@ fn promise_part(
     }
 }
 
-fn devices(alloc: Global) -> Result<DeviceParts, AllocError> {
+fn devices(alloc: Global) -> Result<DeviceParts, AllocError>
+    ensures { IfOk result (λ parts. length parts ≤ TORS + OTHERS) }
+{
     let mut parts = Vec::new(alloc);
     for number in 0..TORS + OTHERS {
         if let Some(part) = device_part(alloc, number)? {
@@ -141,7 +146,10 @@ fn add_link(
     b: u32,
     capacity: u32,
     parts: &mut Vec<LinkPart>,
-) -> Result<(), AllocError> {
+) -> Result<(), AllocError>
+    requires { vec_len parts.old ≤ MAX_LINKS }
+    ensures { vec_len parts.new ≤ MAX_LINKS }
+{
     let number = parts.len();
     if a != b && number < MAX_LINKS {
         if let Some(part) = link_part(alloc, number as u32, a, b, capacity)? {
@@ -157,7 +165,10 @@ fn add_tor_links(
     tor: u32,
     numbers: &mut Numbers,
     parts: &mut Vec<LinkPart>,
-) -> Result<(), AllocError> {
+) -> Result<(), AllocError>
+    requires { vec_len parts.old ≤ MAX_LINKS }
+    ensures { vec_len parts.new ≤ MAX_LINKS }
+{
     for _ in 0..TOR_LINKS {
         let other = numbers.other();
         add_link(alloc, tor, other, numbers.capacity(), parts)?;
@@ -165,7 +176,9 @@ fn add_tor_links(
     Ok(())
 }
 
-fn links(alloc: Global) -> Result<LinkParts, AllocError> {
+fn links(alloc: Global) -> Result<LinkParts, AllocError>
+    ensures { IfOk result (λ parts. length parts ≤ MAX_LINKS) }
+{
     let mut numbers = Numbers { state: 1 };
     let mut parts = Vec::new(alloc);
     for tor in 0..TORS {
@@ -180,33 +193,74 @@ fn links(alloc: Global) -> Result<LinkParts, AllocError> {
     Ok(LinkParts::new(parts))
 }
 
-fn promises(alloc: Global, percent: u32) -> Result<PromiseParts, AllocError> {
+/// Adds a promise between two ToRs.
+fn add_promise(
+    alloc: Global,
+    a: u32,
+    b: u32,
+    percent: u32,
+    parts: &mut Vec<PromisePart>,
+) -> Result<(), AllocError>
+    requires { All (AsksPercent percent) parts.old.items }
+    ensures percent { All (AsksPercent percent) parts.new.items }
+    ensures few { OnOk result (vec_len parts.new ≤ vec_len parts.old + 1) }
+{
+    match promise_part(alloc, a, b, percent)? {
+        Some(part) => Ok(parts.push(part)?),
+        None => Ok(()),
+    }
+}
+
+/// Adds the promises between a ToR and each later one.
+fn add_promises(
+    alloc: Global,
+    a: u32,
+    percent: u32,
+    parts: &mut Vec<PromisePart>,
+) -> Result<(), AllocError>
+    requires tor { a < TORS }
+    requires percent { All (AsksPercent percent) parts.old.items }
+    ensures percent { All (AsksPercent percent) parts.new.items }
+    ensures few { OnOk result (vec_len parts.new ≤ vec_len parts.old + TORS) }
+{
+    for b in a + 1..TORS {
+        add_promise(alloc, a, b, percent, parts)?;
+    }
+    Ok(())
+}
+
+fn promises(alloc: Global, percent: u32) -> Result<PromiseParts, AllocError>
+    ensures percent { IfOk result (All (AsksPercent percent)) }
+    ensures few { IfOk result (λ parts. length parts ≤ TORS * TORS) }
+{
     let mut parts = Vec::new(alloc);
     for a in 0..TORS {
-        for b in 0..TORS {
-            if a < b {
-                if let Some(part) = promise_part(alloc, a, b, percent)? {
-                    parts.push(part)?;
-                }
-            }
-        }
+        add_promises(alloc, a, percent, &mut parts)?;
     }
     Ok(PromiseParts::new(parts))
 }
 
+/// The name of the group.
+fn group_name(alloc: Global) -> Result<Name, AllocError> {
+    match Name::read(alloc, b"dc1")? {
+        Some(name) => Ok(name),
+        None => unreachable!(),
+    }
+}
+
 /// A random group at every limit: 64 ToRs with eight links each to some of 448 other devices, and random links between those,
 /// 4,096 links in all, with capacities up to the greatest, and promises of so many percent between each two ToRs.
-pub fn full_group(alloc: Global, percent: u32) -> Result<Option<Parts>, AllocError> {
+pub(crate) fn full_group(alloc: Global, percent: u32) -> Result<Parts, AllocError>
+    ensures few { IfOk result AreFew }
+    ensures percent { IfOk result (λ parts. All (AsksPercent percent) parts.promises) }
+{
     let devices = devices(alloc)?;
     let links = links(alloc)?;
     let promises = promises(alloc, percent)?;
-    match named(alloc, "dc", 1)? {
-        Some(name) => Ok(Some(Parts {
-            name,
-            devices,
-            links,
-            promises,
-        })),
-        None => Ok(None),
-    }
+    Ok(Parts {
+        name: group_name(alloc)?,
+        devices,
+        links,
+        promises,
+    })
 }

@@ -1,0 +1,4 @@
+pub mod OutcomeLemmas
+pub mod SwitchLemmas
+pub mod MeasuredLemmas
+pub mod PercentLemmas

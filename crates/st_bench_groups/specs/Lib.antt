@@ -1,0 +1,4 @@
+pub mod Outcomes
+pub mod Switches
+pub mod Measured
+pub mod Percents
