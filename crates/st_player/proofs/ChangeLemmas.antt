@@ -1,6 +1,6 @@
 -- A snapshot that is brought up to date: what differs where an entry can have touched it, and that nothing differs elsewhere.
 use Rattle.std.proofs.Common.{◌≡◌, ◌∙◌, ℕ, zero, suc, ◌+◌, ◌-◌, ◌<◌, ◌≤◌, true, false, Bool, List, [], ◌∷◌, ◌++◌, length, map, get_or, set, take, drop, None, refl, sym, ap, ap₂, arith, append_assoc, codes, subst}
-use Rattle.std.specs.Prelude.{All, not, nat_lt, ◌&&◌, ◌||◌, ◌==◌, if◌then◌else◌}
+use Rattle.std.specs.Prelude.{All, not, nat_lt, ◌==◌, if◌then◌else◌}
 use Rattle.std.proofs.lemmas.Bool.Decides.{nat_tests}
 use Rattle.std.proofs.lemmas.List.{append-nil, drop_all, drop_more, get_or-append_right, get_or-map, get_or_default, length-append, length-drop, length-map, length-take-le, take_all, take_more}
 use Rattle.std.proofs.Math.Seq.{set-append_seam}
@@ -8,12 +8,13 @@ use mathlib.Core.Path.{fun_ext}
 use Rattle.serde_json.specs.Data.{Data, Members}
 use Rattle.st_net.specs.declared.entity.Entity.{Entity}
 use Rattle.st_net.specs.declared.entity.Entity.TheVariants.{Device, Link}
+use Rattle.st_net.specs.Demands.{held_list}
 use Rattle.st_net.specs.Entities.{is_same_entity}
 use Rattle.st_net.specs.declared.promise.Promise.{Promise}
 use Rattle.st_net.specs.Groups.{Group, IsEntityOf, IsSound, no_promise, promise_of}
 use Rattle.st_net.specs.InOrder.{entities_of, place_in}
 use Rattle.st_net.specs.Promises.{is_kept}
-use Rattle.st_net.specs.Sets.{IsWithin}
+use Rattle.st_net.specs.Sets.{IsWithin, Marks}
 use Rattle.st_net.proofs.EntityOrder.{device_at, entities_count, link_at}
 use Rattle.st_net.proofs.GroupLaws.{keeps_with_more, tells_kept}
 use Rattle.st_net.proofs.Tests.{equal_numbers, same_entity, turned}
@@ -21,14 +22,14 @@ use Rattle.st_event.specs.History.{History}
 use Rattle.st_player.specs.declared.snapshot.Held.{Held}
 use Rattle.st_player.specs.declared.state.State.{State}
 use Rattle.st_player.specs.declared.touched.Touched.{Touched}
-use Rattle.st_player.specs.declared.touched.Touched.TheVariants.{Nothing, Near}
+use Rattle.st_player.specs.declared.touched.Touched.TheVariants.{Nothing, Near, Altered}
 use Rattle.st_player.specs.Entries.{lost_from, turned_data, turned_of, with_changes, with_counts}
 use Rattle.st_player.specs.Fields.{changes_from, fields_between, has_field}
 use Rattle.st_player.specs.Json.{number_data, put_list, put_some, put_where}
 use Rattle.st_player.specs.Snapshots.{Shown, states_of}
 use Rattle.st_player.specs.States.{state_of}
 use Rattle.st_player.specs.Steps.{AllKept, IsHeld}
-use Rattle.st_player.specs.Touched.{IsRenewed, Touches, change_at, may_show, set_at}
+use Rattle.st_player.specs.Touched.{HasMark, HasMarks, IsRenewed, IsTouchIn, LeavesPromises, LeavesPromisesIn, Touches, change_at, may_show, set_at}
 use Rattle.st_player.proofs.StateParts.{same_as_itself}
 
 -- a state does not differ from itself, nor a list of them
@@ -162,6 +163,22 @@ ends h k states told group is =
       sym (append-nil told) ∙ (ap (λ (xs : List State). told ++ changes_from n xs (drop n news)) (sym no_more) ∙ is.told_is),
     )
 
+-- a set that has a mark for each entity of a group has one for each of these
+pub has_mark : (g : Group) (touched : Touched) (e : Entity) → HasMarks g touched → IsEntityOf g e → HasMark touched e
+has_mark g Nothing e marks here = tt
+has_mark g (Near at) e marks here = tt
+has_mark g (Altered set) (Device i) marks here = omega (arith, marks.devices, here)
+has_mark g (Altered set) (Link i) marks here = omega (arith, marks.links, here)
+
+pub marks_within : (g : Group) (touched : Touched) → IsTouchIn g touched → HasMarks g touched
+marks_within g Nothing within = tt
+marks_within g (Near at) within = tt
+marks_within g (Altered set) within = within
+
+-- where a proposal is accepted
+pub promises_left : (h k : History) (touched : Touched) (set : Marks) → touched ≡ Altered set → Touches h k touched → LeavesPromises h k
+promises_left h k touched set is touches = subst (λ (t : Touched). LeavesPromisesIn t h k) is touches.promises
+
 -- one state was brought up to date
 old_low : (i n : ℕ) (states olds news : List State) → length states ≡ n → length news ≡ n → i < n → states ≡ take i news ++ drop i olds → i < length olds
 old_low i n states olds news count new_count low are =
@@ -268,6 +285,12 @@ behind_link h k l n states told next here touches was =
     renewed_over h k (Near (Link l)) n all (all - n) states told (omega (arith, next, here, entities_count k.group)) (omega arith) touches
     (λ m from to. link_apart k.group l m to (λ same. let no : ⊥ = omega (arith, same, from, next) in no)) was
 
+-- an entity at a place of which nothing is shown anew
+pub shown_past : (h k : History) (touched : Touched) (i n : ℕ) (e : Entity) (states : List State) (told : List Data) → n ≡ i + 1 → i < length (entities_of k.group) → e ≡ get_or (entities_of k.group) i e → may_show k.group touched e ≡ false
+    → Touches h k touched → IsRenewed h k i states told → IsRenewed h k n states told
+shown_past h k touched i n e states told next low at other touches was =
+    renewed_past h k touched i n states told next low touches (λ d there. ap (may_show k.group touched) (there ∙ get_or_default (entities_of k.group) i d e low ∙ sym at) ∙ other) was
+
 -- a link that does not end at a device that alone was moved
 pub link_past : (h k : History) (d i m n : ℕ) (states : List State) (told : List Data) → m ≡ length k.group.devices + i → n ≡ m + 1 → i < length k.group.links → may_show k.group (Near (Device d)) (Link i) ≡ false → Touches h k (Near (Device d))
     → IsRenewed h k m states told → IsRenewed h k n states told
@@ -295,6 +318,13 @@ pub all_marked : (g : Group) (up : Entity → Bool) (marks : List Bool) → mark
 all_marked g up marks is all i d low =
     let here : i < length marks = omega (arith, ap length is, length-map g.promises (is_kept g up), low) in
     sym (get_or-map (is_kept g up) g.promises i d true low) ∙ (ap (λ (bs : List Bool). get_or bs i true) (sym is) ∙ all i true here)
+
+-- where the same promises hold in two sets, all hold in the one where all hold in the other
+pub all_alike : (g h : Group) (up next : Entity → Bool) → held_list g up ≡ held_list h next → AllKept g up → AllKept h next
+all_alike g h up next same all i d low =
+    let here : i < length g.promises = omega (arith, ap length same, length-map g.promises (is_kept g up), length-map h.promises (is_kept h next), low) in
+    sym (get_or-map (is_kept h next) h.promises i d true low)
+    ∙ (ap (λ (bs : List Bool). get_or bs i true) (sym same) ∙ (get_or-map (is_kept g up) g.promises i no_promise true here ∙ all i no_promise here))
 
 -- what differs is put in this order
 pub put_in_order : (old new : Shown) (object states network known count all : Members) → states ≡ put_list (codes "set") (changes_from 0 old.states new.states) object → network ≡ put_some (codes "network") (turned_of old.network new.network) states

@@ -1,3 +1,4 @@
+pub mod Altered
 pub mod AskedLemmas
 pub mod ChangeLemmas
 pub mod CutLemmas

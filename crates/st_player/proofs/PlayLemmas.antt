@@ -48,6 +48,11 @@ pub first_next : (g : Group) (entries : List Entry) (i : ℕ) (e : Entry) → i 
 first_next g entries i e low at legal =
     subst (λ (es : List Entry). IsNext g es e) (append-nil (reverse (take i entries))) (next_is g [] entries i e low at (subst (λ (es : List Entry). IsLegal g es) (sym (append-nil (reverse entries))) legal))
 
+-- there is no entry to go through
+pub none_gone : (h : History) (entries : List Entry) → h.past ≡ [] → length entries ≡ 0 → h ≡ record { group = h.group; past = reverse entries }
+none_gone h [] opening none = ap (λ (es : List Entry). record { group = h.group; past = es }) opening
+none_gone h (e ∷ entries) opening none = absurd (omega (arith, none))
+
 -- what a snapshot shows
 pub shown_is : (h : History) (s : Snapshot) → IsSnapshot h s → shown_in s ≡ shown_of h.group h.past
 unfolding shown_of

@@ -1,6 +1,6 @@
 -- Values of JSON stay safe where one is put to others.
 use Rattle.std.proofs.Common.{◌≡◌, ◌∙◌, ℕ, true, false, Bool, List, [], ◌∷◌, ◌++◌, refl, sym, ap, arith, Ordering, Less, Equal, Greater, nat_cmp, subst, String, Global, Result, Ok, Err, OnOk, OnErr}
-use Rattle.std.specs.Prelude.{◌&&◌, ◌||◌, ◌==◌, decimal}
+use Rattle.std.specs.Prelude.{◌&&◌, ◌||◌, decimal}
 use Rattle.std.specs.Cmp.Lexicographic.{slice_cmp}
 use Rattle.std.specs.Ordering.{match_ordering}
 use Rattle.std.proofs.lemmas.Bool.Decides.{nat_tests}

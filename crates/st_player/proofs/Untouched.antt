@@ -1,6 +1,6 @@
 -- What an entry leaves as it was: all of an entity that it does not move, and what is shown of it, of links where it moves no end of theirs.
-use Rattle.std.proofs.Common.{◌≡◌, ◌∙◌, ℕ, ◌+◌, List, [], ◌∷◌, ◌++◌, true, false, true≢false, Bool, Option, Some, None, ◌⊎◌, inl, inr, refl, sym, ap, subst}
-use Rattle.std.specs.Prelude.{◌&&◌, ◌||◌, ◌==◌, not, nat_le, nat_lt, if◌then◌else◌, is_some, option_map, slice_index_or}
+use Rattle.std.proofs.Common.{◌≡◌, ◌∙◌, ℕ, ◌+◌, List, [], ◌∷◌, ◌++◌, true, false, true≢false, Bool, Option, Some, None, inl, inr, refl, sym, ap, subst}
+use Rattle.std.specs.Prelude.{◌&&◌, ◌||◌, ◌==◌, not, nat_lt, if◌then◌else◌, is_some, option_map, slice_index_or}
 use Rattle.st_net.specs.declared.entity.AppId.{AppId}
 use Rattle.st_net.specs.declared.entity.Entity.{Entity}
 use Rattle.st_net.specs.declared.entity.Entity.TheVariants.{Device, Link}
@@ -9,14 +9,12 @@ use Rattle.st_net.specs.declared.entity.Prio.TheVariants.{Low, High}
 use Rattle.st_net.specs.declared.entity.Row.{Row}
 use Rattle.st_net.specs.declared.entity.Vals.{Vals}
 use Rattle.st_net.specs.declared.entity.Var.{Var}
-use Rattle.st_net.specs.declared.entity.Var.TheVariants.{Power}
 use Rattle.st_net.specs.declared.message.Command.{Command}
 use Rattle.st_net.specs.declared.message.Report.{Report}
-use Rattle.st_net.specs.declared.topo.LinkOpening.{LinkOpening}
-use Rattle.st_net.specs.Entities.{is_same_entity}
+use Rattle.st_net.specs.Entities.{is_same_entity, value_of}
 use Rattle.st_net.specs.Groups.{Group, IsEntityOf, no_link}
 use Rattle.st_net.specs.Agents.{report_by}
-use Rattle.st_net.specs.Holders.{holder_freed, holder_set, is_held_by, is_same_prio}
+use Rattle.st_net.specs.Holders.{holder_set, is_held_by}
 use Rattle.st_net.specs.Levels.{carries, level_of}
 use Rattle.st_net.specs.Merge.{vals_in}
 use Rattle.st_net.specs.Numbered.{nth}
@@ -33,7 +31,7 @@ use Rattle.st_event.specs.Legal.{Fits, IsLegal, IsNext}
 use Rattle.st_event.specs.Locks.{holder, is_granted, is_released}
 use Rattle.st_event.specs.Moments.{begins, busy, command_of, commands, fence, health, is_sent, is_taken, number, renews, reports, stamp, vals}
 use Rattle.st_event.specs.Observed.{actual, failed_since, is_settled, observed, sure}
-use Rattle.st_event.specs.Proposals.{first_rows, is_acceptance, pending, target}
+use Rattle.st_event.specs.Proposals.{is_acceptance, target}
 use Rattle.st_event.specs.Replies.{blocked_or_sent, governing, reply, row_to}
 use Rattle.st_net.proofs.Tests.{nth_last}
 use Rattle.st_event.proofs.Standings.{quiet_stamp}
@@ -42,12 +40,12 @@ use Rattle.st_player.specs.declared.state.Carriage.TheVariants.{Busy, Up, Off, F
 use Rattle.st_player.specs.declared.state.Knowledge.TheVariants.{Sure, Settled, Blocked, Waiting}
 use Rattle.st_player.specs.declared.state.State.{State}
 use Rattle.st_player.specs.declared.touched.Touched.{Touched}
-use Rattle.st_player.specs.declared.touched.Touched.TheVariants.{Nothing, Near, All}
+use Rattle.st_player.specs.declared.touched.Touched.TheVariants.{Nothing, Near}
 use Rattle.st_player.specs.Entries.{is_entity}
 use Rattle.st_player.specs.States.{greatest, is_blocked, open_of, state_of}
-use Rattle.st_player.specs.Touched.{IsTouchIn, Touches, may_move, may_show, moved_by}
+use Rattle.st_player.specs.Touched.{IsTouchIn, LeavesPromisesIn, Touches, may_move, may_show, moved_by}
 
-abbrev entry_of : Event → Reply → Entry
+abbrev pub entry_of : Event → Reply → Entry
 entry_of event answer = record { event = event; reply = answer }
 
 -- an entry leaves all of an entity that looks back
@@ -59,6 +57,7 @@ pub record Stays (g : Group) (past : List Entry) (entry : Entry) (e : Entity) : 
   pub stamp_is : stamp g past e ≡ stamp g (entry ∷ past) e
   pub holder_is : (p : Prio) → holder past e p ≡ holder (entry ∷ past) e p
   pub failed_is : (n : ℕ) → failed_since past e n ≡ failed_since (entry ∷ past) e n
+  pub goal_is : vals_in g (target g past) e ≡ vals_in g (target g (entry ∷ past)) e
 
 -- no command of its own, no finish of its own
 busy_still : (o : Option Command) (fenced : ℕ) (b finishes : Bool) → o ≡ None → finishes ≡ false → b ≡ (begins o fenced || (b && not finishes))
@@ -98,6 +97,10 @@ not_its_release false held before at prio e p other = refl
 silent : (g : Group) (past : List Entry) (event : Event) (answer : Reply) (e : Entity) → stamp g (entry_of event answer ∷ past) ≡ stamp g past → stamp g past e ≡ stamp g (entry_of event answer ∷ past) e
 silent g past event answer e is = λ i. sym is i e
 
+-- nothing is accepted
+goal_same : (g : Group) (past : List Entry) (event : Event) (answer : Reply) (e : Entity) → is_acceptance event answer ≡ false → vals_in g (target g past) e ≡ vals_in g (target g (entry_of event answer ∷ past)) e
+goal_same g past event answer e none = ap (λ (t : Entity → Var → ℕ). vals_in g t e) (sym (target_same g past (entry_of event answer) none))
+
 pub stays_at : (g : Group) (past : List Entry) (event : Event) (answer : Reply) (e : Entity) → is_acceptance event answer ≡ false → is_entity (moved_by g past event) e ≡ false → Stays g past (entry_of event answer) e
 stays_at g past (Submit app rows) answer e none other = record {
   busy_is = and_true (busy g past e);
@@ -107,6 +110,7 @@ stays_at g past (Submit app rows) answer e none other = record {
   stamp_is = silent g past (Submit app rows) answer e (quiet_stamp g past (Submit app rows) answer none refl);
   holder_is = λ p. refl;
   failed_is = λ n. refl;
+  goal_is = goal_same g past (Submit app rows) answer e none;
 }
 stays_at g past Check answer e none other = record {
   busy_is = and_true (busy g past e);
@@ -116,6 +120,7 @@ stays_at g past Check answer e none other = record {
   stamp_is = silent g past Check answer e (quiet_stamp g past Check answer none refl);
   holder_is = λ p. refl;
   failed_is = λ n. refl;
+  goal_is = goal_same g past Check answer e none;
 }
 stays_at g past (Lock app at prio) answer e none other = record {
   busy_is = and_true (busy g past e);
@@ -125,6 +130,7 @@ stays_at g past (Lock app at prio) answer e none other = record {
   stamp_is = silent g past (Lock app at prio) answer e (quiet_stamp g past (Lock app at prio) answer none refl);
   holder_is = λ p. not_its_lock (is_granted answer) (holder past) at prio (Some app) e p other;
   failed_is = λ n. refl;
+  goal_is = goal_same g past (Lock app at prio) answer e none;
 }
 stays_at g past (Unlock app at prio) answer e none other = record {
   busy_is = and_true (busy g past e);
@@ -134,6 +140,7 @@ stays_at g past (Unlock app at prio) answer e none other = record {
   stamp_is = silent g past (Unlock app at prio) answer e (quiet_stamp g past (Unlock app at prio) answer none refl);
   holder_is = λ p. not_its_release (is_released answer) (is_held_by app (holder past at prio)) (holder past) at prio e p other;
   failed_is = λ n. refl;
+  goal_is = goal_same g past (Unlock app at prio) answer e none;
 }
 stays_at g past (Send at) answer e none other = record {
   busy_is = and_true (busy g past e);
@@ -143,6 +150,7 @@ stays_at g past (Send at) answer e none other = record {
   stamp_is = silent g past (Send at) answer e (quiet_stamp g past (Send at) answer none refl);
   holder_is = λ p. refl;
   failed_is = λ n. refl;
+  goal_is = goal_same g past (Send at) answer e none;
 }
 stays_at g past (Deliver n) answer e none other = record {
   busy_is = busy_still (command_of e (nth (commands g past) n)) _ (busy g past e) false (not_its_command (nth (commands g past) n) e other) refl;
@@ -152,6 +160,7 @@ stays_at g past (Deliver n) answer e none other = record {
   stamp_is = silent g past (Deliver n) answer e (quiet_stamp g past (Deliver n) answer none refl);
   holder_is = λ p. refl;
   failed_is = λ n. refl;
+  goal_is = goal_same g past (Deliver n) answer e none;
 }
 stays_at g past (Finish at) answer e none other = record {
   busy_is = busy_still None 0 (busy g past e) (is_same_entity at e) refl other;
@@ -161,6 +170,7 @@ stays_at g past (Finish at) answer e none other = record {
   stamp_is = silent g past (Finish at) answer e (quiet_stamp g past (Finish at) answer none refl);
   holder_is = λ p. refl;
   failed_is = λ n. refl;
+  goal_is = goal_same g past (Finish at) answer e none;
 }
 stays_at g past (make_report at) answer e none other = record {
   busy_is = and_true (busy g past e);
@@ -170,6 +180,7 @@ stays_at g past (make_report at) answer e none other = record {
   stamp_is = silent g past (make_report at) answer e (quiet_stamp g past (make_report at) answer none refl);
   holder_is = λ p. refl;
   failed_is = λ n. refl;
+  goal_is = goal_same g past (make_report at) answer e none;
 }
 stays_at g past (Hear n) answer e none other = record {
   busy_is = and_true (busy g past e);
@@ -179,6 +190,7 @@ stays_at g past (Hear n) answer e none other = record {
   stamp_is = rw (and_other (is_taken answer) _ (not_renewed (nth (reports g past) n) e (stamp g past e) (vals_in g (target g past) e) other)) refl;
   holder_is = λ p. refl;
   failed_is = λ n. refl;
+  goal_is = goal_same g past (Hear n) answer e none;
 }
 stays_at g past (Fail at new level) answer e none other = record {
   busy_is = and_true (busy g past e);
@@ -188,6 +200,7 @@ stays_at g past (Fail at new level) answer e none other = record {
   stamp_is = silent g past (Fail at new level) answer e (quiet_stamp g past (Fail at new level) answer none refl);
   holder_is = λ p. refl;
   failed_is = λ n. rw other refl;
+  goal_is = goal_same g past (Fail at new level) answer e none;
 }
 
 -- the ends of a link stay
@@ -199,8 +212,8 @@ EndsStay g past entry (Link i) = Stays g past entry (Device (slice_index_or g.li
 pub actual_stays : (g : Group) (past : List Entry) (entry : Entry) (e : Entity) → Stays g past entry e → actual g past e ≡ actual g (entry ∷ past) e
 actual_stays g past entry e s = λ i. not (s.busy_is i) && carries e (s.vals_is i) (level_of e (s.vals_is i) (s.health_is i) (s.busy_is i))
 
-pub sure_stays : (g : Group) (past : List Entry) (entry : Entry) (e : Entity) → target g past ≡ target g (entry ∷ past) → Stays g past entry e → sure g past e ≡ sure g (entry ∷ past) e
-sure_stays g past entry e goal s = λ i. is_sure_by e (s.observed_is i) (s.stamp_is i) (vals_in g (goal i) e)
+pub sure_stays : (g : Group) (past : List Entry) (entry : Entry) (e : Entity) → Stays g past entry e → sure g past e ≡ sure g (entry ∷ past) e
+sure_stays g past entry e s = λ i. is_sure_by e (s.observed_is i) (s.stamp_is i) (s.goal_is i)
 
 -- whether a command of an entity is barred: not by how many were sent
 abbrev blocked_from : Bool → Option Lack → Bool
@@ -220,20 +233,32 @@ lacks g past e = lack_at g (observed g past) (target g past) e (waits_for g past
 blocked_at : (g : Group) (past : List Entry) (e : Entity) → is_blocked (reply g past (Send e)) ≡ blocked_from (is_settled g past e) (lacks g past e)
 blocked_at g past e = blocked_is (is_settled g past e) (lacks g past e) (row_to e (waits_for g past e) (target g past e)) _
 
-lacks_stay : (g : Group) (past : List Entry) (entry : Entry) (e : Entity) → target g past ≡ target g (entry ∷ past) → Stays g past entry e → EndsStay g past entry e → lacks g past e ≡ lacks g (entry ∷ past) e
-lacks_stay g past entry (Device k) goal s ends = λ i.
-    lack_or (level_lack (λ at. s.observed_is i) (Device k) (needs_of (governing (Device k) (s.observed_is i).vals (goal i (Device k)))))
-    (power_lack (needs_of (governing (Device k) (s.observed_is i).vals (goal i (Device k)))) (goal i (Device k) Power))
-lacks_stay g past entry (Link k) goal s ends =
+-- what a command waits for goes by the values that the entity is to have
+waits_by : (g : Group) (goal : Entity → Var → ℕ) (e : Entity) (seen : Vals) → governing e seen (goal e) ≡ governing e seen (value_of e (vals_in g goal e))
+waits_by g goal (Device k) seen = refl
+waits_by g goal (Link k) seen = refl
+
+waits_stay : (g : Group) (past : List Entry) (entry : Entry) (e : Entity) → Stays g past entry e → waits_for g past e ≡ waits_for g (entry ∷ past) e
+waits_stay g past entry e s =
+    let same : governing e (observed g past e).vals (value_of e (vals_in g (target g past) e)) ≡ governing e (observed g (entry ∷ past) e).vals (value_of e (vals_in g (target g (entry ∷ past)) e)) =
+    λ i. governing e (s.observed_is i).vals (value_of e (s.goal_is i)) in
+    waits_by g (target g past) e (observed g past e).vals ∙ (same ∙ sym (waits_by g (target g (entry ∷ past)) e (observed g (entry ∷ past) e).vals))
+
+lacks_stay : (g : Group) (past : List Entry) (entry : Entry) (e : Entity) → Stays g past entry e → EndsStay g past entry e → lacks g past e ≡ lacks g (entry ∷ past) e
+lacks_stay g past entry (Device k) s ends =
+    let waits = waits_stay g past entry (Device k) s in
+    λ i. lack_or (level_lack (λ at. s.observed_is i) (Device k) (needs_of (waits i))) (power_lack (needs_of (waits i)) (s.goal_is i).v0)
+lacks_stay g past entry (Link k) s ends =
     let link = slice_index_or g.links k no_link in
+    let waits = waits_stay g past entry (Link k) s in
     λ i. lack_or (level_lack (λ at. ends.0.observed_is i) (Device link.a) 4)
     (lack_or (level_lack (λ at. ends.1.observed_is i) (Device link.b) 4)
-    (level_lack (λ at. s.observed_is i) (Link k) (needs_of (governing (Link k) (s.observed_is i).vals (goal i (Link k))))))
+    (level_lack (λ at. s.observed_is i) (Link k) (needs_of (waits i))))
 
-blocked_stays : (g : Group) (past : List Entry) (entry : Entry) (e : Entity) → target g past ≡ target g (entry ∷ past) → Stays g past entry e → EndsStay g past entry e → is_blocked (reply g past (Send e)) ≡ is_blocked (reply g (entry ∷ past) (Send e))
-blocked_stays g past entry e goal s ends =
-    let lack = lacks_stay g past entry e goal s ends in
-    let same : blocked_from (is_settled g past e) (lacks g past e) ≡ blocked_from (is_settled g (entry ∷ past) e) (lacks g (entry ∷ past) e) = λ i. blocked_from (is_settled_by (s.observed_is i) (s.stamp_is i) (vals_in g (goal i) e)) (lack i) in
+blocked_stays : (g : Group) (past : List Entry) (entry : Entry) (e : Entity) → Stays g past entry e → EndsStay g past entry e → is_blocked (reply g past (Send e)) ≡ is_blocked (reply g (entry ∷ past) (Send e))
+blocked_stays g past entry e s ends =
+    let lack = lacks_stay g past entry e s ends in
+    let same : blocked_from (is_settled g past e) (lacks g past e) ≡ blocked_from (is_settled g (entry ∷ past) e) (lacks g (entry ∷ past) e) = λ i. blocked_from (is_settled_by (s.observed_is i) (s.stamp_is i) (s.goal_is i)) (lack i) in
     blocked_at g past e ∙ (same ∙ sym (blocked_at g (entry ∷ past) e))
 
 open_stays : (g : Group) (past : List Entry) (entry : Entry) (e : Entity) → Stays g past entry e → EndsStay g past entry e → open_of g past e ≡ open_of g (entry ∷ past) e
@@ -277,15 +302,15 @@ state_is : (g : Group) (past : List Entry) (e : Entity) → state_of g past e
 unfolding state_of
 state_is g past e = refl
 
-pub state_stays : (g : Group) (past : List Entry) (entry : Entry) (e : Entity) → target g past ≡ target g (entry ∷ past) → Stays g past entry e → EndsStay g past entry e → state_of g past e ≡ state_of g (entry ∷ past) e
-state_stays g past entry e goal s ends =
-    let barred = blocked_stays g past entry e goal s ends in
+pub state_stays : (g : Group) (past : List Entry) (entry : Entry) (e : Entity) → Stays g past entry e → EndsStay g past entry e → state_of g past e ≡ state_of g (entry ∷ past) e
+state_stays g past entry e s ends =
+    let barred = blocked_stays g past entry e s ends in
     let failed : failed_since past e (observed g past e).number ≡ failed_since (entry ∷ past) e (observed g (entry ∷ past) e).number =
     s.failed_is (observed g past e).number ∙ ap (λ (r : Report). failed_since (entry ∷ past) e r.number) s.observed_is in
     let opened = open_stays g past entry e s ends in
     let same : state_from e (busy g past e) (vals g past e) (health g past e) (observed g past e) (stamp g past e) (vals_in g (target g past) e) (is_blocked (reply g past (Send e))) (failed_since past e (observed g past e).number) (holder past e Low) (holder past e High) (open_of g past e)
     ≡ state_from e (busy g (entry ∷ past) e) (vals g (entry ∷ past) e) (health g (entry ∷ past) e) (observed g (entry ∷ past) e) (stamp g (entry ∷ past) e) (vals_in g (target g (entry ∷ past)) e) (is_blocked (reply g (entry ∷ past) (Send e))) (failed_since (entry ∷ past) e (observed g (entry ∷ past) e).number) (holder (entry ∷ past) e Low) (holder (entry ∷ past) e High) (open_of g (entry ∷ past) e) =
-    λ i. state_from e (s.busy_is i) (s.vals_is i) (s.health_is i) (s.observed_is i) (s.stamp_is i) (vals_in g (goal i) e) (barred i) (failed i) (s.holder_is Low i) (s.holder_is High i) (opened i) in
+    λ i. state_from e (s.busy_is i) (s.vals_is i) (s.health_is i) (s.observed_is i) (s.stamp_is i) (s.goal_is i) (barred i) (failed i) (s.holder_is Low i) (s.holder_is High i) (opened i) in
     state_is g past e ∙ (same ∙ sym (state_is g (entry ∷ past) e))
 
 neither : (a b : Bool) → (a || b) ≡ false → (a ≡ false) × (b ≡ false)
@@ -293,16 +318,16 @@ neither true b is = absurd (true≢false is)
 neither false b is = (refl, is)
 
 -- whatever may not be shown anew stays, with its ends
-abbrev StayAll : Group → List Entry → Entry → Touched → Type 0
+abbrev pub StayAll : Group → List Entry → Entry → Touched → Type 0
 StayAll g past entry touched = (e : Entity) → may_move touched e ≡ false → Stays g past entry e
 
-pub shown_stays : (g : Group) (past : List Entry) (entry : Entry) (touched : Touched) (e : Entity) → target g past ≡ target g (entry ∷ past) → StayAll g past entry touched → may_show g touched e ≡ false → state_of g past e ≡ state_of g (entry ∷ past) e
-shown_stays g past entry touched (Device k) goal all other = state_stays g past entry (Device k) goal (all (Device k) other) tt
-shown_stays g past entry touched (Link k) goal all other =
+pub shown_stays : (g : Group) (past : List Entry) (entry : Entry) (touched : Touched) (e : Entity) → StayAll g past entry touched → may_show g touched e ≡ false → state_of g past e ≡ state_of g (entry ∷ past) e
+shown_stays g past entry touched (Device k) all other = state_stays g past entry (Device k) (all (Device k) other) tt
+shown_stays g past entry touched (Link k) all other =
     let link = slice_index_or g.links k no_link in
     let here = neither (may_move touched (Link k)) _ other in
     let ends = neither (may_move touched (Device link.a)) (may_move touched (Device link.b)) here.1 in
-    state_stays g past entry (Link k) goal (all (Link k) here.0) (all (Device link.a) ends.0, all (Device link.b) ends.1)
+    state_stays g past entry (Link k) (all (Link k) here.0) (all (Device link.a) ends.0, all (Device link.b) ends.1)
 
 -- what is sent or reported is of the group's entities
 not_first : {X : Type 0} (x : X) (b : Bool) → (if b then None else None) ≡ Some x → ⊥
@@ -363,37 +388,25 @@ moved_own g past (Hear n) at legal fits is = its_report g at (nth (reports g pas
 moved_own g past (Fail e new level) at legal fits is = it_own g e at fits.entity is
 moved_own g past _ at legal fits is = cc
 
--- an entry that accepts nothing moves at most one entity
-leaves : (g : Group) (past : List Entry) (entry : Entry) (touched : Touched) → is_acceptance entry.event entry.reply ≡ false → IsTouchIn g touched → ((e : Entity) → may_move touched e ≡ false → is_entity (moved_by g past entry.event) e ≡ false)
+-- nothing changes but what an entry may move
+pub leaves : (g : Group) (past : List Entry) (entry : Entry) (touched : Touched) → IsTouchIn g touched → StayAll g past entry touched → LeavesPromisesIn touched (record { group = g; past = past }) (record { group = g; past = entry ∷ past })
     → Touches (record { group = g; past = past }) (record { group = g; past = entry ∷ past }) touched
-leaves g past entry touched none within apart =
-    let goal = sym (target_same g past entry none) in
-    let all : StayAll g past entry touched = λ e other. stays_at g past entry.event entry.reply e none (apart e other) in
-    record {
-      group = refl;
-      within = within;
-      states = λ e other. shown_stays g past entry touched e goal all other;
-      network = λ e other. actual_stays g past entry e (all e other);
-      sure_is = λ e other. sure_stays g past entry e goal (all e other);
-    }
+leaves g past entry touched within all promises = record {
+  group = refl;
+  within = within;
+  states = λ e other. shown_stays g past entry touched e all other;
+  network = λ e other. actual_stays g past entry e (all e other);
+  sure_is = λ e other. sure_stays g past entry e (all e other);
+  promises = promises;
+}
+
+-- an entry that accepts nothing moves at most one entity
+stay_apart : (g : Group) (past : List Entry) (entry : Entry) (touched : Touched) → is_acceptance entry.event entry.reply ≡ false → ((e : Entity) → may_move touched e ≡ false → is_entity (moved_by g past entry.event) e ≡ false) → StayAll g past entry touched
+stay_apart g past entry touched none apart e other = stays_at g past entry.event entry.reply e none (apart e other)
 
 pub leaves_others : (h : History) (entry : Entry) (at : Entity) → IsLegal h.group h.past → IsNext h.group h.past entry → is_acceptance entry.event entry.reply ≡ false → moved_by h.group h.past entry.event ≡ Some at → Touches h (with_entry h entry) (Near at)
 leaves_others h entry at legal next none is =
-    leaves h.group h.past entry (Near at) none (moved_own h.group h.past entry.event at legal next.fits is) (λ e other. ap (λ (o : Option Entity). is_entity o e) is ∙ other)
+    leaves h.group h.past entry (Near at) (moved_own h.group h.past entry.event at legal next.fits is) (stay_apart h.group h.past entry (Near at) none (λ e other. ap (λ (o : Option Entity). is_entity o e) is ∙ other)) tt
 
 pub leaves_all : (h : History) (entry : Entry) → is_acceptance entry.event entry.reply ≡ false → moved_by h.group h.past entry.event ≡ None → Touches h (with_entry h entry) Nothing
-leaves_all h entry none is = leaves h.group h.past entry Nothing none tt (λ e other. ap (λ (o : Option Entity). is_entity o e) is)
-
--- of any entry no more is said than that all may be moved
-pub leaves_none : (h : History) (entry : Entry) → Touches h (with_entry h entry) All
-leaves_none h entry = record {
-  group = refl;
-  within = tt;
-  states = λ e other. absurd (shown_all h.group e other);
-  network = λ e other. absurd (true≢false other);
-  sure_is = λ e other. absurd (true≢false other);
-}
-  where
-    shown_all : (g : Group) (e : Entity) → may_show g All e ≡ false → ⊥
-    shown_all g (Device i) other = true≢false other
-    shown_all g (Link i) other = true≢false other
+leaves_all h entry none is = leaves h.group h.past entry Nothing tt (stay_apart h.group h.past entry Nothing none (λ e other. ap (λ (o : Option Entity). is_entity o e) is)) tt

@@ -1,32 +1,19 @@
 //! The player but for its streams: its arguments in, its exit status out.
 
-ghost use Rattle.std.specs.Prelude.{◌≡◌, drop, map, string_bytes, IfOk};
+ghost use Rattle.std.specs.Prelude.{◌≡◌, map, string_bytes, IfOk};
 ghost use Rattle.std.specs.Process.{exit_status};
-ghost use Rattle.std.specs.Vec.Iter.{into_iter_items};
 ghost use Rattle.st_replay.specs.Statuses.{exit_code_of};
 ghost use Rattle.st_player.specs.Calls.{ComesOfSource, Ends, IsCalledFor, ProgramEnds, from_in as from_in_lem, from_of as from_of_lem};
 
 use crate::playing::{Played, fault, play};
 use st_io::{ReadEnd, Sink, Source, read_all, write_all};
-use st_replay::Status;
+use st_replay::{Status, after_name};
 use st_text::number;
 use std::alloc::{AllocError, Global};
 use std::env::Args;
 use std::io;
 use std::io::ErrorKind;
 use std::process::ExitCode;
-
-/// The words after the first of these, which is the program's name.
-fn after_name(alloc: Global, mut args: Args) -> Result<Vec<String>, AllocError>
-    ensures { IfOk result (λ words. words.items ≡ drop 1 (into_iter_items args)) }
-{
-    let _name = args.next();
-    let mut words = Vec::new(alloc);
-    for word in args {
-        words.push(word)?;
-    }
-    Ok(words)
-}
 
 /// How many entries of each journal stand before the page, by the words of these arguments, of which the first is the program's name; none
 /// where the words are none of the player's, also where an argument is not text.

@@ -14,14 +14,14 @@ ghost use Rattle.st_player.specs.Json.{number_data, put_list as put_list_lem, pu
 ghost use Rattle.st_entry.specs.Plain.{is_plain};
 ghost use Rattle.st_player.specs.Snapshots.{states_of as states_of_lem};
 ghost use Rattle.st_player.specs.Steps.{IsSnapshot, shown_in};
-ghost use Rattle.st_player.specs.Touched.{IsRenewed, Touches, change_at};
+ghost use Rattle.st_player.specs.Touched.{HasMarks, IsRenewed, Touches, change_at};
 
 use crate::fields::{Fields, change_json};
 use crate::playback::Playback;
 use crate::safe_json::{Json, JsonList, JsonObject};
 use crate::snapshot::Snapshot;
 use crate::state::State;
-use crate::touched::Touched;
+use crate::touched::{Touched, shows_near};
 use crate::turns::{next_network, next_sure};
 use st_net::Entity;
 use st_world::World;
@@ -76,30 +76,33 @@ fn renew_links(
     ensures renewed { (h : history_lem) → Touches h behind.now (Near (Device device)) → IsRenewed h behind.now (length behind.now.group.devices) states.old (map view list.old) → OnOk result (IsRenewed h behind.now (length (entities_of behind.now.group)) states.new (map view list.new)) }
 {
     let topo = behind.world().control().topo();
-    let near = Touched::Near(Entity::Device(device));
     topo.is_sound();
     for i in 0..topo.link_count() {
-        if near.may_show(topo, Entity::Link(i)) {
+        if shows_near(topo, Entity::Device(device), Entity::Link(i)) {
             renew(list, alloc, behind, states, topo.device_count() + i)?;
         }
     }
     Ok(())
 }
 
-/// The same of all entities.
-fn renew_all(
+/// The same of all entities of which something else may be shown.
+fn renew_shown(
     list: &mut JsonList,
     alloc: Global,
     behind: &Playback,
     states: &mut [State],
+    touched: &Touched,
 ) -> Result<(), AllocError>
+    requires marks { HasMarks behind.now.group touched.now }
     requires count { length states.old ≡ length (entities_of behind.now.group) }
     ensures count { length states.new ≡ length states.old }
-    ensures renewed { (h : history_lem) → IsRenewed h behind.now 0 states.old (map view list.old) → OnOk result (IsRenewed h behind.now (length (entities_of behind.now.group)) states.new (map view list.new)) }
+    ensures renewed { (h : history_lem) → Touches h behind.now touched.now → IsRenewed h behind.now 0 states.old (map view list.old) → OnOk result (IsRenewed h behind.now (length (entities_of behind.now.group)) states.new (map view list.new)) }
 {
     let topo = behind.world().control().topo();
     for place in 0..topo.entity_count() {
-        renew(list, alloc, behind, states, place)?;
+        if touched.may_show(topo, topo.entity_at(place)) {
+            renew(list, alloc, behind, states, place)?;
+        }
     }
     Ok(())
 }
@@ -130,9 +133,9 @@ fn changes(
     alloc: Global,
     behind: &Playback,
     states: &mut [State],
-    touched: Touched,
+    touched: &Touched,
 ) -> Result<JsonList, AllocError>
-    requires { (h : history_lem) × Touches h behind.now touched × (states.old ≡ states_of_lem h.group h.past) }
+    requires { (h : history_lem) × Touches h behind.now touched.now × (states.old ≡ states_of_lem h.group h.past) }
     ensures states { OnOk result (states.new ≡ states_of_lem behind.now.group behind.now.past) }
     ensures list { IfOk result (λ list. map view list ≡ changes_from 0 states.old (states_of_lem behind.now.group behind.now.past)) }
 {
@@ -140,11 +143,11 @@ fn changes(
     match touched {
         Touched::Nothing => Ok(list),
         Touched::Near(at) => {
-            renew_near(&mut list, alloc, behind, states, at)?;
+            renew_near(&mut list, alloc, behind, states, *at)?;
             Ok(list)
         }
-        Touched::All => {
-            renew_all(&mut list, alloc, behind, states)?;
+        Touched::Altered(_) => {
+            renew_shown(&mut list, alloc, behind, states, touched)?;
             Ok(list)
         }
     }
@@ -156,9 +159,9 @@ fn next_states(
     alloc: Global,
     behind: &Playback,
     states: Vec<State>,
-    touched: Touched,
+    touched: &Touched,
 ) -> Result<Vec<State>, AllocError>
-    requires { (h : history_lem) × Touches h behind.now touched × (states.items ≡ states_of_lem h.group h.past) }
+    requires { (h : history_lem) × Touches h behind.now touched.now × (states.items ≡ states_of_lem h.group h.past) }
     ensures states { IfOk result (λ now. now.items ≡ states_of_lem behind.now.group behind.now.past) }
     ensures told { IfOk result (λ now. members_view object.new ≡ put_list_lem (codes "set") (changes_from 0 states.items now.items) (members_view object.old)) }
 {
@@ -182,9 +185,9 @@ pub(crate) fn next_snapshot(
     alloc: Global,
     behind: &Playback,
     before: Snapshot,
-    touched: Touched,
+    touched: &Touched,
 ) -> Result<Snapshot, AllocError>
-    requires { (h : history_lem) × Touches h behind.now touched × IsSnapshot h before }
+    requires { (h : history_lem) × Touches h behind.now touched.now × IsSnapshot h before }
     ensures shown { IfOk result (IsSnapshot behind.now) }
     ensures told { IfOk result (λ shown. members_view object.new ≡ with_counts (shown_in before) (shown_in shown) (with_changes (shown_in before) (shown_in shown) (members_view object.old))) }
 {

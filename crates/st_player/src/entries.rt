@@ -6,7 +6,6 @@ ghost use Rattle.serde_json.specs.Data.{put as put_lem, string};
 ghost use Rattle.serde_json.specs.View.{view, members_view};
 ghost use Rattle.st_text.specs.Words.{spaced};
 ghost use Rattle.st_net.specs.Groups.{are_names};
-ghost use Rattle.st_event.specs.Proposals.{pending, first_rows};
 ghost use Rattle.st_entry.specs.Entries.{event_words, reply_words};
 ghost use Rattle.st_entry.specs.Keywords.{reply_mark};
 ghost use Rattle.st_player.specs.Entries.{about as about_lem, asked_of, entry_words as entry_words_lem, has_row_on as has_row_on_lem, is_about as is_about_lem, line_of, lost_from, named_by as named_by_lem, rows_about as rows_about_lem, with_words};
@@ -15,7 +14,7 @@ ghost use Rattle.st_player.specs.Refusals.{refusal_of, refused_of};
 use crate::playback::Playback;
 use crate::refusals::cause_json;
 use crate::safe_json::{Json, JsonObject};
-use crate::touched::{command_entity, report_entity};
+use crate::touched::{command_entity, oldest_rows, report_entity};
 use st_entry::{print_event, print_reply};
 use st_event::{Cause, Entry, Event, Reply, Verdict};
 use st_net::{Entity, GroupTopo, Name, Row};
@@ -63,16 +62,6 @@ fn put_line(
     topo.is_sound();
     let words = words_of(alloc, topo, apps, entry)?;
     object.put_text("line", without_space(&words))
-}
-
-/// The rows of the oldest proposal that waits.
-fn oldest_rows(world: &World) -> &[Row]
-    ensures { result.now ≡ first_rows (pending world.now.history.past) }
-{
-    match world.control().store().oldest() {
-        Some(oldest) => oldest.rows.as_slice(),
-        None => &[],
-    }
 }
 
 /// The rows that an entry is about, behind the entries of a world.

@@ -26,13 +26,20 @@ use crate::safe_json::{Json, JsonList, JsonObject};
 use crate::snapshot::{Snapshot, first_snapshot};
 use crate::state::State;
 use crate::touched::{Touched, touched_by};
+use st_control::Control;
 use st_event::{Entry, Journal};
 use st_net::{Entity, GroupTopo, Name};
-use st_promise::Book;
 use std::alloc::{AllocError, Global};
 
 /// The most bytes that the entries of all groups take together.
 pub const MOST_BYTES: usize = 4_194_304;
+
+/// A group that has gone through entries, and its snapshot.
+#[derive(Drop)]
+struct Moment {
+    playback: Playback,
+    shown: Snapshot,
+}
 
 /// A group that went through an entry: the group, its snapshot, and what is told of the entry.
 #[derive(Drop)]
@@ -42,7 +49,7 @@ struct Step {
     told: Json,
 }
 
-/// A snapshot, and what is told of it, or of the entry before it.
+/// A snapshot, and what is told of the entry before it.
 #[derive(Drop)]
 struct Telling {
     shown: Snapshot,
@@ -94,9 +101,9 @@ fn tell_entry(
     behind: &Playback,
     before: Snapshot,
     words: JsonObject,
-    touched: Touched,
+    touched: &Touched,
 ) -> Result<Telling, AllocError>
-    requires { (h : history_lem) × Touches h behind.now touched × IsSnapshot h before }
+    requires { (h : history_lem) × Touches h behind.now touched.now × IsSnapshot h before }
     ensures shown { IfOk result (λ telling. IsSnapshot behind.now telling.shown) }
     ensures told { IfOk result (λ telling. view telling.told ≡ told_data (shown_in before) (shown_in telling.shown) (members_view words)) }
 {
@@ -121,10 +128,10 @@ fn next_step(
     ensures shown { IfOk result (λ step. IsSnapshot step.playback step.shown) }
     ensures told { IfOk result (λ step. view step.told ≡ entry_data playback.group apps.now playback.past entry.now) }
 {
-    let touched = touched_by(playback.world(), entry);
+    let touched = touched_by(alloc, playback.world(), entry)?;
     let words = entry_words(alloc, &playback, apps, entry)?;
     let behind = playback.enter(alloc, entry)?;
-    let telling = tell_entry(alloc, &behind, before, words, touched)?;
+    let telling = tell_entry(alloc, &behind, before, words, &touched)?;
     Ok(Step {
         playback: behind,
         shown: telling.shown,
@@ -162,16 +169,43 @@ fn entries_json(
     Ok(list)
 }
 
-/// A group that has gone through these entries.
-fn played(alloc: Global, topo: GroupTopo, entries: &[Entry]) -> Result<Playback, AllocError>
-    requires { IsLegal topo (reverse entries.now) }
-    ensures { IfOk result (λ playback. playback ≡ record { group = topo; past = reverse entries.now }) }
+/// A group at its opening.
+fn at_opening(alloc: Global, topo: GroupTopo) -> Result<Moment, AllocError>
+    ensures playback { IfOk result (λ opened. opened.playback ≡ record { group = topo; past = [] }) }
+    ensures shown { IfOk result (λ opened. IsSnapshot opened.playback opened.shown) }
 {
-    let mut playback = Playback::start(alloc, topo)?;
+    let playback = Playback::start(alloc, topo)?;
+    let shown = first_snapshot(alloc, &playback)?;
+    Ok(Moment { playback, shown })
+}
+
+/// A group that goes from its opening through these entries.
+fn gone_through(alloc: Global, opened: Playback, entries: &[Entry]) -> Result<Playback, AllocError>
+    requires opening { opened.past ≡ [] }
+    requires legal { IsLegal opened.group (reverse entries.now) }
+    ensures { IfOk result (λ playback. playback ≡ record { group = opened.group; past = reverse entries.now }) }
+{
+    let mut playback = opened;
     for entry in entries {
         playback = playback.enter(alloc, entry)?;
     }
     Ok(playback)
+}
+
+/// The same with its snapshot then, which is the opening's where there are no entries.
+fn played(alloc: Global, opened: Moment, entries: &[Entry]) -> Result<Moment, AllocError>
+    requires opening { opened.playback.past ≡ [] }
+    requires shown { IsSnapshot opened.playback opened.shown }
+    requires legal { IsLegal opened.playback.group (reverse entries.now) }
+    ensures playback { IfOk result (λ begun. begun.playback ≡ record { group = opened.playback.group; past = reverse entries.now }) }
+    ensures shown { IfOk result (λ begun. IsSnapshot begun.playback begun.shown) }
+{
+    if entries.is_empty() {
+        return Ok(opened);
+    }
+    let playback = gone_through(alloc, opened.playback, entries)?;
+    let shown = first_snapshot(alloc, &playback)?;
+    Ok(Moment { playback, shown })
 }
 
 /// Whether two states are one.
@@ -334,15 +368,20 @@ fn links_json(alloc: Global, topo: &GroupTopo) -> Result<JsonList, AllocError>
     Ok(list)
 }
 
-/// The promises of a group, in order, of which these held at the opening.
-fn promises_json(alloc: Global, topo: &GroupTopo, start: &[bool]) -> Result<JsonList, AllocError>
-    requires { start.now ≡ map (is_kept topo.now (actual topo.now [])) topo.now.promises }
+/// The promises of a group, in order, of which these held at the opening. Its checker tells what each needs.
+fn promises_json(
+    alloc: Global,
+    topo: &GroupTopo,
+    control: &Control,
+    start: &[bool],
+) -> Result<JsonList, AllocError>
+    requires group { control.now.group ≡ topo.now }
+    requires start { start.now ≡ map (is_kept topo.now (actual topo.now [])) topo.now.promises }
     ensures { IfOk result (λ list. map view list ≡ map (promise_data topo.now) (range_with_len 0 (length topo.now.promises))) }
 {
-    let book = Book::start(alloc, topo)?;
     let mut list = JsonList::new(alloc);
     for i in 0..topo.promise_count() {
-        let json = promise_json(alloc, topo, i, book.need(i), start[i as usize])?;
+        let json = promise_json(alloc, topo, i, control.need(i), start[i as usize])?;
         list.push(json)?;
     }
     Ok(list)
@@ -353,83 +392,74 @@ fn put_parts(
     object: &mut JsonObject,
     alloc: Global,
     topo: &GroupTopo,
+    control: &Control,
     start: &[bool],
 ) -> Result<(), AllocError>
-    requires { start.now ≡ map (is_kept topo.now (actual topo.now [])) topo.now.promises }
+    requires group { control.now.group ≡ topo.now }
+    requires start { start.now ≡ map (is_kept topo.now (actual topo.now [])) topo.now.promises }
     ensures { OnOk result (members_view object.new ≡ with_parts topo.now (members_view object.old)) }
 {
     object.put_text("name", topo.name().bytes())?;
     object.put("devices", Json::list(devices_json(alloc, topo)?))?;
     object.put("links", Json::list(links_json(alloc, topo)?))?;
-    object.put("promises", Json::list(promises_json(alloc, topo, start)?))
+    object.put(
+        "promises",
+        Json::list(promises_json(alloc, topo, control, start)?),
+    )
 }
 
-/// The promises that hold in the network of a group.
-fn held_in_network(alloc: Global, playback: &Playback) -> Result<Vec<bool>, AllocError>
-    ensures { IfOk result (λ kept. kept.items ≡ map (is_kept playback.now.group (actual playback.now.group playback.now.past)) playback.now.group.promises) }
-{
-    Ok(first_snapshot(alloc, playback)?.into_network())
-}
-
-/// The promises that held at the opening of a group.
-fn held_at_start(alloc: Global, topo: GroupTopo) -> Result<Vec<bool>, AllocError>
-    ensures { IfOk result (λ kept. kept.items ≡ map (is_kept topo (actual topo [])) topo.promises) }
-{
-    let playback = Playback::start(alloc, topo)?;
-    held_in_network(alloc, &playback)
-}
-
-/// The snapshot of a group, and what is told of it where its page begins.
-fn tell_opening(alloc: Global, playback: &Playback) -> Result<Telling, AllocError>
-    ensures shown { IfOk result (λ telling. IsSnapshot playback.now telling.shown) }
-    ensures told { IfOk result (λ telling. view telling.told ≡ opening_data (shown_of playback.now.group playback.now.past)) }
+/// What is told of a group where its page begins.
+fn tell_opening(alloc: Global, playback: &Playback, shown: &Snapshot) -> Result<Json, AllocError>
+    requires { IsSnapshot playback.now shown.now }
+    ensures { IfOk result (λ told. view told ≡ opening_data (shown_of playback.now.group playback.now.past)) }
 {
     playback.world().is_legal();
-    let shown = first_snapshot(alloc, playback)?;
-    let told = opening_json(alloc, &shown)?;
-    Ok(Telling { shown, told })
+    let told = opening_json(alloc, shown)?;
+    Ok(told)
 }
 
-/// How a group stands that has gone through entries of a legal journal, and what is told of those behind them, as far as there is room.
+/// How a group stands that goes from its opening through entries of a legal journal, and what is told of those behind them, as far as there is
+/// room.
 fn course_of(
     alloc: Global,
-    topo: GroupTopo,
+    opened: Moment,
     apps: &[Name],
     before: &[Entry],
     behind: &[Entry],
     room: usize,
 ) -> Result<Course, AllocError>
-    requires legal { IsLegal topo (reverse behind.now ++ reverse before.now) }
+    requires opening { opened.playback.past ≡ [] }
+    requires shown { IsSnapshot opened.playback opened.shown }
+    requires legal { IsLegal opened.playback.group (reverse behind.now ++ reverse before.now) }
     requires apps { are_names apps.now ≡ true }
-    ensures opening { IfOk result (λ course. view course.opening ≡ opening_data (shown_of topo (reverse before.now))) }
-    ensures entries { IfOk result (λ course. map view course.entries ≡ fitting room (entries_data topo apps.now (reverse before.now) behind.now)) }
+    ensures opening { IfOk result (λ course. view course.opening ≡ opening_data (shown_of opened.playback.group (reverse before.now))) }
+    ensures entries { IfOk result (λ course. map view course.entries ≡ fitting room (entries_data opened.playback.group apps.now (reverse before.now) behind.now)) }
 {
-    let playback = played(alloc, topo, before)?;
-    let opening = tell_opening(alloc, &playback)?;
-    let entries = entries_json(alloc, playback, opening.shown, apps, behind, room)?;
-    Ok(Course {
-        opening: opening.told,
-        entries,
-    })
+    let begun = played(alloc, opened, before)?;
+    let opening = tell_opening(alloc, &begun.playback, &begun.shown)?;
+    let entries = entries_json(alloc, begun.playback, begun.shown, apps, behind, room)?;
+    Ok(Course { opening, entries })
 }
 
 /// Puts the entries of a legal journal behind the first `from`, as far as there is room, and how the group stands before them.
 fn put_entries(
     object: &mut JsonObject,
     alloc: Global,
-    topo: GroupTopo,
+    opened: Moment,
     apps: &[Name],
     entries: &[Entry],
     from: usize,
     room: usize,
 ) -> Result<(), AllocError>
-    requires legal { IsLegal topo (reverse entries.now) }
+    requires opening { opened.playback.past ≡ [] }
+    requires shown { IsSnapshot opened.playback opened.shown }
+    requires legal { IsLegal opened.playback.group (reverse entries.now) }
     requires apps { are_names apps.now ≡ true }
-    ensures { OnOk result (members_view object.new ≡ with_entries topo apps.now from room entries.now (members_view object.old)) }
+    ensures { OnOk result (members_view object.new ≡ with_entries opened.playback.group apps.now from room entries.now (members_view object.old)) }
 {
     let first = from.min(entries.len());
     let (before, behind) = entries.split_at(first);
-    let course = course_of(alloc, topo, apps, before, behind, room)?;
+    let course = course_of(alloc, opened, apps, before, behind, room)?;
     object.put_number("first", first as u64)?;
     object.put_number("total", entries.len() as u64)?;
     object.put("opening", course.opening)?;
@@ -449,12 +479,13 @@ fn group_json(
     requires apps { are_names apps.now ≡ true }
     ensures { IfOk result (λ json. view json ≡ group_data apps.now from room topo.now entries.now) }
 {
-    let opening = topo.copy(alloc)?;
-    let start = held_at_start(alloc, opening)?;
-    let mut object = JsonObject::new(alloc);
-    put_parts(&mut object, alloc, topo, start.as_slice())?;
     let group = topo.copy(alloc)?;
-    put_entries(&mut object, alloc, group, apps, entries, from, room)?;
+    let opened = at_opening(alloc, group)?;
+    let control = opened.playback.world().control();
+    let start = opened.shown.network.kept.as_slice();
+    let mut object = JsonObject::new(alloc);
+    put_parts(&mut object, alloc, topo, control, start)?;
+    put_entries(&mut object, alloc, opened, apps, entries, from, room)?;
     Ok(Json::object(object))
 }
 

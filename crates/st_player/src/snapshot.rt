@@ -33,16 +33,6 @@ pub(crate) struct Snapshot {
     pub(crate) pending: u32,
 }
 
-impl Snapshot {
-    /// The promises that hold in the network.
-    pub(crate) fn into_network(self) -> Vec<bool>
-        ensures { result ≡ self.network.kept }
-    {
-        let network = self.network;
-        network.kept
-    }
-}
-
 /// The states of all entities, in order.
 fn states_of(alloc: Global, playback: &Playback) -> Result<Vec<State>, AllocError>
     ensures { IfOk result (λ states. states.items ≡ states_of_lem playback.now.group playback.now.past) }

@@ -33,6 +33,33 @@ journal dc1
 const BEHIND_THREE: &str =
     r#"{"apps":["up"],"groups":[{"devices":[{"name":"t1","tor":1},{"name":"t2","tor":1},{"name":"a1"},{"name":"a2"}],"entries":[{"asked":2,"line":"check : receipt 2 refused broken t1 t2 cutoff need 10 has 0 side t1","on":[3],"pending":0,"refused":{"changes":[3],"far":[1],"gone":[2],"has":0,"kind":"cutoff","left":[],"need":10,"out":[0,1],"part":"side","promise":0,"side":[0]}}],"first":3,"links":[{"capacity":10,"ends":[0,2],"name":"l1"},{"capacity":10,"ends":[0,3],"name":"l2"},{"capacity":10,"ends":[1,2],"name":"l3"},{"capacity":10,"ends":[1,3],"name":"l4"}],"name":"dc1","opening":{"network":{"lost":[]},"of":[0,0,1,0,2,2,2,2],"pending":1,"states":[{"fence":0,"high":null,"is":"up","known":"sure","level":5,"low":null,"real":[1,1,1,1],"seen":[1,1,1,1],"stamp":0,"target":[1,1,1,1],"untold":0,"works":5},{"fence":0,"high":null,"is":"up","known":"waiting","level":5,"low":null,"real":[1,1,1,1],"seen":[1,1,1,1],"stamp":3,"target":[1,2,1,1],"untold":0,"works":5},{"fence":0,"high":null,"is":"up","known":"sure","level":1,"low":null,"open":1,"real":[1,1],"seen":[1,1],"stamp":0,"target":[1,1],"untold":0,"works":1}],"sure":{"lost":[]},"version":1},"promises":[{"ends":[0,1],"need":10,"percent":50,"start":1}],"total":4}],"statesman":1}"#;
 
+/// The same, and then the switch fails that alone counted as up, and reports it.
+const ALONE: &str = "statesman 1
+group dc1
+device t1 tor
+device t2 tor
+device a1 switch
+device a2 switch
+link l1 t1 a1 10
+link l2 t1 a2 10
+link l3 t2 a1 10
+link l4 t2 a2 10
+promise t1 t2 50
+app up
+journal dc1
+1 submit up a1.firmware=2 : queued 1
+2 submit up a2.firmware=2 : queued 2
+3 check : receipt 1 accepted 1
+4 check : receipt 2 refused broken t1 t2 cutoff need 10 has 0 side t1
+5 fail a2 0 power=1 firmware=1 config=1 routing=1 : changed
+6 report a2 : reported 1
+7 hear 1 : taken
+";
+
+/// Its data behind two entries: the accepted check tells what it alters, and the report what it takes from the sure set.
+const ALONE_DATA: &str =
+    r#"{"apps":["up"],"groups":[{"devices":[{"name":"t1","tor":1},{"name":"t2","tor":1},{"name":"a1"},{"name":"a2"}],"entries":[{"asked":1,"line":"check : receipt 1 accepted 1","on":[2],"pending":1,"set":[{"entity":2,"known":"waiting","stamp":3,"target":[1,2,1,1]}],"version":1},{"asked":2,"line":"check : receipt 2 refused broken t1 t2 cutoff need 10 has 0 side t1","on":[3],"pending":0,"refused":{"changes":[3],"far":[1],"gone":[2],"has":0,"kind":"cutoff","left":[],"need":10,"out":[0,1],"part":"side","promise":0,"side":[0]}},{"line":"fail a2 0 power=1 firmware=1 config=1 routing=1 : changed","on":[3],"set":[{"entity":3,"is":"failed","untold":1,"works":0},{"entity":5,"open":0},{"entity":7,"open":0}]},{"line":"report a2 : reported 1","on":[3]},{"line":"hear 1 : taken","on":[3],"set":[{"entity":3,"known":"settled","level":0,"untold":0}],"sure":{"lost":[0]}}],"first":2,"links":[{"capacity":10,"ends":[0,2],"name":"l1"},{"capacity":10,"ends":[0,3],"name":"l2"},{"capacity":10,"ends":[1,2],"name":"l3"},{"capacity":10,"ends":[1,3],"name":"l4"}],"name":"dc1","opening":{"network":{"lost":[]},"of":[0,0,0,0,1,1,1,1],"pending":2,"states":[{"fence":0,"high":null,"is":"up","known":"sure","level":5,"low":null,"real":[1,1,1,1],"seen":[1,1,1,1],"stamp":0,"target":[1,1,1,1],"untold":0,"works":5},{"fence":0,"high":null,"is":"up","known":"sure","level":1,"low":null,"open":1,"real":[1,1],"seen":[1,1],"stamp":0,"target":[1,1],"untold":0,"works":1}],"sure":{"lost":[]},"version":0},"promises":[{"ends":[0,1],"need":10,"percent":50,"start":1}],"total":7}],"statesman":1}"#;
+
 /// A switch that fails, and is not told of before its second report is heard.
 const UNTOLD: &str = "statesman 1
 group g
@@ -129,6 +156,11 @@ fn fails(alloc: Global, text: &str, status: Status, line: &str) -> Result<(), Fa
 #[test]
 fn a_page_can_begin_behind_entries(rt: HostRuntime) -> Result<(), Fail> {
     shows(rt.alloc(), ONE_AT_A_TIME, 3, BEHIND_THREE)
+}
+
+#[test]
+fn an_accepted_check_tells_what_it_alters(rt: HostRuntime) -> Result<(), Fail> {
+    shows(rt.alloc(), ALONE, 2, ALONE_DATA)
 }
 
 /// Of 16 groups each has 262,144 bytes. An entry whose number has d digits takes 41 + d of them with its comma, so 5,850 take 262,143.

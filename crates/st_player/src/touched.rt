@@ -1,48 +1,55 @@
-//! What an entry can change of what is shown of its group: at most one entity, with the links that end at it, where no proposal is
-//! accepted. All else stays as it was shown, and is neither asked for again nor compared.
+//! What an entry can change of what is shown of its group: the entities that an accepted proposal alters in the target, and where none is
+//! accepted at most one, with the links that end at these. All else stays as it was shown, and is neither asked for again nor compared.
 
-ghost use Rattle.std.specs.Prelude.{◌≡◌, option_map};
+ghost use Rattle.std.specs.Prelude.{◌≡◌, IfOk, option_map};
 ghost use Rattle.st_net.specs.Groups.{IsEntityOf};
 ghost use Rattle.st_net.specs.Numbered.{nth};
 ghost use Rattle.st_event.specs.History.{with_entry};
 ghost use Rattle.st_event.specs.Legal.{IsNext};
 ghost use Rattle.st_event.specs.Moments.{commands, reports};
-ghost use Rattle.st_event.specs.Proposals.{is_acceptance};
-ghost use Rattle.st_player.specs.Touched.{Touches, may_move as may_move_lem, may_show as may_show_lem, moved_by as moved_by_lem};
+ghost use Rattle.st_event.specs.Proposals.{first_rows, is_acceptance, pending};
+ghost use Rattle.st_player.specs.declared.touched.Touched.TheVariants.{Near};
+ghost use Rattle.st_player.specs.Touched.{HasMark, HasMarks, Touches, may_move as may_move_lem, may_show as may_show_lem, moved_by as moved_by_lem};
 
+use crate::weighing::altered;
 use st_event::{Entry, Event, Reply, Verdict};
-use st_net::{Entity, GroupTopo};
+use st_net::{Entity, EntitySet, GroupTopo, Row};
 use st_wire::Took;
 use st_world::World;
+use std::alloc::{AllocError, Global};
 
 /// What an entry can change.
-#[derive(Clone, Copy)]
+#[derive(Drop)]
 pub(crate) enum Touched {
     /// No entity.
     Nothing,
     /// This one, and what is shown of the links that end at it.
     Near(Entity),
-    /// Every entity.
-    All,
+    /// These, whose target a proposal alters that is accepted, and what is shown of the links that end at them. The network is as it was, and
+    /// the same promises hold in the sure set.
+    Altered(EntitySet),
 }
 
 impl Touched {
     /// Whether an entity may be another than before: in the network, by its locks, or as it is known.
-    pub(crate) fn may_move(self, entity: Entity) -> bool
-        ensures { result ≡ may_move_lem self entity }
+    pub(crate) fn may_move(&self, entity: Entity) -> bool
+        requires { HasMark self.now entity }
+        ensures { result ≡ may_move_lem self.now entity }
     {
         match self {
             Touched::Nothing => false,
             Touched::Near(at) => at.is_same(entity),
-            Touched::All => true,
+            Touched::Altered(set) => set.has(entity),
         }
     }
 
     /// Whether what is shown of it may be: of a link, its ends are shown too.
-    pub(crate) fn may_show(self, topo: &GroupTopo, entity: Entity) -> bool
-        requires { IsEntityOf topo.now entity }
-        ensures { result ≡ may_show_lem topo.now self entity }
+    pub(crate) fn may_show(&self, topo: &GroupTopo, entity: Entity) -> bool
+        requires marks { HasMarks topo.now self.now }
+        requires entity { IsEntityOf topo.now entity }
+        ensures { result ≡ may_show_lem topo.now self.now entity }
     {
+        topo.is_sound();
         match entity {
             Entity::Device(_) => self.may_move(entity),
             Entity::Link(i) => {
@@ -53,6 +60,14 @@ impl Touched {
             }
         }
     }
+}
+
+/// Whether what is shown of an entity may be another than before, where the one at `at` may be: of a link, its ends are shown too.
+pub(crate) fn shows_near(topo: &GroupTopo, at: Entity, entity: Entity) -> bool
+    requires { IsEntityOf topo.now entity }
+    ensures { result ≡ may_show_lem topo.now (Near at) entity }
+{
+    Touched::Near(at).may_show(topo, entity)
 }
 
 /// Whether an entry accepts a proposal.
@@ -103,17 +118,28 @@ fn moved_by(world: &World, event: &Event) -> Option<Entity>
     }
 }
 
+/// The rows of the oldest proposal that waits.
+pub(crate) fn oldest_rows(world: &World) -> &[Row]
+    ensures { result.now ≡ first_rows (pending world.now.history.past) }
+{
+    match world.control().store().oldest() {
+        Some(oldest) => oldest.rows.as_slice(),
+        None => &[],
+    }
+}
+
 /// What the next entry of a legal journal can change, behind the entries of a world.
-pub(crate) fn touched_by(world: &World, entry: &Entry) -> Touched
+pub(crate) fn touched_by(alloc: Global, world: &World, entry: &Entry) -> Result<Touched, AllocError>
     requires { IsNext world.now.history.group world.now.history.past entry.now }
-    ensures { Touches world.now.history (with_entry world.now.history entry.now) result }
+    ensures { IfOk result (Touches world.now.history (with_entry world.now.history entry.now)) }
 {
     world.is_legal();
     if accepts(entry) {
-        return Touched::All;
+        let set = altered(alloc, world, oldest_rows(world))?;
+        return Ok(Touched::Altered(set));
     }
     match moved_by(world, &entry.event) {
-        Some(entity) => Touched::Near(entity),
-        None => Touched::Nothing,
+        Some(entity) => Ok(Touched::Near(entity)),
+        None => Ok(Touched::Nothing),
     }
 }

@@ -1,5 +1,5 @@
 //! Which promises turn with an entry, in the network and in the sure set. They are judged where the entry may have changed the set, but where
-//! it is shown that all hold before and after.
+//! it is shown that all hold before and after, or where the entry accepts a proposal: then each holds as before.
 
 ghost use Rattle.std.specs.Prelude.{◌≡◌, ◌<◌, ◌^◌, IfOk, IfSome, length, option_map, true};
 ghost use Rattle.serde_json.specs.View.{view};
@@ -19,7 +19,7 @@ use crate::state::is_sure;
 use crate::touched::Touched;
 use st_control::Control;
 use st_net::{Entity, EntitySet, GroupTopo};
-use st_promise::{is_same_set, is_within};
+use st_promise::is_within;
 use st_world::World;
 use std::alloc::{AllocError, Global};
 
@@ -103,26 +103,6 @@ fn turn(
     Ok(turned)
 }
 
-/// The same where the set may be as before.
-fn turn_to(
-    alloc: Global,
-    control: &Control,
-    before: Held,
-    up: EntitySet,
-) -> Result<Turned, AllocError>
-    requires before { IsHeld control.now.group (is_in before.up) before }
-    requires marks { MarksOf control.now.group up }
-    ensures { IfOk result (IsTurned control.now.group (is_in up) before) }
-{
-    if is_same_set(control.topo(), &before.up, &up) {
-        return Ok(Turned {
-            held: before,
-            told: None,
-        });
-    }
-    turn(alloc, control, before, up, false)
-}
-
 /// Puts an entity into a set, or takes it out.
 fn set_at(set: &mut EntitySet, at: Entity, is: bool)
     requires { IsMarkIn set.old at }
@@ -178,9 +158,9 @@ pub(crate) fn next_sure(
     alloc: Global,
     world: &World,
     before: Held,
-    touched: Touched,
+    touched: &Touched,
 ) -> Result<Turned, AllocError>
-    requires { (h : history_lem) × Touches h world.now.history touched × IsHeld h.group (sure_lem h.group h.past) before }
+    requires { (h : history_lem) × Touches h world.now.history touched.now × IsHeld h.group (sure_lem h.group h.past) before }
     ensures { IfOk result (IsTurned world.now.history.group (sure_lem world.now.history.group world.now.history.past) before) }
 {
     let control = world.control();
@@ -189,8 +169,13 @@ pub(crate) fn next_sure(
             held: before,
             told: None,
         }),
-        Touched::Near(at) => turn_at(alloc, control, None, before, at, is_sure(world, at)),
-        Touched::All => turn_to(alloc, control, before, control.sure()?),
+        Touched::Near(at) => turn_at(alloc, control, None, before, *at, is_sure(world, *at)),
+        Touched::Altered(_) => {
+            let Held { kept, all, .. } = before;
+            let up = control.sure()?;
+            let held = Held { up, kept, all };
+            Ok(Turned { held, told: None })
+        }
     }
 }
 
@@ -200,9 +185,9 @@ pub(crate) fn next_network(
     world: &World,
     sure: &Held,
     before: Held,
-    touched: Touched,
+    touched: &Touched,
 ) -> Result<Turned, AllocError>
-    requires touches { (h : history_lem) × Touches h world.now.history touched × IsHeld h.group (actual h.group h.past) before }
+    requires touches { (h : history_lem) × Touches h world.now.history touched.now × IsHeld h.group (actual h.group h.past) before }
     requires sure { IsHeld world.now.history.group (is_in sure.now.up) sure.now }
     ensures { IfOk result (IsTurned world.now.history.group (actual world.now.history.group world.now.history.past) before) }
 {
@@ -212,7 +197,10 @@ pub(crate) fn next_network(
             held: before,
             told: None,
         }),
-        Touched::Near(at) => turn_at(alloc, control, Some(sure), before, at, world.is_up(at)),
-        Touched::All => turn_to(alloc, control, before, world.up_set()?),
+        Touched::Near(at) => turn_at(alloc, control, Some(sure), before, *at, world.is_up(*at)),
+        Touched::Altered(_) => Ok(Turned {
+            held: before,
+            told: None,
+        }),
     }
 }

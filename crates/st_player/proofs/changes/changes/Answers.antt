@@ -1,14 +1,13 @@
-use Rattle.std.proofs.Common.{◌≡◌, ◌∙◌, [], List, length, map, refl, ap, sym, subst}
+use Rattle.std.proofs.Common.{◌≡◌, ◌∙◌, List, map, ap, sym, subst}
 use Rattle.serde_json.specs.View.{view}
 use Rattle.serde_json.specs.declared.value.Value.{Value}
-use Rattle.st_event.specs.History.{History}
 use Rattle.st_player.specs.declared.state.State.{State}
 use Rattle.st_player.specs.declared.touched.Touched.{Touched}
 use Rattle.st_player.specs.declared.touched.Touched.TheVariants.{Near}
 use Rattle.st_player.specs.Fields.{changes_from}
 use Rattle.st_player.specs.Snapshots.{states_of}
 use Rattle.st_player.specs.Touched.{Touches}
-use Rattle.st_player.proofs.ChangeLemmas.{begins, changes_none, ends, states_same}
+use Rattle.st_player.proofs.ChangeLemmas.{begins, changes_none, ends, marks_within, states_same}
 use Rattle.st_player.proofs.changes.changes.Goals as goal
 
 pub returns-in-Nothing-clause-states : goal.returns-in-Nothing-clause-states
@@ -43,18 +42,21 @@ returns-in_ok-renew_near-in-Near-clause-list c =
     let is = ends h k c.renew_near.new.states (map view c.renew_near.new.list) c.requires.1.group (c.in_ok-renew_near-in-Near.ensures.renewed h near begun) in
     is.1 ∙ ap (λ (olds : List State). changes_from 0 olds (states_of k.group k.past)) (sym c.requires.2)
 
-pub returns-in_ok-renew_all-in-All-clause-states : goal.returns-in_ok-renew_all-in-All-clause-states
-returns-in_ok-renew_all-in-All-clause-states c =
+pub renew_shown-requires-clause-marks : goal.renew_shown-requires-clause-marks
+renew_shown-requires-clause-marks c = marks_within c.args.behind.now.group c.args.touched.now c.requires.1.within
+
+pub returns-in_ok-renew_shown-in-Altered-clause-states : goal.returns-in_ok-renew_shown-in-Altered-clause-states
+returns-in_ok-renew_shown-in-Altered-clause-states c =
     let h = c.requires.0 in
     let k = c.args.behind.now in
     let begun = begins h k c.args.states.now (map view c.new-list.result) c.requires.2 (ap (λ (vs : List Value). map view vs) c.new-list.ensures) in
-    let is = ends h k c.renew_all.new.states (map view c.renew_all.new.list) c.requires.1.group (c.in_ok-renew_all-in-All.ensures.renewed h begun) in
+    let is = ends h k c.renew_shown.new.states (map view c.renew_shown.new.list) c.requires.1.group (c.in_ok-renew_shown-in-Altered.ensures.renewed h c.requires.1 begun) in
     is.0
 
-pub returns-in_ok-renew_all-in-All-clause-list : goal.returns-in_ok-renew_all-in-All-clause-list
-returns-in_ok-renew_all-in-All-clause-list c =
+pub returns-in_ok-renew_shown-in-Altered-clause-list : goal.returns-in_ok-renew_shown-in-Altered-clause-list
+returns-in_ok-renew_shown-in-Altered-clause-list c =
     let h = c.requires.0 in
     let k = c.args.behind.now in
     let begun = begins h k c.args.states.now (map view c.new-list.result) c.requires.2 (ap (λ (vs : List Value). map view vs) c.new-list.ensures) in
-    let is = ends h k c.renew_all.new.states (map view c.renew_all.new.list) c.requires.1.group (c.in_ok-renew_all-in-All.ensures.renewed h begun) in
+    let is = ends h k c.renew_shown.new.states (map view c.renew_shown.new.list) c.requires.1.group (c.in_ok-renew_shown-in-Altered.ensures.renewed h c.requires.1 begun) in
     is.1 ∙ ap (λ (olds : List State). changes_from 0 olds (states_of k.group k.past)) (sym c.requires.2)

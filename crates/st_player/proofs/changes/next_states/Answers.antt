@@ -1,7 +1,6 @@
 use Rattle.std.proofs.Common.{◌≡◌, ◌∙◌, ◌++◌, List, codes, drop, length, take, ap, ap₂, sym, arith}
 use Rattle.serde_json.specs.Data.{Data}
 use Rattle.serde_json.specs.View.{members_view}
-use Rattle.st_player.specs.declared.state.State.{State}
 use Rattle.st_player.specs.Fields.{changes_from}
 use Rattle.st_player.specs.Json.{put_list}
 use Rattle.st_player.proofs.PlaybackLemmas.{take_front}

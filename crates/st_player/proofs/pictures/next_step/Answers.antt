@@ -11,15 +11,15 @@ use Rattle.st_player.proofs.pictures.next_step.Goals as goal
 pub enter-requires : goal.enter-requires
 enter-requires c = c.requires.next
 
-pub touched_by-touched-requires : goal.touched_by-touched-requires
-touched_by-touched-requires c = subst (λ (k : History). IsNext k.group k.past c.args.entry.now) (sym c.world.ensures) c.requires.next
+pub touched_by-requires : goal.touched_by-requires
+touched_by-requires c = subst (λ (k : History). IsNext k.group k.past c.args.entry.now) (sym c.world.ensures) c.requires.next
 
 pub tell_entry-requires : goal.tell_entry-requires
 tell_entry-requires c =
     let h = c.args.playback in
     let e = c.args.entry.now in
-    let touched = c.touched_by-touched.result in
-    let here : Touches h (with_entry h e) touched = subst (λ (k : History). Touches k (with_entry k e) touched) c.world.ensures c.touched_by-touched.ensures in
+    let touched = c.in_ok-touched.touched in
+    let here : Touches h (with_entry h e) touched = subst (λ (k : History). Touches k (with_entry k e) touched) c.world.ensures c.in_ok-touched.ensures in
     (h, subst (λ (k : History). Touches h k touched) (sym c.in_ok-behind.ensures) here, c.requires.before)
 
 pub returns-clause-playback : goal.returns-clause-playback

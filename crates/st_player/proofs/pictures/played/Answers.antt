@@ -1,21 +1,9 @@
-use Rattle.std.proofs.Common.{◌∙◌, List, ap, sym, subst}
-use Rattle.std.specs.Prelude.{reverse}
-use Rattle.std.proofs.lemmas.List.{take_all}
-use Rattle.st_event.specs.declared.journal.Entry.{Entry}
-use Rattle.st_event.specs.History.{History, with_entry}
-use Rattle.st_event.specs.Legal.{IsNext}
-use Rattle.st_player.proofs.PlayLemmas.{first_more, first_next}
+use Rattle.std.proofs.Common.{◌≡◌, arith, length}
+use Rattle.std.proofs.lemmas.Bool.Decides.{nat_tests}
+use Rattle.st_player.proofs.PlayLemmas.{none_gone}
 use Rattle.st_player.proofs.pictures.played.Goals as goal
 
-pub enter-requires : goal.enter-requires
-enter-requires c =
-    let e = c.entry-item.result in
-    subst (λ (h : History). IsNext h.group h.past e) (sym c.loop-entry.invariant) (first_next c.args.topo c.args.entries.now c.loop-entry.entry-index e c.loop-entry-test.true c.entry-item.is c.requires)
-
-pub loop-entry-preserved : goal.loop-entry-preserved
-loop-entry-preserved c =
-    let e = c.entry-item.result in
-    c.in_ok-playback-2.ensures ∙ (ap (λ (h : History). with_entry h e) c.loop-entry.invariant ∙ ap (λ (es : List Entry). record { group = c.args.topo; past = es }) (sym (first_more c.args.entries.now c.loop-entry.entry-index e c.loop-entry-test.true c.entry-item.is)))
-
-pub returns : goal.returns
-returns c = c.loop-entry.invariant ∙ ap (λ (es : List Entry). record { group = c.args.topo; past = reverse es }) (take_all c.loop-entry.entry-index c.args.entries.now c.loop-entry-test.false)
+pub returns-then-is_empty-clause-playback : goal.returns-then-is_empty-clause-playback
+returns-then-is_empty-clause-playback c =
+    let none : length c.args.entries.now ≡ 0 = grind (arith, nat_tests, c.is_empty.ensures, c.if-is_empty.true) in
+    none_gone c.args.opened.playback c.args.entries.now c.requires.opening none

@@ -14,16 +14,18 @@ use Rattle.st_player.proofs.pictures.put_entries.Goals as goal
 
 pub course_of-requires : goal.course_of-requires
 course_of-requires c = record {
-  legal = subst (λ (es : List Entry). IsLegal c.args.topo (reverse es ++ reverse c.split_at.result.0.now)) (sym c.split_at.ensures.back)
-      (subst (λ (es : List Entry). IsLegal c.args.topo (reverse (drop c.min-first.result c.args.entries.now) ++ reverse es)) (sym c.split_at.ensures.front)
-      (legal_to c.args.topo c.args.entries.now c.min-first.result c.requires.legal));
+  opening = c.requires.opening;
+  shown = c.requires.shown;
+  legal = subst (λ (es : List Entry). IsLegal c.args.opened.playback.group (reverse es ++ reverse c.split_at.result.0.now)) (sym c.split_at.ensures.back)
+      (subst (λ (es : List Entry). IsLegal c.args.opened.playback.group (reverse (drop c.min-first.result c.args.entries.now) ++ reverse es)) (sym c.split_at.ensures.front)
+      (legal_to c.args.opened.playback.group c.args.entries.now c.min-first.result c.requires.legal));
   apps = c.requires.apps;
 }
 
 pub returns : goal.returns
 unfolding with_entries shown_entries
 returns c =
-    let g = c.args.topo in
+    let g = c.args.opened.playback.group in
     let apps = c.args.apps.now in
     let from = c.args.from in
     let room = c.args.room in

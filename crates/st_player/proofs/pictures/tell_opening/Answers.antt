@@ -8,16 +8,13 @@ use Rattle.st_player.proofs.pictures.tell_opening.Goals as goal
 pub opening_json-requires : goal.opening_json-requires
 opening_json-requires c =
     let h = c.args.playback.now in
-    let shown = c.in_ok-shown.shown in
+    let shown = c.args.shown.now in
     let sound = subst (λ (k : History). IsSound k.group) c.world.ensures c.is_legal.ensures.sound in
     record {
-      few = omega (arith, states_count h shown c.in_ok-shown.ensures, few_entities h.group sound);
-      few_in_network = omega (arith, network_count h shown c.in_ok-shown.ensures, few_promises h.group sound);
-      few_sure = omega (arith, sure_count h shown c.in_ok-shown.ensures, few_promises h.group sound);
+      few = omega (arith, states_count h shown c.requires, few_entities h.group sound);
+      few_in_network = omega (arith, network_count h shown c.requires, few_promises h.group sound);
+      few_sure = omega (arith, sure_count h shown c.requires, few_promises h.group sound);
     }
 
-pub returns-clause-shown : goal.returns-clause-shown
-returns-clause-shown c = c.in_ok-shown.ensures
-
-pub returns-clause-told : goal.returns-clause-told
-returns-clause-told c = c.in_ok-told.ensures ∙ ap opening_data (shown_is c.args.playback.now c.in_ok-shown.shown c.in_ok-shown.ensures)
+pub returns : goal.returns
+returns c = c.in_ok-told.ensures ∙ ap opening_data (shown_is c.args.playback.now c.args.shown.now c.requires)

@@ -7,7 +7,7 @@ use Rattle.st_event.specs.Observed.{actual}
 use Rattle.st_player.specs.declared.touched.Touched.{Touched}
 use Rattle.st_player.specs.declared.touched.Touched.TheVariants.{Nothing, Near}
 use Rattle.st_player.specs.Touched.{IsTurned, Touches, set_at}
-use Rattle.st_player.proofs.ChangeLemmas.{held_same, set_moved, turned_none}
+use Rattle.st_player.proofs.ChangeLemmas.{held_same, promises_left, set_moved, turned_none}
 use Rattle.st_player.proofs.SnapshotLemmas.{held_in_own, held_of}
 use Rattle.st_player.proofs.turns.next_network.Goals as goal
 
@@ -16,9 +16,6 @@ turn_at-requires-clause-beside c = held_of c.args.world.now.history.group c.cont
 
 pub turn_at-requires-clause-before : goal.turn_at-requires-clause-before
 turn_at-requires-clause-before c = held_in_own c.requires.touches.0.group c.control-control.result.now.group _ c.args.before (c.requires.touches.1.group ∙ sym c.control-control.ensures.group) c.requires.touches.2
-
-pub turn_to-requires-clause-before : goal.turn_to-requires-clause-before
-turn_to-requires-clause-before c = held_in_own c.requires.touches.0.group c.control-control.result.now.group _ c.args.before (c.requires.touches.1.group ∙ sym c.control-control.ensures.group) c.requires.touches.2
 
 pub returns-in-Nothing : goal.returns-in-Nothing
 returns-in-Nothing c =
@@ -40,8 +37,13 @@ returns-in-Near c =
     subst (λ (g : Group). IfOk c.turn_at.result (IsTurned g (actual k.group k.past) c.args.before)) c.control-control.ensures.group
     (subst (λ (up : Entity → Bool). IfOk c.turn_at.result (IsTurned c.control-control.result.now.group up c.args.before)) set c.turn_at.ensures)
 
-pub returns-in_ok-up_set-in-All : goal.returns-in_ok-up_set-in-All
-returns-in_ok-up_set-in-All c =
+pub returns-in-Altered : goal.returns-in-Altered
+returns-in-Altered c =
+    let h = c.requires.touches.0 in
     let k = c.args.world.now.history in
-    subst (λ (g : Group). IfOk c.turn_to.result (IsTurned g (actual k.group k.past) c.args.before)) c.control-control.ensures.group
-    (subst (λ (up : Entity → Bool). IfOk c.turn_to.result (IsTurned c.control-control.result.now.group up c.args.before)) c.in_ok-up_set-in-All.ensures.up c.turn_to.ensures)
+    let touches = c.requires.touches.1 in
+    let left = promises_left h k c.args.touched.now _ c.in-Altered.is touches in
+    record {
+      held = held_same h.group k.group (actual h.group h.past) (actual k.group k.past) c.args.before touches.group left.network c.requires.touches.2;
+      told = sym (turned_none c.args.before.kept.items);
+    }
