@@ -2,3 +2,4 @@ pub mod OutcomeLemmas
 pub mod SwitchLemmas
 pub mod MeasuredLemmas
 pub mod PercentLemmas
+pub mod StandingLemmas

@@ -2,3 +2,4 @@ pub mod Outcomes
 pub mod Switches
 pub mod Measured
 pub mod Percents
+pub mod Standings

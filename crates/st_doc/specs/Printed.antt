@@ -111,7 +111,7 @@ assignment_words groups n rows = map (λ row. assignment_word (entity_word group
 abbrev pub value_words : List Row → Words
 value_words rows = map (λ row. value_word row.var row.value) rows
 
--- a command's line
+-- an act's line
 abbrev pub act_words : List Parts → Act → Words
 act_words groups (Propose n rows) = codes "propose" ∷ (group_at groups n).name ∷ assignment_words groups n rows
 act_words groups (Await n) = codes "await" ∷ (group_at groups n).name ∷ []
@@ -123,7 +123,7 @@ act_words groups (ReadAt n version entity var) = codes "readat" ∷ (group_at gr
 act_words groups (Fail n entity health rows) = codes "fail" ∷ (group_at groups n).name ∷ entity_word groups n entity ∷ decimal health ∷ value_words rows
 act_words groups (Poll n entity) = codes "poll" ∷ (group_at groups n).name ∷ entity_word groups n entity ∷ []
 
--- an application with its commands
+-- an application with its acts
 abbrev pub app_words : List ℕ → Words
 app_words name = codes "app" ∷ name ∷ []
 

@@ -1,4 +1,4 @@
-//! The commands of applications, and the wire lines: what a line of each word asks for. The reader adds it.
+//! The acts of applications, and the wire lines: what a line of each word asks for. The reader adds it.
 
 ghost use Rattle.std.specs.Prelude.{map, All};
 ghost use Rattle.st_text.specs.Tokens.{token_in, IsTokenOf};
@@ -157,7 +157,7 @@ impl Reader {
         Ok(Act::Poll { group, entity })
     }
 
-    /// What a command asks for.
+    /// What an act asks for.
     pub fn act_of(&self, word: ActWord, line: &[u8], tokens: &[Token]) -> Result<Act, LineError>
         requires { All (IsTokenOf line.now) tokens.now }
         ensures { Gives (λ act. act) result (act_of self.now word (map (token_in line.now) tokens.now)) }

@@ -47,7 +47,7 @@ fn print_groups(groups: &[Parts], out: &mut Text) -> Result<(), AllocError>
     Ok(())
 }
 
-/// Adds an application with its commands. After `Err` the text holds a part of them.
+/// Adds an application with its acts. After `Err` the text holds a part of them.
 fn print_app(groups: &[Parts], app: &Script, out: &mut Text) -> Result<(), AllocError>
     ensures ok { OnOk result (out.new ≡ out.old ++ text_of (app_lines groups.now app.now)) }
     ensures err { OnErr result (HoldsPart out.old out.new (text_of (app_lines groups.now app.now))) }
@@ -56,7 +56,7 @@ fn print_app(groups: &[Parts], app: &Script, out: &mut Text) -> Result<(), Alloc
     print_acts(groups, app.acts.as_slice(), out)
 }
 
-/// Adds applications with their commands. After `Err` the text holds a part of them.
+/// Adds applications with their acts. After `Err` the text holds a part of them.
 fn print_apps(groups: &[Parts], apps: &[Script], out: &mut Text) -> Result<(), AllocError>
     ensures ok { OnOk result (out.new ≡ out.old ++ text_of (flat_map (app_lines groups.now) apps.now)) }
     ensures err { OnErr result (HoldsPart out.old out.new (text_of (flat_map (app_lines groups.now) apps.now))) }
@@ -103,7 +103,7 @@ fn print_lines(doc: &Doc, out: &mut Text) -> Result<(), AllocError>
 }
 
 /// Prints a sound document without the place of its journals: adds the header, the sections of groups, their wire lines, the
-/// applications with their commands and a line for each item of the order, with one space between tokens and LF ends.
+/// applications with their acts and a line for each item of the order, with one space between tokens and LF ends.
 /// Opening values and healths that are the default have no lines. Takes time in the bytes that are printed. After `Err`,
 /// which is for want of memory alone, the text holds a part of these lines behind what it held.
 pub fn print_doc(doc: &Doc, out: &mut Text) -> Result<(), AllocError>

@@ -6,6 +6,7 @@ use Rattle.st_net.specs.declared.entity.Entity.TheVariants.{Device, Link}
 use Rattle.st_net.specs.declared.entity.Row.{Row}
 use Rattle.st_net.specs.declared.entity.Var.TheVariants.{Power, Firmware, Config, Routing, LinkPower, Iface}
 use Rattle.st_net.specs.declared.entity.Prio.TheVariants.{Low, High}
+use Rattle.st_event.specs.declared.journal.Entry.{Entry}
 use Rattle.st_event.specs.declared.event.Event.{Event}
 use Rattle.st_event.specs.declared.event.Event.TheVariants.{Submit, Check, Lock, Unlock, Send, Deliver, Finish, Report as make_report, Hear, Fail}
 use Rattle.st_event.specs.declared.reply.Reply.{Reply}
@@ -13,11 +14,12 @@ use Rattle.st_event.specs.declared.reply.Reply.TheVariants.{Queued, Granted, Rel
 use Rattle.st_event.specs.declared.reply.Verdict.TheVariants.{Accepted, Refused}
 use Rattle.st_event.specs.declared.reply.Lack.TheVariants.{Level}
 use Rattle.st_event.specs.declared.reply.Cause.TheVariants.{NotControllable, Locked, Broken as broken_cause}
+use Rattle.st_net.specs.declared.promise.Broken.{Broken}
 use Rattle.st_net.specs.declared.promise.BrokenKind.TheVariants.{CutOff, Short}
 use Rattle.st_net.specs.Groups.{Group, promise_of}
-use Rattle.st_net.specs.Demands.{demand_count, HoldsIn, is_held_in, first_broken_of}
+use Rattle.st_net.specs.Demands.{demand_count, HoldsIn, is_held_in, held_list, first_broken_of, broken_pair}
 use Rattle.st_net.specs.Promises.{Keeps, is_kept, need_of}
-use Rattle.st_event.specs.Proposals.{overlay_in, target}
+use Rattle.st_event.specs.Proposals.{accepted, overlay_in, overlays, target}
 use Rattle.st_event.specs.Moments.{is_altered_by, stamp, vals}
 use Rattle.st_event.specs.Observed.{is_settled, sure, actual, untold, failed_between}
 use Rattle.st_event.specs.Replies.{reply}
@@ -181,6 +183,14 @@ demands_are_promises = (refl, refl, refl)
 demands_told : (map (is_held_in all_up (actual all_up [])) (0 ∷ 1 ∷ []) ≡ true ∷ true ∷ []) × (map (is_held_in one_drained (actual one_drained [])) (0 ∷ 1 ∷ []) ≡ false ∷ true ∷ [])
 demands_told = (refl, refl)
 
+-- and all of them in order
+all_demands_told : (held_list all_up (actual all_up []) ≡ true ∷ true ∷ []) × (held_list one_drained (actual one_drained []) ≡ false ∷ true ∷ [])
+all_demands_told = (refl, refl)
+
+-- a broken one has the pair of its own promise, in the order in which that was declared
+pair_of_broken : let broken : ℕ → Broken = λ i. record { promise = i; kind = CutOff; need = 5; has = 0; side = 0 ∷ [] } in (broken_pair all_up (broken 0) ≡ (0, 1)) × (broken_pair all_up (broken 1) ≡ (0, 2)) × (broken_pair (one_way_in 1 0) (broken 0) ≡ (1, 0))
+pair_of_broken = (refl, refl, refl)
+
 -- of two demands that break the first one is named, with its number, its need and its side
 first_is_named : replies all_up (propose up switch Firmware 2 ∷ Check ∷ []) ≡ Queued 1 ∷ decided 1 2 (breaks CutOff 5 0) ∷ []
 first_is_named = refl
@@ -215,6 +225,13 @@ overlaid_by_checks_alone = refl
 -- an overlay alters the entity whose value it moves, and not one that it sets to the value that it had
 altered_by_rows : (map (is_altered_by q (target q []) (Some two_rows)) (a1 ∷ a2 ∷ t1 ∷ []) ≡ true ∷ false ∷ false ∷ []) × (is_altered_by q (target q []) None a1 ≡ false)
 altered_by_rows = (refl, refl)
+
+-- in a journal that is not legal an acceptance may stand before its proposal: it overlays nothing, and the proposal counts as accepted
+abbrev decided_first : List Entry
+decided_first = record { event = Submit up two_rows; reply = Queued 1 } ∷ record { event = Check; reply = decided 1 1 (Accepted 1) } ∷ []
+
+overlays_of_illegal : (overlays decided_first ≡ [] ∷ []) × (accepted decided_first ≡ two_rows ∷ [])
+overlays_of_illegal = (refl, refl)
 
 -- the values at each version, and behind the last one
 abbrev two_versions : List Event

@@ -12,7 +12,7 @@ range_more a (suc n) =
     let last : a + 1 + n ≡ a + suc n = omega arith in
     ap (λ (ns : List ℕ). a ∷ ns) (range_more (a + 1) n ∙ ap (λ (k : ℕ). range_with_len (a + 1) n ++ k ∷ []) last)
 
-numbers_more : (n : ℕ) → numbers (n + 1) ≡ numbers n ++ n ∷ []
+pub numbers_more : (n : ℕ) → numbers (n + 1) ≡ numbers n ++ n ∷ []
 numbers_more n =
     let last : 0 + n ≡ n = omega arith in
     ap numbers (add-one n) ∙ range_more 0 n ∙ ap (λ (k : ℕ). numbers n ++ k ∷ []) last

@@ -9,7 +9,7 @@ use Rattle.st_grammar.specs.declared.keyword.WireWord.TheVariants as wire_words
 use Rattle.st_grammar.specs.declared.keyword.ActWord.{ActWord}
 use Rattle.st_grammar.specs.declared.keyword.ActWord.TheVariants as act_words
 
--- the words of a group's section, of wire lines and of commands
+-- the words of a group's section, of wire lines and of acts
 abbrev pub part_word_of : List ℕ → Option PartWord
 part_word_of word =
     if bytes_eq word (codes "device") then Some part_words.Device else (

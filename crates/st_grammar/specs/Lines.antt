@@ -89,7 +89,7 @@ into_group d line = do
   h ← line g
   Ok (record d { group = Some h })
 
--- a command of the application, the last thing of whose line is that there is room for it
+-- an act of the application, the last thing of whose line is that there is room for it
 abbrev pub with_act : Script → Act → Script
 with_act app act = record app { acts = app.acts ++ act ∷ [] }
 

@@ -34,7 +34,7 @@ pub record IsSoundGroup (parts : Parts) : Type 0 where
 abbrev pub IsGroupWith : List Parts → ℕ → (Group → Type 0) → Type 0
 IsGroupWith groups n P = IsSomeAnd (slice_get groups n) (λ parts. P (group_of parts))
 
--- a command names a group, entities and variables of it, and numbers within their ranges
+-- an act names a group, entities and variables of it, and numbers within their ranges
 abbrev pub IsSoundAct : List Parts → Act → Type 0
 IsSoundAct groups (Propose n rows) = IsGroupWith groups n (λ g. RowsFit g rows)
 IsSoundAct groups (Await n) = n < length groups
@@ -57,13 +57,13 @@ pub record AreSoundWires (lines : List WireLine) : Type 0 where
   pub few : length lines ≤ MAX_WIRE_LINES
   pub each : All IsSoundWire lines
 
--- an application's name is spelled as one, and its commands are few, and each is sound
+-- an application's name is spelled as one, and its acts are few, and each is sound
 pub record IsSoundScript (groups : List Parts) (app : Script) : Type 0 where
   pub name : is_name app.name ≡ true
   pub few : length app.acts ≤ MAX_ACTS
   pub acts : All (IsSoundAct groups) app.acts
 
--- groups that can be built and applications with sound commands, few enough and with different names; wire lines for each group; an order of
+-- groups that can be built and applications with sound acts, few enough and with different names; wire lines for each group; an order of
 -- applications that there are
 pub record IsSoundDoc (doc : Doc) : Type 0 where
   pub few_groups : length doc.groups ≤ MAX_GROUPS

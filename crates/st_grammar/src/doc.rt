@@ -4,7 +4,7 @@ use crate::lists::{Acts, AppOrder, DocGroups, DocWires, Scripts};
 use st_net::Name;
 use st_token::LineFault;
 
-/// An application with its commands.
+/// An application with its acts.
 #[derive(Drop)]
 pub struct Script {
     pub name: Name,

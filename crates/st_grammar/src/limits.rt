@@ -2,7 +2,7 @@
 
 ghost use Rattle.std.specs.Prelude.{◌≡◌};
 
-/// The most groups, applications, and commands of one application.
+/// The most groups, applications, and acts of one application.
 pub const MAX_GROUPS: usize = 16;
 
 pub const MAX_APPS: usize = 32;

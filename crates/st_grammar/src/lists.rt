@@ -27,7 +27,7 @@ pub struct DocWires {
     wires: Vec<WireLines>,
 }
 
-/// The commands of one application in order. Contracts see the list.
+/// The acts of one application in order. Contracts see the list.
 #[derive(Drop)]
 pub struct Acts {
     acts: Vec<Act>,
@@ -39,7 +39,7 @@ pub struct Scripts {
     scripts: Vec<Script>,
 }
 
-/// Applications by their numbers from 0, in the order in which each does its next command. Contracts see the list.
+/// Applications by their numbers from 0, in the order in which each does its next act. Contracts see the list.
 #[derive(Drop)]
 pub struct AppOrder {
     apps: Vec<u32>,
@@ -170,21 +170,21 @@ impl DocWires {
 }
 
 impl Acts {
-    /// These commands, in order.
+    /// These acts, in order.
     pub fn new(acts: Vec<Act>) -> Acts
         ensures { result ≡ acts.items }
     {
         Acts { acts }
     }
 
-    /// The commands, in order.
+    /// The acts, in order.
     pub fn as_slice(&self) -> &[Act]
         ensures { result.now ≡ self.now }
     {
         self.acts.as_slice()
     }
 
-    /// Adds a command at the end. At `Err` nothing has changed.
+    /// Adds an act at the end. At `Err` nothing has changed.
     pub fn add(&mut self, act: Act) -> Result<(), AllocError>
         ensures ok { OnOk result (self.new ≡ self.old ++ act ∷ []) }
         ensures err { OnErr result (self.new ≡ self.old) }

@@ -24,7 +24,7 @@ use Rattle.st_net.specs.declared.topo.DeviceOpening.{DeviceOpening}
 use Rattle.st_net.specs.declared.topo.LinkOpening.{LinkOpening}
 use Rattle.st_net.specs.Cuts.{is_crossing, cut_value_from, cut_value, cut_of, least_over, least_cut, is_in_least_side, all_over, numbers_in, with_number}
 use Rattle.st_net.specs.Entities.{value_of, is_var_of, is_same_entity}
-use Rattle.st_net.specs.Groups.{Group, IsSound, IsEntityOf, IsDevice, IsLink, AreDevices, AreLinks, ArePromises, IsPromiseAmong, health_of, opening_of, no_device, no_link}
+use Rattle.st_net.specs.Groups.{Group, IsSound, IsEntityOf, IsDevice, AreDevices, AreLinks, ArePromises, IsPromiseAmong, health_of, opening_of, no_device, no_link}
 use Rattle.st_net.specs.Holders.{Holding, high_or_low, effective_of, holder_set, holder_freed, is_held_by, is_same_prio, is_free_for}
 use Rattle.st_net.specs.Levels.{level_of}
 use Rattle.st_net.specs.Merge.{vals_in, target_with}
@@ -32,6 +32,7 @@ use Rattle.st_net.specs.Numbered.{nth}
 use Rattle.st_net.specs.Promises.{need_of, broken_at, is_broken, first_broken}
 use Rattle.st_net.specs.Ranges.{RowFits, is_in_range, is_health_of}
 use Rattle.st_net.specs.UpGraph.{is_up_link}
+use Rattle.st_net.proofs.WalkLaws.{is_link_at}
 use Rattle.st_event.specs.declared.event.Event.{Event}
 use Rattle.st_event.specs.declared.event.Event.TheVariants.{Submit, Check, Lock, Unlock, Send, Deliver, Finish, Report as make_report, Hear, Fail}
 use Rattle.st_event.specs.declared.event.Proposal.{Proposal}
@@ -71,14 +72,9 @@ device_is [] i are low = absurd (omega arith)
 device_is (d ∷ ds) zero are low = are.0
 device_is (d ∷ ds) (suc i) are low = device_is ds i are.1 (omega arith)
 
-link_is : (n : ℕ) (links : List LinkOpening) (i : ℕ) → AreLinks n links → i < length links → IsLink n (slice_index_or links i no_link)
-link_is n [] i are low = absurd (omega arith)
-link_is n (link ∷ links) zero are low = are.0
-link_is n (link ∷ links) (suc i) are low = link_is n links i are.1 (omega arith)
-
 opening_health : (g : Group) (e : Entity) → IsSound g → IsEntityOf g e → health_of g e ≤ 5
 opening_health g (Device i) sound own = (device_is g.devices i sound.devices own).health
-opening_health g (Link i) sound own = omega (arith, (link_is (length g.devices) g.links i sound.links own).health)
+opening_health g (Link i) sound own = omega (arith, (is_link_at (length g.devices) g.links i sound.links own).health)
 
 health_small : (e : Entity) (health : ℕ) → is_health_of e health ≡ true → health ≤ 5
 health_small (Device i) health is = grind (arith, nat_tests)
@@ -176,7 +172,7 @@ module _ (g : Group) (apps : List (List ℕ)) (past : List Entry) (sound : IsSou
       or_lack g (level_lack (observed g past) (Device i) (needs_of v)) (power_lack (needs_of v) (after (Device i) Power)) (level_fits (Device i) (needs_of v) own (few_needs v)) (power_if g (nat_le 2 (needs_of v) && not (after (Device i) Power == 1)))
   lack_fits after (Link i) v own =
       let link = slice_index_or g.links i no_link in
-      let is = link_is (length g.devices) g.links i sound.links own in
+      let is = is_link_at (length g.devices) g.links i sound.links own in
       or_lack g (level_lack (observed g past) (Device link.a) 4) (lack_or (level_lack (observed g past) (Device link.b) 4) (level_lack (observed g past) (Link i) (needs_of v))) (level_fits (Device link.a) 4 is.a_in (omega arith))
       (or_lack g (level_lack (observed g past) (Device link.b) 4) (level_lack (observed g past) (Link i) (needs_of v)) (level_fits (Device link.b) 4 is.b_in (omega arith)) (level_fits (Link i) (needs_of v) own (few_needs v)))
 

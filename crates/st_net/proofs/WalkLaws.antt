@@ -76,10 +76,11 @@ missing_more : (n : ℕ) (side : ℕ → Bool) (y : ℕ) → y < n → side y �
 missing_more zero side y low out = absurd (omega arith)
 missing_more (suc n) side y low out = missing_more_at n side y low out (y == n) refl (missing_more n side y)
 
-link_at : (n : ℕ) (links : List LinkOpening) (i : ℕ) → AreLinks n links → i < length links → IsLink n (slice_index_or links i no_link)
-link_at n [] i are low = absurd (omega arith)
-link_at n (link ∷ links) zero are low = are.0
-link_at n (link ∷ links) (suc i) are low = link_at n links i are.1 (omega arith)
+-- link number i of a sound group
+pub is_link_at : (n : ℕ) (links : List LinkOpening) (i : ℕ) → AreLinks n links → i < length links → IsLink n (slice_index_or links i no_link)
+is_link_at n [] i are low = absurd (omega arith)
+is_link_at n (link ∷ links) zero are low = are.0
+is_link_at n (link ∷ links) (suc i) are low = is_link_at n links i are.1 (omega arith)
 
 -- a device outside a set, with a walk to it
 record Next (n : ℕ) (links : List LinkOpening) (up : Entity → Bool) (a : ℕ) (side : ℕ → Bool) : Type 0 where
@@ -118,7 +119,7 @@ next_of n links up a side walks are some =
     let found = crossing_from 0 links up side some in
     let same : 0 + found.0 ≡ found.0 = omega arith in
     let is_up : is_up_link up found.0 (slice_index_or links found.0 no_link) ≡ true = rw same at found.1.is_up in
-    over_link n links up a side found.0 (slice_index_or links found.0 no_link) refl walks (link_at n links found.0 are found.1.within) found.1.within is_up (side (slice_index_or links found.0 no_link).a) refl found.1.crosses
+    over_link n links up a side found.0 (slice_index_or links found.0 no_link) refl walks (is_link_at n links found.0 are found.1.within) found.1.within is_up (side (slice_index_or links found.0 no_link).a) refl found.1.crosses
 
 reached_more : (n : ℕ) (links : List LinkOpening) (up : Entity → Bool) (a : ℕ) (side : ℕ → Bool) → Reached links up a side → (next : Next n links up a side) (d : ℕ) (p : Bool) → (d == next.device) ≡ p → with_number side next.device d ≡ true → (walk : List ℕ) × IsWalk links up a walk d
 reached_more n links up a side walks next d true is has =
@@ -182,7 +183,7 @@ joint_crosses x y link side ends from to = joint_at x y link side (link.a == x &
 walk_step : (n : ℕ) (links : List LinkOpening) (up : Entity → Bool) (side : ℕ → Bool) (a i mid : ℕ) (p : Bool) → side mid ≡ p → AreLinks n links → Leads links up i a mid → side a ≡ true → (side mid ≡ true → 0 < cut_value links up side) → 0 < cut_value links up side
 walk_step n links up side a i mid true is are leads start go_on = go_on is
 walk_step n links up side a i mid false is are leads start go_on =
-    let link = link_at n links i are leads.within in
+    let link = is_link_at n links i are leads.within in
     let crosses = joint_crosses a mid (slice_index_or links i no_link) side leads.ends start is in
     let same : 0 + i ≡ i = omega arith in
     let counts = crosses_value 0 links up side i leads.within (rw same leads.is_up) crosses in

@@ -36,7 +36,7 @@ impl EntitySet {
         Ok(EntitySet { devices, links })
     }
 
-    /// The entities of a group that pass a test, which is asked once of each, in order.
+    /// The entities of a group that pass a test.
     pub fn passing<F: Fn(Entity) -> bool>(
         alloc: Global,
         topo: &GroupTopo,
@@ -100,6 +100,7 @@ impl EntitySet {
             Entity::Link(i) => self.links[i as usize] = false,
         }
     }
+
     /// Takes all entities of another set of the group out, and leaves all else.
     pub fn remove_all(&mut self, other: &EntitySet)
         requires { HasSameMarks self.old other.now }

@@ -8,7 +8,7 @@ use Rattle.std.proofs.lemmas.List.Elements.{All-nil, All-cons}
 use mathlib.Core.Path.{fun_ext}
 use Rattle.st_net.specs.declared.entity.Entity.{Entity}
 use Rattle.st_net.specs.declared.topo.LinkOpening.{LinkOpening}
-use Rattle.st_net.specs.Groups.{AreLinks, Group, IsLink, no_link}
+use Rattle.st_net.specs.Groups.{Group, no_link}
 use Rattle.st_net.specs.InOrder.{entities_of, place_in}
 use Rattle.st_net.specs.UpGraph.{is_up_link}
 use Rattle.st_net.proofs.EntityOrder.{device_at, link_at}
@@ -107,12 +107,6 @@ pub grown_all : (g : Group) (up : Entity → Bool) (side near : ℕ → Bool) (i
     → ((d : ℕ) → new d ≡ (near d || (not (side d) && is_joined_from 0 (take i g.links) up near d))) → new ≡ with_joined g up side near
 grown_all g up side near i new past was =
     fun_ext (λ d. was d ∙ ap (λ (xs : List LinkOpening). near d || (not (side d) && is_joined_from 0 xs up near d)) (take_all i g.links past))
-
--- a link of the group
-pub link_in : (n : ℕ) (links : List LinkOpening) (i : ℕ) → AreLinks n links → i < length links → IsLink n (slice_index_or links i no_link)
-link_in n [] i are low = absurd (omega arith)
-link_in n (link ∷ links) zero are low = are.0
-link_in n (link ∷ links) (suc i) are low = link_in n links i are.1 (omega arith)
 
 -- one end of a link is marked
 one_at : (old : List Bool) (side near : ℕ → Bool) (from to d : ℕ) (x same : Bool) → (to == d) ≡ same → to < length old → x ≡ (is_marked old to || (not (side to) && near from))

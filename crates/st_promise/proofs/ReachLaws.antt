@@ -8,12 +8,11 @@ use Rattle.st_net.specs.declared.topo.LinkOpening.{LinkOpening}
 use Rattle.st_net.specs.Groups.{Group, no_link, AreLinks, IsSound}
 use Rattle.st_net.specs.UpGraph.{is_joint, Leads, IsWalk}
 use Rattle.st_net.specs.Cuts.{cut_value, IsCut, numbers_in}
-use Rattle.st_net.proofs.WalkLaws.{joined}
+use Rattle.st_net.proofs.WalkLaws.{is_link_at, joined}
 use Rattle.st_promise.specs.declared.search.Step.{Step}
 use Rattle.st_promise.specs.declared.search.Came.{Came}
 use Rattle.st_promise.specs.Search.{Visits, no_step, step_at, is_found, IsSearch, IsSettled}
 use Rattle.st_promise.specs.Reach.{IsClosed}
-use Rattle.st_promise.proofs.SearchLaws.{link_at}
 use Rattle.st_promise.proofs.ClosedLaws.{IsLeastClosed, settled_least, zero_stays}
 use Rattle.st_promise.proofs.NumberLaws.{member_has, member_is, member_not}
 
@@ -56,7 +55,7 @@ joint_low n x y link a_in b_in ends = grind (arith, nat_tests)
 
 end_low : (n : ℕ) (links : List LinkOpening) (up : Entity → Bool) (i x y : ℕ) → AreLinks n links → Leads links up i x y → y < n
 end_low n links up i x y are leads =
-    let link = link_at n links i are leads.within in
+    let link = is_link_at n links i are leads.within in
     joint_low n x y (slice_index_or links i no_link) link.a_in link.b_in leads.ends
 
 -- what a settled search has found is such a set

@@ -8,16 +8,12 @@ use Rattle.std.proofs.Math.Seq.{get_or-append_seam}
 use Rattle.std.proofs.Math.ListN.{length-set}
 use Rattle.st_net.specs.declared.entity.Entity.{Entity}
 use Rattle.st_net.specs.declared.topo.LinkOpening.{LinkOpening}
-use Rattle.st_net.specs.Groups.{no_link, IsLink, AreLinks}
+use Rattle.st_net.specs.Groups.{no_link, AreLinks}
 use Rattle.st_net.specs.UpGraph.{is_up_link, Leads}
+use Rattle.st_net.proofs.WalkLaws.{is_link_at}
 use Rattle.st_promise.specs.declared.search.Step.{Step}
 use Rattle.st_promise.specs.declared.search.Came.{Came}
 use Rattle.st_promise.specs.Search.{Visits, no_step, step_at, place_in, is_found, unfound, entered, IsFoundBy, IsSearch, IsNext, Extends}
-
-pub link_at : (n : ℕ) (links : List LinkOpening) (i : ℕ) → AreLinks n links → i < length links → IsLink n (slice_index_or links i no_link)
-link_at n [] i are low = absurd (omega arith)
-link_at n (link ∷ links) zero are low = are.0
-link_at n (link ∷ links) (suc i) are low = link_at n links i are.1 (omega arith)
 
 -- a link that is up leads from either end to the other
 pub leads_on : (links : List LinkOpening) (up : Entity → Bool) (i : ℕ) → i < length links → is_up_link up i (slice_index_or links i no_link) ≡ true → Leads links up i (slice_index_or links i no_link).a (slice_index_or links i no_link).b
@@ -40,12 +36,12 @@ next_is n links up s i x y k is low here there leads =
 
 pub next_over : (n : ℕ) (links : List LinkOpening) (up : Entity → Bool) (s : Visits) (i x y k : ℕ) → IsSearch n links up s → AreLinks n links → i < length links → is_up_link up i (slice_index_or links i no_link) ≡ true → x ≡ (slice_index_or links i no_link).a → y ≡ (slice_index_or links i no_link).b → place_in s x ≡ Some k → place_in s y ≡ None → IsNext n links up s (record { device = y; came = Some (record { link = i; from = k }) })
 next_over n links up s i x y k is are low is_up at_a at_b here there =
-    let link = link_at n links i are low in
+    let link = is_link_at n links i are low in
     next_is n links up s i x y k is (rw at_b link.b_in) here there (rw (at_a, at_b) (leads_on links up i low is_up))
 
 pub next_back : (n : ℕ) (links : List LinkOpening) (up : Entity → Bool) (s : Visits) (i x y k : ℕ) → IsSearch n links up s → AreLinks n links → i < length links → is_up_link up i (slice_index_or links i no_link) ≡ true → x ≡ (slice_index_or links i no_link).b → y ≡ (slice_index_or links i no_link).a → place_in s x ≡ Some k → place_in s y ≡ None → IsNext n links up s (record { device = y; came = Some (record { link = i; from = k }) })
 next_back n links up s i x y k is are low is_up at_b at_a here there =
-    let link = link_at n links i are low in
+    let link = is_link_at n links i are low in
     next_is n links up s i x y k is (rw at_a link.a_in) here there (rw (at_b, at_a) (leads_back links up i low is_up))
 
 -- what is found after a step

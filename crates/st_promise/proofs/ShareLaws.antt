@@ -12,7 +12,7 @@ use Rattle.st_flow.specs.Residual.{no_edge}
 use Rattle.st_promise.specs.declared.kept_flow.Share.{Share}
 use Rattle.st_promise.specs.UpNetwork.{edge_of, up_edges}
 use Rattle.st_promise.specs.KeptFlow.{amount_of, amounts_from, IsShareOf, IsEndIn}
-use Rattle.st_promise.proofs.SearchLaws.{link_at}
+use Rattle.st_net.proofs.WalkLaws.{is_link_at}
 
 -- the share of a link, by the sign of its amount
 pub share_is : (i : ℕ) (e : Edge) (f : ℤ) (head : ℕ) → e.u ≢ e.v → (int_lt f (pos 0) ≡ true → head ≡ e.u) → (int_lt f (pos 0) ≡ false → head ≡ e.v) → IsShareOf i e f (record { link = i; head = head; amount = nat_abs f })
@@ -97,7 +97,7 @@ tell_all links fs i shares tell high past =
 -- a share's link and device are of the group
 pub share_in : (n i : ℕ) (links : List LinkOpening) (f : ℤ) (s : Share) → AreLinks n links → i < length links → IsShareOf i (edge_of true (slice_index_or links i no_link)) f s → (s.link < length links) × (s.head < n)
 share_in n i links f s are low is =
-    let link = link_at n links i are low in
+    let link = is_link_at n links i are low in
     (omega (arith, is.link, low), elim is.end [ inl e ↦ omega (arith, e, link.a_in) | inr e ↦ omega (arith, e, link.b_in) ])
 
 -- and the device is an end of the link

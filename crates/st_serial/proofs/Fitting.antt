@@ -87,7 +87,7 @@ changed_own m f [] = refl
 changed_own zero f (x ∷ xs) = refl
 changed_own (suc m) f (x ∷ xs) = changed_own m f xs
 
--- what a command adds to group n, which was opened so
+-- what an act adds to group n, which was opened so
 
 abbrev weight_in : ℕ → Option GroupState → Act → ℕ
 weight_in n None act = 0

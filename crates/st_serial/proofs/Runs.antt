@@ -1,4 +1,4 @@
--- The scripts of a document fit its groups, and what its groups come to, command by command.
+-- The scripts of a document fit its groups, and what its groups come to, act by act.
 use Rattle.std.proofs.Common.{◌≡◌, ℕ, zero, suc, ◌+◌, ◌<◌, List, [], ◌∷◌, ◌++◌, length, Bool, true, false, refl, ap, sym, ◌∙◌, subst, arith, set, take, drop}
 use Rattle.std.specs.Prelude.{map, slice_get, slice_index_or, Option, Some, None, option_map, is_some, if◌then◌else◌}
 use Rattle.std.specs.Option.{IsSomeAnd}
@@ -70,7 +70,7 @@ act_fits groups (Poll n entity) fits = with_one groups n (λ g. IsEntityOf g ent
 pub scripts_fit : (doc : Doc) → IsSoundDoc doc → AllFitIn doc.apps (map group_of doc.groups)
 scripts_fit doc sound k d low j e lower = act_fits doc.groups (slice_index_or (slice_index_or doc.apps k d).acts j e) ((sound.apps k d low).acts j e lower)
 
--- commands leave the groups as they are
+-- acts leave the groups as they are
 at_groups : (n : ℕ) (f : GroupState → GroupState) (ss : List GroupState) → ((s : GroupState) → (f s).history.group ≡ s.history.group) → groups_in (changed_at n f ss) ≡ groups_in ss
 at_groups n f [] same = refl
 at_groups zero f (s ∷ ss) same = ap (λ g. g ∷ groups_in ss) (same s)
@@ -139,13 +139,13 @@ decided_logs run = by_test (λ (r : Run). r.logs ≡ run.logs) (is_some run.full
 pub serial_count : (doc : Doc) → length (serial_end doc).logs ≡ length doc.apps
 serial_count doc = ap length (decided_logs (scripts_done doc)) ∙ places_count doc.apps (schedule doc.apps doc.order) (opening_run doc) ∙ length-map doc.apps (λ app. [])
 
--- one command more is done
+-- one act more is done
 pub places_next : (apps : List Script) (places : List Place) (i : ℕ) (d : Place) (run more : Run) → i < length places → more ≡ place_done apps (slice_index_or places i d) run → places_done apps (drop (i + 1) places) more ≡ places_done apps (drop i places) run
 places_next apps places i d run more low is =
     let one : i + 1 ≡ suc i = omega arith in
     ap (λ n. places_done apps (drop n places) more) one ∙ ap (places_done apps (drop (suc i) places)) is ∙ ap (λ ps. places_done apps ps run) (sym (drop-cons places i d low))
 
--- where a run stopped no command is done any more
+-- where a run stopped no act is done any more
 place_full : (apps : List Script) (place : Place) (run : Run) → is_some run.full ≡ true → place_done apps place run ≡ run
 place_full apps place run full = ap (λ b. if b then run else asked_done place.app (act_of apps place) run) full
 
@@ -157,7 +157,7 @@ pub none_full : (full : Option ℕ) → is_some full ≡ false → full ≡ None
 none_full None is = refl
 none_full (Some n) is = cc
 
--- a command that reads changes nothing, and meets no full journal
+-- an act that reads changes nothing, and meets no full journal
 seen_same : (app : AppId) (act : Act) (s : GroupState) (entry : LogEntry) → seen_by act s.history ≡ Some entry → act_on app act s ≡ s
 seen_same app (Read n entity var) s entry is = refl
 seen_same app (ReadAt n version entity var) s entry is = refl
@@ -204,7 +204,7 @@ other_done app act ss logs n d new going full number low seen goes stops full_is
     (ap (λ o. logged app.0 o logs) (sym at_number))
     (full_is ∙ full_there app act ss n s (is_full going) number there (sym stops))
 
--- a group that a command names is there, and the command fits it
+-- a group that an act names is there, and the act fits it
 in_range : (ss : List GroupState) (n : ℕ) (P : Group → Type 0) → IsSomeAnd (slice_get (groups_in ss) n) P → n < length ss
 in_range [] n P is = absurd is
 in_range (s ∷ ss) zero P is = omega arith

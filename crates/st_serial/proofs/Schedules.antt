@@ -1,4 +1,4 @@
--- The order of commands, place by place.
+-- The order of acts, place by place.
 use Rattle.std.proofs.Common.{◌≡◌, ◌≢◌, ℕ, zero, suc, ◌+◌, ◌<◌, ◌≤◌, List, [], ◌∷◌, ◌++◌, length, Bool, true, false, refl, ap, sym, ◌∙◌, arith, set, take, length-set}
 use Rattle.std.specs.Prelude.{All, reverse, slice_index_or, nat_lt, ◌==◌, if◌then◌else◌}
 use Rattle.std.proofs.Math.Nat.{min-le_left}
@@ -13,7 +13,7 @@ use Rattle.st_grammar.specs.declared.limits.TheConstants.{MAX_ACTS}
 use Rattle.st_serial.specs.declared.schedule.Place.{Place}
 use Rattle.st_serial.specs.Schedule.{times, act_count, place_at, ordered, lap, laps, schedule, IsTally, IsPlaceIn}
 
--- an application's count of commands
+-- an application's count of acts
 pub count_at : (apps : List Script) (i : ℕ) (x : Script) → i < length apps → x ≡ slice_index_or apps i x → act_count apps i ≡ length x.acts
 count_at [] i x low is = absurd (omega arith)
 count_at (app ∷ apps) zero x low is = ap (λ (a : Script). length a.acts) (sym is)
@@ -78,7 +78,7 @@ laps_next apps start old more order k was adds =
     let one : k + 1 ≡ suc k = omega arith in
     adds ∙ ap (λ ps. ps ++ lap apps order k (length apps)) was ∙ append_assoc start (laps apps order k) (lap apps order k (length apps)) ∙ ap (λ n. start ++ laps apps order n) (sym one)
 
--- no command is added where there are not so many
+-- no act is added where there are not so many
 pub none_at : (apps : List Script) (i k : ℕ) (x : Script) → i < length apps → x ≡ slice_index_or apps i x → length x.acts ≤ k → place_at apps i k ≡ []
 none_at apps i k x low is few =
     let count = count_at apps i x low is in
@@ -99,7 +99,7 @@ times_before order i app =
     let short : length (take i order) ≤ i = rw length-take (min-le_left i (length order)) in
     omega (arith, few, turned, short)
 
--- all places are those of commands
+-- all places are those of acts
 there : (apps : List Script) (i k : ℕ) → k < act_count apps i → i < length apps
 there [] i k low = absurd (omega (arith, low))
 there (app ∷ apps) zero k low = omega arith

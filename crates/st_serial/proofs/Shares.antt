@@ -1,4 +1,4 @@
--- A command's course adds at most its share to a journal, and where it stops the journal is full.
+-- An act's course adds at most its share to a journal, and where it stops the journal is full.
 use Rattle.std.proofs.Common.{◌≡◌, ℕ, zero, suc, ◌+◌, ◌*◌, ◌≤◌, List, [], ◌∷◌, length, Bool, true, false, refl, ap, arith}
 use Rattle.std.specs.Prelude.{◌==◌, nat_lt, not}
 use Rattle.std.proofs.Math.Nat.{mul-suc, mul-le-mul_left}
@@ -92,7 +92,7 @@ course-within app (ReadAt n version entity var) g lines course = omega arith
 pub act-within : (app : AppId) (act : Act) (h : History) (lines : List WireLine) → length (act_course app act h lines).past ≤ length h.past + share act h.group lines
 act-within app act h lines = course-within app act h.group lines (course_from h.past)
 
--- what each event keeps, a command keeps
+-- what each event keeps, an act keeps
 
 module _ (g : Group) (P : Course → Type 0) (keeps : (course : Course) (event : Event) → P course → P (enter g course event)) where
   all-keep : (course : Course) (events : List Event) → P course → P (enter_all g course events)

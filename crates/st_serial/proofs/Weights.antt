@@ -1,4 +1,4 @@
--- The commands of the places that are gone through weigh no more together than all commands do: each place has a command of its own.
+-- The acts of the places that are gone through weigh no more together than all acts do: each place has an act of its own.
 use Rattle.std.proofs.Common.{◌≡◌, ℕ, zero, suc, ◌+◌, ◌<◌, ◌≤◌, List, [], ◌∷◌, length, Bool, true, false, Option, Some, None, refl, ap, ◌∙◌, arith, take}
 use Rattle.std.specs.Prelude.{reverse, slice_get, nat_lt, ◌==◌, sum_by, if◌then◌else◌}
 use Rattle.std.proofs.lemmas.Bool.Decides.{nat_tests}
@@ -24,7 +24,7 @@ take_next f [] (suc m) = refl
 take_next f (x ∷ xs) zero = omega arith
 take_next f (x ∷ xs) (suc m) = omega (arith, take_next f xs m, sum_by-cons f x (take (suc m) xs), sum_by-cons f x (take m xs))
 
--- an application's commands
+-- an application's acts
 abbrev acts_of : Option Script → List Act
 acts_of None = []
 acts_of (Some app) = app.acts
@@ -36,18 +36,18 @@ same_by : (m n : ℕ) → (n == m) ≡ true → n ≡ m
 same_by m n is = grind (arith, nat_tests)
 
 module _ (f : Act → ℕ) (apps : List Script) where
-  -- the weight of a command by its application's number and its own, and by its place
+  -- the weight of an act by its application's number and its own, and by its place
   abbrev pub weight_at : ℕ → ℕ → ℕ
   weight_at i k = or_zero f (act_in (slice_get apps i) k)
 
   abbrev pub place_weight : Place → ℕ
   place_weight place = or_zero f (act_of apps place)
 
-  -- of an application's commands, and of all
+  -- of an application's acts, and of all
   abbrev pub script_weight : Script → ℕ
   script_weight app = sum_by f app.acts
 
-  -- of the first k commands of application i
+  -- of the first k acts of application i
   abbrev upto : ℕ → ℕ → ℕ
   upto i k = sum_by f (take k (acts_of (slice_get apps i)))
 
@@ -62,12 +62,12 @@ module _ (f : Act → ℕ) (apps : List Script) where
   place_within : (i k : ℕ) → sum_by place_weight (place_at apps i k) ≤ weight_at i k
   place_within i k = by_test (λ ps. sum_by place_weight ps ≤ weight_at i k) (nat_lt k (act_count apps i)) (record { app = i; act = k } ∷ []) [] (omega arith) (omega arith)
 
-  -- of the first n applications, each up to a number of its commands
+  -- of the first n applications, each up to a number of its acts
   abbrev all_upto : (ℕ → ℕ) → ℕ → ℕ
   all_upto t zero = 0
   all_upto t (suc n) = all_upto t n + upto n (t n)
 
-  -- how many commands of an application are done after an order and so many laps
+  -- how many acts of an application are done after an order and so many laps
   abbrev done : List ℕ → ℕ → ℕ → ℕ
   done order k i = times i order + k
 
@@ -106,7 +106,7 @@ module _ (f : Act → ℕ) (apps : List Script) where
   more_done i before zero = omega arith
   more_done i before (suc n) = omega (arith, more_done i before n, more_by before n (n == i))
 
-  -- and the one that is named has done its next command
+  -- and the one that is named has done its next act
   named_by : (i : ℕ) (before : List ℕ) (n : ℕ) (b : Bool) → (n == i) ≡ b → i < suc n → (i < n → all_upto (done before 0) n + weight_at i (times i before) ≤ all_upto (done (i ∷ before) 0) n) → all_upto (done before 0) (suc n) + weight_at i (times i before) ≤ all_upto (done (i ∷ before) 0) n + upto n ((if b then times n before + 1 else times n before) + 0)
   named_by i before n true is low earlier =
       let same : n ≡ i = same_by i n is in
@@ -123,7 +123,7 @@ module _ (f : Act → ℕ) (apps : List Script) where
   named_within i before zero low = absurd (omega arith)
   named_within i before (suc n) low = named_by i before n (n == i) refl low (named_within i before n)
 
-  -- a name beyond the applications has no commands
+  -- a name beyond the applications has no acts
   beyond : (i k : ℕ) → length apps ≤ i → weight_at i k ≡ 0
   beyond i k past = ap (λ (o : Option Script). or_zero f (act_in o k)) (slice_get_past apps i past)
 
@@ -139,7 +139,7 @@ module _ (f : Act → ℕ) (apps : List Script) where
       let both = sum_by-append place_weight (ordered apps before) (place_at apps i (times i before)) in
       omega (arith, both, ordered_within before, place_within i (times i before), next_within i before (nat_lt i (length apps)) refl)
 
-  -- all commands
+  -- all acts
 
   some_within : (o : Option Script) (k : ℕ) → sum_by f (take k (acts_of o)) ≤ or_zero script_weight o
   some_within None zero = omega arith

@@ -1,4 +1,4 @@
--- How many entries scripts can make at the most: on the network of two paths, with each command once.
+-- How many entries scripts can make at the most: on the network of two paths, with each act once.
 use Rattle.std.proofs.Common.{◌≡◌, ℕ, ◌+◌, ◌*◌, List, [], ◌∷◌, None, refl}
 use Rattle.std.specs.Prelude.{Bool, true, false, codes, map}
 use Rattle.st_net.specs.declared.entity.Entity.TheVariants.{Device}
@@ -33,15 +33,15 @@ two_paths = record {
   promises = record { a = codes "t1"; b = codes "t2"; percent = 50 } ∷ [];
 }
 
--- applications of which each has these commands
+-- applications of which each has these acts
 abbrev apps_of : List (List Act) → List Script
 apps_of scripts = map (λ acts. record { name = codes "up"; acts = acts }) scripts
 
--- its document with these wire lines and commands
+-- its document with these wire lines and acts
 abbrev doc_of : List WireLine → List (List Act) → Doc
 doc_of lines scripts = record { groups = two_paths ∷ []; wires = lines ∷ []; apps = apps_of scripts; order = []; journal_at = None }
 
--- the first command comes late, at turn 2
+-- the first act comes late, at turn 2
 abbrev late : List WireLine
 late = Hold Command 1 2 ∷ []
 
@@ -65,11 +65,11 @@ each_once_is = refl
 without_lines : most (doc_of [] (each_command ∷ [])) 0 ≡ 256
 without_lines = refl
 
--- two applications, of which the second has no commands
+-- two applications, of which the second has no acts
 two_apps : most (doc_of late (each_command ∷ [] ∷ [])) 0 ≡ 369
 two_apps = refl
 
--- commands on another group add nothing here, and a group that is not there has no entries
+-- acts on another group add nothing here, and a group that is not there has no entries
 elsewhere : most (doc_of late ((Propose 1 (firmware ∷ []) ∷ Await 1 ∷ []) ∷ [])) 0 ≡ 64
 elsewhere = refl
 

@@ -40,7 +40,7 @@ went old new course going plant goes =
     ∙ ap (λ (lines : List WireLine). record { history = record { group = old.history.group; past = new.history.past }; lines = lines }) plant.lines
     ∙ ap (λ (past : List Entry). record { history = record { group = old.history.group; past = past }; lines = old.lines }) (ap (λ (course : Course). course.past) goes)
 
--- commands
+-- acts
 
 pub world_there : (act : Act) (ws : List WorldView) (n : ℕ) → n ≡ group_number act → FitsIn act (groups_in (states_of ws)) → n < length ws
 world_there act ws n number fits = omega (arith, group_in act (states_of ws) n number fits, states_many ws)
@@ -48,7 +48,7 @@ world_there act ws n number fits = omega (arith, group_in act (states_of ws) n n
 pub world_fits : (act : Act) (ws : List WorldView) (n : ℕ) (d : WorldView) → n ≡ group_number act → FitsIn act (groups_in (states_of ws)) → ActFits act (slice_index_or ws n d).history.group
 world_fits act ws n d number fits = subst (λ (s : GroupState). ActFits act s.history.group) (state_in ws n d) (fits_group act (states_of ws) n (state_of d) number fits)
 
--- a command that reads leaves all groups
+-- an act that reads leaves all groups
 pub world_read : (app : AppId) (act : Act) (ws : List WorldView) (logs longer : List (List LogEntry)) (n : ℕ) (d : WorldView) (entry : LogEntry) → n ≡ group_number act → n < length ws → Some entry ≡ seen_by act (slice_index_or ws n d).history → longer ≡ logged app.0 (Some entry) logs → run_of (states_of (set ws n (slice_index_or ws n d))) longer None ≡ act_done app act (run_of (states_of ws) logs None)
 world_read app act ws logs longer n d entry number low seen adds =
     let w = slice_index_or ws n d in
@@ -56,7 +56,7 @@ world_read app act ws logs longer n d entry number low seen adds =
     ap (λ ss. run_of ss longer None) (set_state ws n w ∙ ap (set (states_of ws) n) (sym (state_in ws n d)))
     ∙ read_done app act (states_of ws) logs longer n (state_of d) entry number (low_state ws n low) seen_in adds
 
--- another command changes its own
+-- another act changes its own
 pub world_acted : (app : AppId) (act : Act) (ws : List WorldView) (logs : List (List LogEntry)) (n : ℕ) (d new : WorldView) (going : Going) (full : Option ℕ) → n ≡ group_number act → n < length ws → None ≡ seen_by act (slice_index_or ws n d).history → HasSamePlant (slice_index_or ws n d) new → Goes new (act_course app act (slice_index_or ws n d).history (slice_index_or ws n d).lines) going → full ≡ (if is_full going then Some n else None) → run_of (states_of (set ws n new)) logs full ≡ act_done app act (run_of (states_of ws) logs None)
 world_acted app act ws logs n d new going full number low seen plant goes full_is =
     let w = slice_index_or ws n d in

@@ -11,15 +11,15 @@ use Rattle.st_world.specs.Acts.{group_number}
 use Rattle.st_serial.specs.Serial.{GroupState, all_opened, serial_full, serial_run}
 use Rattle.st_serial.specs.Shares.{share}
 
--- the share of a command in the journal of group n: it has none in those of other groups
+-- the share of an act in the journal of group n: it has none in those of other groups
 abbrev pub share_on : ℕ → Group → List WireLine → Act → ℕ
 share_on n g lines act = if group_number act == n then share act g lines else 0
 
--- that of an application's commands
+-- that of an application's acts
 abbrev pub script_most : ℕ → Group → List WireLine → Script → ℕ
 script_most n g lines app = sum_by (share_on n g lines) app.acts
 
--- that of all commands, and for each application the checks of what it leaves pending
+-- that of all acts, and for each application the checks of what it leaves pending
 abbrev pub most_in : List Script → ℕ → Option GroupState → ℕ
 most_in apps n None = 0
 most_in apps n (Some s) = sum_by (script_most n s.history.group s.lines) apps + MAX_PENDING * length apps

@@ -1,5 +1,5 @@
--- What the scripts of a document do to its groups, on one thread: the events of each command, each with the reply that is called for, and what the
--- commands that read have seen.
+-- What the scripts of a document do to its groups, on one thread: the events of each act, each with the reply that is called for, and what the
+-- acts that read have seen.
 use Rattle.std.specs.Prelude.{ℕ, ◌+◌, zero, suc, List, [], ◌∷◌, ◌++◌, All, map, reverse, slice_get, Option, Some, None, option_map, is_some, if◌then◌else◌}
 use Rattle.std.specs.Option.{IsSomeAnd}
 use Rattle.st_net.specs.declared.entity.AppId.{AppId}
@@ -77,7 +77,7 @@ act_done app act run = record {
   full = full_of (group_number act) (option_map (course_in app act) (slice_get run.groups (group_number act)));
 }
 
--- the command at a place
+-- the act at a place
 abbrev pub act_in : Option Script → ℕ → Option Act
 act_in None k = None
 act_in (Some app) k = slice_get app.acts k
@@ -85,7 +85,7 @@ act_in (Some app) k = slice_get app.acts k
 abbrev pub act_of : List Script → Place → Option Act
 act_of apps place = act_in (slice_get apps place.app) place.act
 
--- the run after a command, and after commands one after another
+-- the run after an act, and after acts one after another
 abbrev pub asked_done : ℕ → Option Act → Run → Run
 asked_done app None run = run
 asked_done app (Some act) run = act_done (record { 0 = app }) act run
@@ -106,7 +106,7 @@ all_opened [] wires = []
 all_opened (parts ∷ groups) [] = []
 all_opened (parts ∷ groups) (lines ∷ wires) = opened parts lines ∷ all_opened groups wires
 
--- before the first command nothing is seen
+-- before the first act nothing is seen
 abbrev pub opening_run : Doc → Run
 opening_run doc = record { groups = all_opened doc.groups doc.wires; logs = map (λ app. []) doc.apps; full = None }
 
@@ -129,7 +129,7 @@ all_decided n (s ∷ ss) =
     let course = checks_in s in
     if course.stopped then record { groups = state_at s course ∷ ss; full = Some n } else with_group (state_at s course) (all_decided (n + 1) ss)
 
--- a document after the commands of its scripts, in their order
+-- a document after the acts of its scripts, in their order
 abbrev pub scripts_done : Doc → Run
 scripts_done doc = places_done doc.apps (schedule doc.apps doc.order) (opening_run doc)
 
@@ -168,11 +168,11 @@ serial_full doc = (serial_end doc).full
 abbrev pub groups_in : List GroupState → List Group
 groups_in ss = map (λ s. s.history.group) ss
 
--- a command fits the group that it names
+-- an act fits the group that it names
 abbrev pub FitsIn : Act → List Group → Type 0
 FitsIn act groups = IsSomeAnd (slice_get groups (group_number act)) (ActFits act)
 
--- each command of each application fits
+-- each act of each application fits
 abbrev pub AllFitIn : List Script → List Group → Type 0
 AllFitIn apps groups = All (λ app. All (λ act. FitsIn act groups) app.acts) apps
 

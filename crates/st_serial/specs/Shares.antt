@@ -1,4 +1,4 @@
--- How many entries a command adds to its group's journal at the most.
+-- How many entries an act adds to its group's journal at the most.
 use Rattle.std.specs.Prelude.{ℕ, ◌+◌, ◌*◌, List, length}
 use Rattle.st_net.specs.Groups.{Group}
 use Rattle.st_net.specs.InOrder.{entity_count}
@@ -23,7 +23,7 @@ turn_most lines = 5 + 2 * length lines
 abbrev pub round_most : Group → List WireLine → ℕ
 round_most g lines = turn_most lines * entity_count g
 
--- a command on its group, whose loss plan has these lines. A proposal adds 2 entries by itself, and one more check may be made for it by others;
+-- an act on its group, whose loss plan has these lines. A proposal adds 2 entries by itself, and one more check may be made for it by others;
 -- a settle adds its own rounds, and one half of each kind may be made for it by others
 abbrev pub share : Act → Group → List WireLine → ℕ
 share (Propose n rows) g lines = 3

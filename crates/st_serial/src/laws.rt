@@ -3,7 +3,7 @@
 
 ghost use Rattle.st_serial.specs.Most.{FewEntriesFit, JournalsAreWithinMost};
 
-/// On one thread no journal gets more entries than the commands on its group can make at the most; so where these are below
+/// On one thread no journal gets more entries than the acts on its group can make at the most; so where these are below
 /// 200,000 for each group no event meets a full journal.
 pub fn few_entries_fit()
     ensures within { JournalsAreWithinMost }

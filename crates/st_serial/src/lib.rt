@@ -1,4 +1,4 @@
-//! The scripts of a document run on one thread: the order of their commands, what each does to its group, and how many entries they can make.
+//! The scripts of a document run on one thread: the order of their acts, what each does to its group, and how many entries they can make.
 #![tactic(auto)]
 
 pub mod laws;

@@ -61,7 +61,7 @@ fn empty_logs(alloc: Global, count: usize) -> Result<Vec<LogEntries>, AllocError
     Ok(logs)
 }
 
-/// A document after the commands of its scripts: the groups, what the applications saw, and the group at whose full journal the run
+/// A document after the acts of its scripts: the groups, what the applications saw, and the group at whose full journal the run
 /// stopped, if it did.
 #[derive(Drop)]
 pub struct Ran {
@@ -70,7 +70,7 @@ pub struct Ran {
     pub full: Option<u32>,
 }
 
-/// Does the commands of a document's scripts.
+/// Does the acts of a document's scripts.
 fn scripts_done(alloc: Global, doc: &Doc) -> Result<Ran, AllocError>
     requires { IsSoundDoc doc.now }
     ensures { IfOk result (λ ran. run_in ran ≡ scripts_done_lem doc.now) }

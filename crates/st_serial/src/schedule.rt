@@ -1,4 +1,4 @@
-//! The order in which the commands of a document's applications are done, on one thread: first as the document's order asks
+//! The order in which the acts of a document's applications are done, on one thread: first as the document's order asks
 //! for them, and then lap after lap.
 
 ghost use Rattle.std.specs.Prelude.{◌≡◌, ◌+◌, ◌<◌, ◌≤◌, ◌^◌, ◌++◌, [], ℕ, List, All, IfOk, OnOk, length, reverse, slice_index_or};
@@ -8,14 +8,14 @@ ghost use Rattle.st_serial.specs.Schedule.{place_at, ordered as ordered_lem, lap
 use st_grammar::{MAX_ACTS, Script};
 use std::alloc::{AllocError, Global};
 
-/// The place of a command: its application's number, and its own number among the application's commands, both from 0.
+/// The place of an act: its application's number, and its own number among the application's acts, both from 0.
 #[derive(Clone, Copy, Debug, PartialEq, Eq)]
 pub struct Place {
     pub app: u32,
     pub act: u32,
 }
 
-/// Adds the place of an application's command number `k`, if it has so many.
+/// Adds the place of an application's act number `k`, if it has so many.
 fn add_place(places: &mut Vec<Place>, apps: &[Script], app: u32, k: usize) -> Result<(), AllocError>
     requires app { app < length apps.now }
     requires few { All HasFewActs apps.now }
@@ -27,7 +27,7 @@ fn add_place(places: &mut Vec<Place>, apps: &[Script], app: u32, k: usize) -> Re
     Ok(())
 }
 
-/// Adds the places of the commands that an order lets applications do, and counts how often it names each.
+/// Adds the places of the acts that an order lets applications do, and counts how often it names each.
 fn add_ordered(
     places: &mut Vec<Place>,
     tally: &mut [usize],
@@ -48,7 +48,7 @@ fn add_ordered(
     Ok(())
 }
 
-/// Adds the places of one lap: of each application's next command, which is number `k` behind those that the order let it do.
+/// Adds the places of one lap: of each application's next act, which is number `k` behind those that the order let it do.
 fn add_lap(
     places: &mut Vec<Place>,
     tally: &[usize],
@@ -82,7 +82,7 @@ fn add_laps(places: &mut Vec<Place>, tally: &[usize], apps: &[Script]) -> Result
     Ok(())
 }
 
-/// The places of all commands, in the order in which they are done. Memory is linear in the commands.
+/// The places of all acts, in the order in which they are done. Memory is linear in the acts.
 pub fn schedule(alloc: Global, apps: &[Script], order: &[u32]) -> Result<Vec<Place>, AllocError>
     requires few_apps { length apps.now < 2 ^ 32 }
     requires few { All HasFewActs apps.now }

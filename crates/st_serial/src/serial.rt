@@ -1,4 +1,4 @@
-//! The scripts of a document run on one thread: every command is done in its turn, and in the end what is pending is decided. Where an
+//! The scripts of a document run on one thread: every act is done in its turn, and in the end what is pending is decided. Where an
 //! event meets a full journal the run stops.
 
 ghost use Rattle.std.specs.Prelude.{◌≡◌, ◌<◌, ◌^◌, All, IfOk, Some, None, length, if◌then◌else◌};
@@ -23,7 +23,7 @@ fn full_at(group: u32, going: Going) -> Option<u32>
     }
 }
 
-/// Does a command of an application: it reads, or it does something to its group. Gives the group, where an event met its full journal.
+/// Does an act of an application: it reads, or it does something to its group. Gives the group, where an event met its full journal.
 fn act_done(
     worlds: &mut [World],
     logs: &mut [LogEntries],
@@ -45,7 +45,7 @@ fn act_done(
     }
 }
 
-/// Does the command at a place.
+/// Does the act at a place.
 fn place_done(
     worlds: &mut [World],
     logs: &mut [LogEntries],
@@ -61,7 +61,7 @@ fn place_done(
     act_done(worlds, logs, AppId(place.app), &acts[place.act as usize])
 }
 
-/// Does the commands at these places, in order, up to an event that meets a full journal: then its group is given.
+/// Does the acts at these places, in order, up to an event that meets a full journal: then its group is given.
 pub fn places_done(
     worlds: &mut [World],
     logs: &mut [LogEntries],

@@ -1,7 +1,7 @@
 use Rattle.std.proofs.Common.{◌≤◌, arith}
 use Rattle.std.specs.Prelude.{slice_index_or}
 use Rattle.st_net.specs.Groups.{no_link}
-use Rattle.st_promise.proofs.SearchLaws.{link_at}
+use Rattle.st_net.proofs.WalkLaws.{is_link_at}
 use Rattle.st_promise.proofs.NetworkLaws.{edge_is}
 use Rattle.st_promise.proofs.up_network.add_link.Goals as goal
 use Rattle.st_promise.proofs.up_network.add_link.Goals.{then-up, else-up}
@@ -12,4 +12,4 @@ add-requires-clause-edge c =
       | then-up w ↦ omega (arith, w.capacity-is, w.capacity-capacity.ensures)
       | else-up w ↦ omega (arith, w.capacity-is)
     ] in
-    edge_is _ _ _ _ _ _ c.requires.nodes c.ends-a.ensures.a c.ends-a.ensures.b low (link_at _ _ c.args.link c.is_sound.ensures.links c.requires.link)
+    edge_is _ _ _ _ _ _ c.requires.nodes c.ends-a.ensures.a c.ends-a.ensures.b low (is_link_at _ _ c.args.link c.is_sound.ensures.links c.requires.link)
