@@ -2,4 +2,3 @@ pub mod OutcomeLemmas
 pub mod SwitchLemmas
 pub mod MeasuredLemmas
 pub mod PercentLemmas
-pub mod StandingLemmas

@@ -1,9 +1,12 @@
+pub mod AboutLemmas
 pub mod Altered
 pub mod AskedLemmas
 pub mod ChangeLemmas
 pub mod CutLemmas
 pub mod FarCuts
 pub mod GroupParts
+pub mod GroupTexts
+pub mod JoinLemmas
 pub mod PartLemmas
 pub mod PassLemmas
 pub mod PictureLemmas

@@ -2,10 +2,8 @@
 use Rattle.std.proofs.Common.{◌≡◌, ◌∙◌, ℕ, zero, suc, ◌+◌, ◌-◌, ◌<◌, ◌≤◌, ◌^◌, true, false, List, [], ◌∷◌, ◌++◌, length, map, get_or, take, drop, refl, sym, ap, subst, arith, append_assoc}
 use Rattle.std.specs.Prelude.{nat_le, reverse}
 use Rattle.std.proofs.lemmas.Bool.Decides.{nat_tests}
-use Rattle.std.proofs.lemmas.List.{append-nil, drop_all, drop_more, length-map, map-append, reverse-append, take-append-drop, take_more}
+use Rattle.std.proofs.lemmas.List.{append-nil, drop_all, drop_more, length-map, reverse-append, take-append-drop, take_more}
 use Rattle.serde_json.specs.Data.{Data, Members}
-use Rattle.serde_json.specs.View.{view}
-use Rattle.serde_json.specs.declared.value.Value.{Value}
 use Rattle.st_net.specs.Groups.{Group, IsSound}
 use Rattle.st_net.specs.InOrder.{entities_of}
 use Rattle.st_net.specs.Promises.{is_kept}
@@ -95,35 +93,23 @@ full_at d ds size room is high = let test : nat_le (size_of d) room ≡ false = 
 pub begins : (h : History) (entries : List Entry) → h ≡ record { group = h.group; past = reverse (take 0 entries) ++ h.past }
 begins h entries = refl
 
-pub first_fits : (list : List Value) (room : ℕ) (g : Group) (apps : List (List ℕ)) (past entries : List Entry) → list ≡ []
-    → map view list ++ fitting room (entries_data g apps (reverse (take 0 entries) ++ past) (drop 0 entries)) ≡ fitting room (entries_data g apps past entries)
-first_fits list room g apps past entries none = ap (λ (vs : List Value). map view vs ++ fitting room (entries_data g apps past entries)) none
-
-pub fits_more : (list more : List Value) (json : Value) (whole : List Data) (size room : ℕ) (g : Group) (apps : List (List ℕ)) (past entries : List Entry) (i : ℕ) (e : Entry)
-    → i < length entries → e ≡ get_or entries i e → view json ≡ entry_data g apps past e → size ≡ size_of (view json) → size ≤ room → more ≡ list ++ json ∷ []
-    → map view list ++ fitting room (entries_data g apps past (drop i entries)) ≡ whole → map view more ++ fitting (room - size) (entries_data g apps (e ∷ past) (drop (i + 1) entries)) ≡ whole
-fits_more list more json whole size room g apps past entries i e low at is sized fits pushed was =
-    let d = entry_data g apps past e in
+pub fits_more : (d : Data) (size room : ℕ) (g : Group) (apps : List (List ℕ)) (past entries : List Entry) (i : ℕ) (e : Entry)
+    → i < length entries → e ≡ get_or entries i e → d ≡ entry_data g apps past e → size ≡ size_of d → size ≤ room
+    → fitting room (entries_data g apps past (drop i entries)) ≡ d ∷ fitting (room - size) (entries_data g apps (e ∷ past) (drop (i + 1) entries))
+fits_more d size room g apps past entries i e low at is sized fits =
     let ds = entries_data g apps (e ∷ past) (drop (i + 1) entries) in
-    let step : fitting room (entries_data g apps past (drop i entries)) ≡ d ∷ fitting (room - size) ds = ap (fitting room) (data_at g apps past entries i e low at) ∙ fits_at d ds size room (sized ∙ ap size_of is) fits in
-    ap (λ (vs : List Value). map view vs ++ fitting (room - size) ds) pushed
-    ∙ (ap (λ (xs : List Data). xs ++ fitting (room - size) ds) (map-append view list (json ∷ []) ∙ ap (λ (x : Data). map view list ++ x ∷ []) is)
-    ∙ (append_assoc (map view list) (d ∷ []) (fitting (room - size) ds)
-    ∙ (ap (λ (xs : List Data). map view list ++ xs) (sym step) ∙ was)))
+    ap (fitting room) (data_at g apps past entries i e low at)
+    ∙ (fits_at (entry_data g apps past e) ds size room (sized ∙ ap size_of is) fits
+    ∙ ap (λ (x : Data). x ∷ fitting (room - size) ds) (sym is))
 
-pub fits_no_more : (list : List Value) (whole : List Data) (size room : ℕ) (g : Group) (apps : List (List ℕ)) (past entries : List Entry) (i : ℕ) (e : Entry)
-    → i < length entries → e ≡ get_or entries i e → size ≡ size_of (entry_data g apps past e) → room < size
-    → map view list ++ fitting room (entries_data g apps past (drop i entries)) ≡ whole → map view list ≡ whole
-fits_no_more list whole size room g apps past entries i e low at sized full was =
-    let d = entry_data g apps past e in
-    let ds = entries_data g apps (e ∷ past) (drop (i + 1) entries) in
-    sym (append-nil (map view list))
-    ∙ (ap (λ (xs : List Data). map view list ++ xs) (sym (ap (fitting room) (data_at g apps past entries i e low at) ∙ full_at d ds size room sized full)) ∙ was)
+pub fits_no_more : (size room : ℕ) (g : Group) (apps : List (List ℕ)) (past entries : List Entry) (i : ℕ) (e : Entry)
+    → i < length entries → e ≡ get_or entries i e → size ≡ size_of (entry_data g apps past e) → room < size → fitting room (entries_data g apps past (drop i entries)) ≡ []
+fits_no_more size room g apps past entries i e low at sized full =
+    ap (fitting room) (data_at g apps past entries i e low at)
+    ∙ full_at (entry_data g apps past e) (entries_data g apps (e ∷ past) (drop (i + 1) entries)) size room sized full
 
-pub fits_all : (list : List Value) (whole : List Data) (room : ℕ) (g : Group) (apps : List (List ℕ)) (past entries : List Entry) (i : ℕ) → length entries ≤ i
-    → map view list ++ fitting room (entries_data g apps past (drop i entries)) ≡ whole → map view list ≡ whole
-fits_all list whole room g apps past entries i past_end was =
-    sym (append-nil (map view list)) ∙ (ap (λ (es : List Entry). map view list ++ fitting room (entries_data g apps past es)) (sym (drop_all i entries past_end)) ∙ was)
+pub fits_all : (room : ℕ) (g : Group) (apps : List (List ℕ)) (past entries : List Entry) (i : ℕ) → length entries ≤ i → fitting room (entries_data g apps past (drop i entries)) ≡ []
+fits_all room g apps past entries i past_end = ap (λ (es : List Entry). fitting room (entries_data g apps past es)) (drop_all i entries past_end)
 
 -- a legal journal, up to some of its entries
 pub legal_to : (g : Group) (entries : List Entry) (n : ℕ) → IsLegal g (reverse entries) → IsLegal g (reverse (drop n entries) ++ reverse (take n entries))
@@ -141,23 +127,16 @@ legal_each (group ∷ groups) (journal ∷ journals) zero g j legal low = (omega
 legal_each (group ∷ groups) (journal ∷ journals) (suc i) g j legal low = let rest = legal_each groups journals i g j legal.1 (omega (arith, low)) in (omega (arith, rest.0), rest.1)
 
 -- one group more
-pub groups_more : (list more : List Value) (json : Value) (whole : List Data) (apps : List (List ℕ)) (from room : ℕ) (groups : List Group) (journals : List Journal) (i : ℕ) (g : Group) (j : Journal)
-    → i < length groups → i < length journals → g ≡ get_or groups i g → j ≡ get_or journals i j → view json ≡ group_data apps from room g j.entries → more ≡ list ++ json ∷ []
-    → map view list ++ groups_data apps from room (drop i groups) (map (λ journal. journal.entries) (drop i journals)) ≡ whole
-    → map view more ++ groups_data apps from room (drop (i + 1) groups) (map (λ journal. journal.entries) (drop (i + 1) journals)) ≡ whole
-groups_more list more json whole apps from room groups journals i g j low here g_is j_is is pushed was =
+pub groups_more : (d : Data) (apps : List (List ℕ)) (from room : ℕ) (groups : List Group) (journals : List Journal) (i : ℕ) (g : Group) (j : Journal)
+    → i < length groups → i < length journals → g ≡ get_or groups i g → j ≡ get_or journals i j → d ≡ group_data apps from room g j.entries
+    → groups_data apps from room (drop i groups) (map (λ journal. journal.entries) (drop i journals)) ≡ d ∷ groups_data apps from room (drop (i + 1) groups) (map (λ journal. journal.entries) (drop (i + 1) journals))
+groups_more d apps from room groups journals i g j low here g_is j_is is =
     let rest = groups_data apps from room (drop (i + 1) groups) (map (λ journal. journal.entries) (drop (i + 1) journals)) in
     let first : drop i groups ≡ g ∷ drop (i + 1) groups = drop_more groups i g low ∙ ap (λ (x : Group). x ∷ drop (i + 1) groups) (sym g_is) in
     let second : drop i journals ≡ j ∷ drop (i + 1) journals = drop_more journals i j here ∙ ap (λ (x : Journal). x ∷ drop (i + 1) journals) (sym j_is) in
-    let step : groups_data apps from room (drop i groups) (map (λ journal. journal.entries) (drop i journals)) ≡ group_data apps from room g j.entries ∷ rest =
     ap (λ (gs : List Group). groups_data apps from room gs (map (λ journal. journal.entries) (drop i journals))) first
-    ∙ ap (λ (js : List Journal). groups_data apps from room (g ∷ drop (i + 1) groups) (map (λ journal. journal.entries) js)) second in
-    ap (λ (vs : List Value). map view vs ++ rest) pushed
-    ∙ (ap (λ (xs : List Data). xs ++ rest) (map-append view list (json ∷ []) ∙ ap (λ (x : Data). map view list ++ x ∷ []) is)
-    ∙ (append_assoc (map view list) (group_data apps from room g j.entries ∷ []) rest
-    ∙ (ap (λ (xs : List Data). map view list ++ xs) (sym step) ∙ was)))
+    ∙ (ap (λ (js : List Journal). groups_data apps from room (g ∷ drop (i + 1) groups) (map (λ journal. journal.entries) js)) second
+    ∙ ap (λ (x : Data). x ∷ rest) (sym is))
 
-pub groups_all : (list : List Value) (whole : List Data) (apps : List (List ℕ)) (from room : ℕ) (groups : List Group) (entries : List (List Entry)) (i : ℕ) → length groups ≤ i
-    → map view list ++ groups_data apps from room (drop i groups) entries ≡ whole → map view list ≡ whole
-groups_all list whole apps from room groups entries i past was =
-    sym (append-nil (map view list)) ∙ (ap (λ (gs : List Group). map view list ++ groups_data apps from room gs entries) (sym (drop_all i groups past)) ∙ was)
+pub groups_all : (apps : List (List ℕ)) (from room : ℕ) (groups : List Group) (entries : List (List Entry)) (i : ℕ) → length groups ≤ i → groups_data apps from room (drop i groups) entries ≡ []
+groups_all apps from room groups entries i past = ap (λ (gs : List Group). groups_data apps from room gs entries) (drop_all i groups past)

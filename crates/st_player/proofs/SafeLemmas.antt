@@ -46,8 +46,11 @@ plain_shown (b ∷ more) h =
     let parts = both (is_plain_byte b) (is_plain more) h in
     rw (byte_shown b parts.0) (plain_shown more parts.1)
 
+pub quoted_plain : (text : List ℕ) → is_plain text ≡ true → quoted text ≡ 34 ∷ (text ++ 34 ∷ [])
+quoted_plain text h = ap (λ e. 34 ∷ (e ++ 34 ∷ [])) (escape_plain text h)
+
 pub quoted_shown : (text : List ℕ) → is_plain text ≡ true → is_shown (quoted text) ≡ true
-quoted_shown text h = ap is_shown (ap (λ e. 34 ∷ (e ++ 34 ∷ [])) (escape_plain text h)) ∙ shown_join text (34 ∷ []) (plain_shown text h) refl
+quoted_shown text h = ap is_shown (quoted_plain text h) ∙ shown_join text (34 ∷ []) (plain_shown text h) refl
 
 pub text_safe : (text : List ℕ) → is_plain text ≡ true → IsSafe (string text)
 text_safe text h = record { exact = refl; shown = quoted_shown text h }
@@ -57,7 +60,7 @@ pub number_safe : (n : ℕ) → IsSafe (number_data n)
 number_safe n = record { exact = refl; shown = plain_shown (decimal n) (number_plain n) }
 
 -- lists
-comma_shown : (b : Bool) → is_shown (comma_if b) ≡ true
+pub comma_shown : (b : Bool) → is_shown (comma_if b) ≡ true
 comma_shown true = refl
 comma_shown false = refl
 

@@ -10,6 +10,7 @@ use Rattle.st_event.specs.declared.reply.Reply.TheVariants.{NoSuch}
 use Rattle.st_player.specs.declared.state.Carriage.TheVariants.{Up}
 use Rattle.st_player.specs.declared.state.Knowledge.TheVariants.{Sure}
 use Rattle.st_player.specs.declared.state.State.{State}
+use Rattle.st_player.specs.Joined.{joined, joined_behind}
 use Rattle.st_player.specs.Json.{number_data, numbers_data}
 use Rattle.st_player.specs.Pictures.{after, bytes_of, device_data, first_of, groups_data, kind_in, kinds_of, link_data, lost_data, promise_data, room_of, unkept}
 
@@ -133,3 +134,9 @@ no_bytes = refl
 -- without a journal no group is shown
 no_journal : groups_data [] 0 100 (line ∷ []) [] ≡ []
 no_journal = refl
+
+-- Texts
+
+-- values have commas between them, and one before the first only where something stands before that
+joined_values : (joined [] ≡ []) × (joined (null ∷ []) ≡ codes "null") × (joined (null ∷ null ∷ null ∷ []) ≡ codes "null,null,null") × (joined_behind true (null ∷ null ∷ []) ≡ codes ",null,null")
+joined_values = (refl, refl, refl, refl)

@@ -3,8 +3,10 @@ pub mod Cuts
 pub mod Entries
 pub mod Fields
 pub mod Inside
+pub mod Joined
 pub mod Json
 pub mod Laws
+pub mod PictureTexts
 pub mod Pictures
 pub mod PlayedBack
 pub mod Playing

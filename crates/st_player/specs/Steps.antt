@@ -1,7 +1,5 @@
 -- Of no concern to callers: snapshots, sets and cuts as they are kept.
-use Rattle.std.specs.Prelude.{◌≡◌, ◌<◌, ◌≤◌, ◌-◌, ◌∷◌, ◌++◌, ℕ, All, Bool, true, List, [], Option, Some, None, length, map}
-use Rattle.serde_json.specs.View.{view}
-use Rattle.serde_json.specs.declared.value.Value.{Value}
+use Rattle.std.specs.Prelude.{◌≡◌, All, Bool, true, List, length, map}
 use Rattle.st_net.specs.declared.entity.Entity.{Entity}
 use Rattle.st_net.specs.declared.entity.Row.{Row}
 use Rattle.st_net.specs.declared.promise.Promise.{Promise}
@@ -17,7 +15,6 @@ use Rattle.st_player.specs.declared.weighing.Weighed.{Weighed}
 use Rattle.st_player.specs.declared.snapshot.Held.{Held}
 use Rattle.st_player.specs.declared.snapshot.Snapshot.{Snapshot}
 use Rattle.st_player.specs.Cuts.{Stands}
-use Rattle.st_player.specs.Pictures.{size_of}
 use Rattle.st_player.specs.Snapshots.{Shown, states_of}
 
 -- every promise holds while these entities are up
@@ -55,18 +52,3 @@ pub record IsWeighed (h : History) (rows : List Row) (sets : Weighed) : Type 0 w
 -- a cut as it is kept
 abbrev pub cut_in : Cut → Stands
 cut_in cut = record { far = cut.far.items; left = cut.left.items; out = cut.out.items; changes = cut.changes.items; gone = cut.gone.items }
-
--- a value that fits into this room was added to a list, and so much room is left
-pub record IsPushed (old new : List Value) (json : Value) (room left : ℕ) : Type 0 where
-  pub fits : size_of (view json) ≤ room
-  pub left_is : left ≡ room - size_of (view json)
-  pub list_is : new ≡ old ++ json ∷ []
-
--- it is larger than the room, and the list is as it was
-pub record IsLeftOut (old new : List Value) (json : Value) (room : ℕ) : Type 0 where
-  pub larger : room < size_of (view json)
-  pub list_is : new ≡ old
-
-abbrev pub PushesFitting : List Value → List Value → Value → ℕ → Option ℕ → Type 0
-PushesFitting old new json room (Some left) = IsPushed old new json room left
-PushesFitting old new json room None = IsLeftOut old new json room

@@ -5,10 +5,12 @@ ghost use Rattle.std.specs.Option.{option_copied};
 ghost use Rattle.serde_json.specs.Data.{put as put_lem, string};
 ghost use Rattle.serde_json.specs.View.{view, members_view};
 ghost use Rattle.st_text.specs.Words.{spaced};
+ghost use Rattle.st_net.specs.Entities.{is_same_entity};
 ghost use Rattle.st_net.specs.Groups.{are_names};
 ghost use Rattle.st_entry.specs.Entries.{event_words, reply_words};
 ghost use Rattle.st_entry.specs.Keywords.{reply_mark};
-ghost use Rattle.st_player.specs.Entries.{about as about_lem, asked_of, entry_words as entry_words_lem, has_row_on as has_row_on_lem, is_about as is_about_lem, line_of, lost_from, named_by as named_by_lem, rows_about as rows_about_lem, with_words};
+ghost use Rattle.st_player.specs.Cuts.{numbers_of};
+ghost use Rattle.st_player.specs.Entries.{about as about_lem, asked_of, entry_words as entry_words_lem, has_row_on as has_row_on_lem, line_of, lost_from, named_by as named_by_lem, rows_about as rows_about_lem, with_words};
 ghost use Rattle.st_player.specs.Refusals.{refusal_of, refused_of};
 
 use crate::playback::Playback;
@@ -99,11 +101,29 @@ fn has_row_on(rows: &[Row], entity: Entity) -> bool
     rows.iter().any(|row| row.entity.is_same(entity))
 }
 
-/// Whether an entity has one of these rows or is the one that is named.
-fn is_about(rows: &[Row], named: Option<Entity>, entity: Entity) -> bool
-    ensures { result ≡ is_about_lem rows.now named entity }
+/// The number of an entity alone, where the group has it.
+fn alone(alloc: Global, topo: &GroupTopo, entity: Entity) -> Result<Vec<u32>, AllocError>
+    ensures { IfOk result (λ numbers. numbers.items ≡ numbers_of topo.now (is_same_entity entity)) }
 {
-    has_row_on(rows, entity) || named.is_some_and(|named| named.is_same(entity))
+    topo.is_sound();
+    let mut numbers = Vec::new(alloc);
+    if topo.has(entity) {
+        numbers.push(topo.place(entity) as u32)?;
+    }
+    Ok(numbers)
+}
+
+/// The numbers of the entities that these rows are on, ascending.
+fn on_rows(alloc: Global, topo: &GroupTopo, rows: &[Row]) -> Result<Vec<u32>, AllocError>
+    ensures { IfOk result (λ numbers. numbers.items ≡ numbers_of topo.now (has_row_on_lem rows.now)) }
+{
+    let mut numbers = Vec::new(alloc);
+    for place in 0..topo.entity_count() {
+        if has_row_on(rows, topo.entity_at(place)) {
+            numbers.push(place)?;
+        }
+    }
+    Ok(numbers)
 }
 
 /// The numbers of the entities that an entry is about, ascending.
@@ -111,15 +131,10 @@ fn about(alloc: Global, world: &World, entry: &Entry) -> Result<Vec<u32>, AllocE
     ensures { IfOk result (λ numbers. numbers.items ≡ about_lem world.now.history.group world.now.history.past entry.now) }
 {
     let topo = world.control().topo();
-    let rows = rows_about(world, entry);
-    let named = named_by(world, &entry.event);
-    let mut numbers = Vec::new(alloc);
-    for place in 0..topo.entity_count() {
-        if is_about(rows, named, topo.entity_at(place)) {
-            numbers.push(place)?;
-        }
+    match named_by(world, &entry.event) {
+        Some(entity) => alone(alloc, topo, entity),
+        None => on_rows(alloc, topo, rows_about(world, entry)),
     }
-    Ok(numbers)
 }
 
 /// Of a check that decides, the number of the entry that gave its ticket.

@@ -4,11 +4,15 @@
 
 mod calling;
 mod changes;
+mod courses;
 mod cuts;
 mod entries;
 mod fields;
 mod head;
+mod joining;
 pub mod laws;
+mod openings;
+mod parts;
 mod pictures;
 mod playback;
 mod playing;

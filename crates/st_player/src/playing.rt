@@ -1,19 +1,16 @@
 //! A text is played: a document is read with its journals, these are gone through, and the page is made of them; or the first fault is told.
 
 ghost use Rattle.std.specs.Prelude.{◌≡◌, ◌≤◌, All, length, IfOk, true};
-ghost use Rattle.serde_json.specs.View.{view};
-ghost use Rattle.serde_json.specs.Written.{compact_text};
 ghost use Rattle.st_io.specs.declared.reading.TheConstants.{MAX_BYTES};
 ghost use Rattle.st_grammar.specs.Reading.{IsPlaceWithin};
 ghost use Rattle.st_grammar.specs.Sound.{IsSoundDoc};
 ghost use Rattle.st_journal.specs.JournalReading.{AreJournalsOf};
 ghost use Rattle.st_serial.specs.Kept.{groups_of};
 ghost use Rattle.st_replay.specs.Replaying.{AreLegal, HasFewEntries, replay_with};
-ghost use Rattle.st_player.specs.Playing.{IsFault, Plays, PlaysRead, PlaysRun, page_of, page_with};
+ghost use Rattle.st_player.specs.Playing.{IsFault, Plays, PlaysRead, PlaysRun, page_of};
 
 use crate::head::HEAD;
-use crate::pictures::picture;
-use crate::safe_json::Json;
+use crate::pictures::write_picture;
 use crate::tail::TAIL;
 use st_doc::{Doc, DocRead, read_doc};
 use st_event::Journal;
@@ -30,18 +27,6 @@ pub struct Played {
     pub text: Text,
 }
 
-/// The page that shows a picture.
-fn page(alloc: Global, picture: &Json) -> Result<Text, AllocError>
-    ensures { IfOk result (λ text. text ≡ page_with (compact_text (view picture.now))) }
-{
-    let text = picture.to_text(alloc)?;
-    let mut out = Text::new(alloc);
-    out.word(HEAD.as_bytes())?;
-    out.word(text.as_bytes())?;
-    out.word(TAIL.as_bytes())?;
-    Ok(out)
-}
-
 /// The page of a document with its legal journals.
 fn page_of_run(
     alloc: Global,
@@ -55,14 +40,18 @@ fn page_of_run(
 {
     let topos = topos_of(alloc, doc.groups.as_slice())?;
     let apps = app_names(alloc, doc)?;
-    let picture = picture(
+    let mut out = Text::new(alloc);
+    out.word(HEAD.as_bytes())?;
+    write_picture(
+        &mut out,
         alloc,
         topos.as_slice(),
         journals,
         apps.as_slice(),
         from as usize,
     )?;
-    page(alloc, &picture)
+    out.word(TAIL.as_bytes())?;
+    Ok(out)
 }
 
 /// What a document with its legal journals comes to.

@@ -1,7 +1,22 @@
-use Rattle.std.proofs.Common.{◌∙◌, ℕ, List, ap}
-use Rattle.st_net.specs.Groups.{are_names}
+use Rattle.std.proofs.Common.{◌∙◌, ℕ, List, ap, ap₂, map}
+use Rattle.serde_json.specs.Written.{compact_text}
+use Rattle.st_net.specs.Faults.{group_of}
+use Rattle.st_net.specs.Groups.{Group, are_names}
+use Rattle.st_event.specs.declared.journal.Journal.{Journal}
 use Rattle.st_replay.proofs.Names.{names_spelled}
+use Rattle.st_player.specs.Pictures.{picture}
+use Rattle.st_player.specs.Playing.{page_with}
+use Rattle.st_player.proofs.ReplayLemmas.{three_words}
 use Rattle.st_player.proofs.playing.page_of_run.Goals as goal
 
-pub picture-requires-clause-apps : goal.picture-requires-clause-apps
-picture-requires-clause-apps c = ap (λ (names : List (List ℕ)). are_names names) (c.as_slice-3.ensures.value ∙ c.in_ok-apps.ensures) ∙ names_spelled c.args.doc.now c.requires.sound
+pub write_picture-requires-clause-apps : goal.write_picture-requires-clause-apps
+write_picture-requires-clause-apps c = ap (λ (names : List (List ℕ)). are_names names) (c.as_slice-3.ensures.value ∙ c.in_ok-apps.ensures) ∙ names_spelled c.args.doc.now c.requires.sound
+
+pub returns : goal.returns
+unfolding page_with
+returns c =
+    let journals = map (λ (journal : Journal). journal.entries) c.args.journals.now in
+    let is = ap₂ (λ (names : List (List ℕ)) (groups : List Group). compact_text (picture names c.args.from groups journals)) (c.as_slice-3.ensures.value ∙ c.in_ok-apps.ensures) (c.as_slice-2.ensures.value ∙ (c.in_ok-topos.ensures ∙ ap (map group_of) c.as_slice.ensures)) in
+    three_words c.new-out.result c.word.new.self c.write_picture.new.out c.word-2.new.self c.as_bytes.result.now _ c.as_bytes-2.result.now _ _ _
+    c.new-out.ensures c.in_ok-word.ensures.ok c.in_ok-write_picture.ensures.text c.in_ok-word-2.ensures.ok
+    c.as_bytes.ensures.value is c.as_bytes-2.ensures.value
