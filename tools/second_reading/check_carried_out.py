@@ -368,11 +368,11 @@ def with_line(line, other):
 
 
 def check_most():
-    """docs/DEFINITIONS.md: 1 of a lock, 120 of a settle of 2 rounds on the 8 entities, 2 of a proposal, 64 of an await."""
+    """docs/DEFINITIONS.md: 1 of a lock, 120 of a settle of 2 rounds on the 8 entities, 3 of a proposal, 64 of an await."""
     script = Script("app up", "lock dc1 a1 low", "settle dc1 2", "propose dc1 a1.firmware=2", "await dc1", "read dc1 a1.firmware")
     shares = [share(GROUP, command) for command in script.document.applications[0].commands]
-    assert shares == [1, 120, 2, 64, 0], shares
-    assert most(script.document, 0) == 187 + 64, most(script.document, 0)
+    assert shares == [1, 120, 3, 64, 0], shares
+    assert most(script.document, 0) == 188 + 64, most(script.document, 0)
 
 
 def main():

@@ -15,7 +15,8 @@ def most(document, number):
 def share(group, command):
     """How many entries the command adds at the most."""
     if isinstance(command, Propose):
-        return 2
+        # A check where as many wait as may, the proposal itself, and one check more by the group's checker.
+        return 3
     if isinstance(command, Await):
         return MOST_PENDING
     if isinstance(command, Settle):
