@@ -1,5 +1,5 @@
 //! Values of JSON that are printed exactly, and whose text can stand in an element of a page: they have no float, and no byte of them
-//! opens a tag. All of a picture is made of them.
+//! opens a tag. The values of a picture are made of them; `pictures.rt` writes the brackets and keys between.
 
 ghost use Rattle.std.specs.Prelude.{◌≡◌, ◌++◌, ◌∷◌, [], IfOk, OnOk, true, false, string_bytes, map, option_map};
 ghost use Rattle.serde_json.specs.Data.{object as object_lem, string, no_members, put as put_lem};
