@@ -226,7 +226,7 @@ overlaid_by_checks_alone = refl
 altered_by_rows : (map (is_altered_by q (target q []) (Some two_rows)) (a1 ∷ a2 ∷ t1 ∷ []) ≡ true ∷ false ∷ false ∷ []) × (is_altered_by q (target q []) None a1 ≡ false)
 altered_by_rows = (refl, refl)
 
--- in a journal that is not legal an acceptance may stand before its proposal: it overlays nothing, and the proposal counts as accepted
+-- in a journal that is not legal an acceptance may stand before its proposal: its overlay has no rows, and the proposal counts as accepted
 abbrev decided_first : List Entry
 decided_first = record { event = Submit up two_rows; reply = Queued 1 } ∷ record { event = Check; reply = decided 1 1 (Accepted 1) } ∷ []
 
