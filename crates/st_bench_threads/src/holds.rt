@@ -3,7 +3,7 @@ ghost use Rattle.st_net.specs.Sets.{MarksOf};
 ghost use Rattle.st_promise.specs.Book.{IsBookOf};
 
 use st_bench_groups::{Outcome, Switches, check, commit, open_world, submit, take_down, up_first};
-use st_control::{Begin, judge_basis};
+use st_control::{Basis, Begin, Judged, judge_basis};
 use st_net::{EntitySet, GroupTopo};
 use st_promise::{Book, judge_wide};
 use st_world::World;
@@ -78,22 +78,45 @@ impl Holds {
     }
 }
 
-/// Two worlds of one group, in which the same is proposed.
-#[derive(Drop)]
-struct Twins {
-    /// Here checks are judged away from the world, and committed.
-    away: World,
-    /// Here checks are steps.
-    stepped: World,
+// What is timed claims nothing of its world, so the calls that say much of one are made behind signatures that say nothing: else each
+// function here would be proved with all of it at hand.
+
+/// Proposes that a switch gets this firmware.
+fn propose(alloc: Global, world: &mut World, switch: u32, firmware: u32) -> Result<(), AllocError> {
+    submit(alloc, world, switch, firmware)
 }
 
-impl Twins {
-    fn open(alloc: Global, topo: &GroupTopo) -> Result<Twins, AllocError> {
-        Ok(Twins {
-            away: open_world(alloc, topo.copy(alloc)?)?,
-            stepped: open_world(alloc, topo.copy(alloc)?)?,
-        })
+/// Carries out what was accepted.
+fn carry_out(world: &mut World) -> Result<(), AllocError> {
+    let _rounded = world.round()?;
+    Ok(())
+}
+
+/// The basis of the oldest proposal that waits, if one does.
+fn basis_of(world: &World) -> Result<Option<Basis>, AllocError> {
+    match world.begin_check()? {
+        Begin::Basis(basis) => Ok(Some(basis)),
+        Begin::Idle => Ok(None),
     }
+}
+
+/// What is judged of a basis.
+fn judged_of(
+    rt: &(impl Threads + Sync),
+    alloc: Global,
+    basis: Basis,
+) -> Result<Judged, AllocError> {
+    judge_basis(rt, alloc, basis)
+}
+
+/// What comes of a judgement.
+fn outcome_at(world: &mut World, judged: &Judged) -> Result<Outcome, AllocError> {
+    commit(world, judged)
+}
+
+/// What comes of a step that decides.
+fn outcome_of_step(world: &mut World) -> Result<Outcome, AllocError> {
+    check(world)
 }
 
 /// Decides the oldest proposal of a world as a check off the lock does, and times its parts.
@@ -104,13 +127,13 @@ fn check_away<R: Threads + Clock + Sync>(
     spans: &mut Spans,
 ) -> io::Result<Outcome> {
     let start = Instant::now(rt)?;
-    let Begin::Basis(basis) = world.begin_check()? else {
+    let Some(basis) = basis_of(world)? else {
         return Ok(Outcome::Undecided);
     };
     let begun = Instant::now(rt)?;
-    let judged = judge_basis(rt, alloc, basis)?;
+    let judged = judged_of(rt, alloc, basis)?;
     let found = Instant::now(rt)?;
-    let outcome = commit(world, &judged)?;
+    let outcome = outcome_at(world, &judged)?;
     let done = Instant::now(rt)?;
     spans.begin = begun - start;
     spans.judge = found - begun;
@@ -118,11 +141,12 @@ fn check_away<R: Threads + Clock + Sync>(
     Ok(outcome)
 }
 
-/// Decides the oldest proposal of a world by a step, and says how long that took.
-fn check_by_step<R: Clock>(rt: &R, world: &mut World) -> io::Result<Duration> {
+/// Decides the oldest proposal of a world by a step, as is done where it is judged under the lock, and times that.
+fn check_by_step<R: Clock>(rt: &R, world: &mut World, spans: &mut Spans) -> io::Result<Outcome> {
     let start = Instant::now(rt)?;
-    let _outcome = check(world)?;
-    start.elapsed(rt)
+    let outcome = outcome_of_step(world)?;
+    spans.step = start.elapsed(rt)?;
+    Ok(outcome)
 }
 
 /// How many promises the flows of a book show to hold while these entities are up.
@@ -158,31 +182,14 @@ fn judge_unmarked<R: Threads + Clock + Sync>(
     Ok(())
 }
 
-/// Proposes in both worlds that a switch gets this firmware, and times the checks. What was accepted is carried out behind them.
-fn check_twins<R: Threads + Clock + Sync>(
-    rt: &R,
-    alloc: Global,
-    twins: &mut Twins,
-    switch: u32,
-    firmware: u32,
-    spans: &mut Spans,
-) -> io::Result<Outcome> {
-    submit(alloc, &mut twins.away, switch, firmware)?;
-    submit(alloc, &mut twins.stepped, switch, firmware)?;
-    let outcome = check_away(rt, alloc, &mut twins.away, spans)?;
-    spans.step = check_by_step(rt, &mut twins.stepped)?;
-    twins.away.round()?;
-    twins.stepped.round()?;
-    Ok(outcome)
-}
-
-/// The same, and how long it takes to judge all promises.
-fn check_one<R: Threads + Clock + Sync>(
+/// Proposes that a switch gets this firmware, and times a check of it away from the world, and how long it takes to judge all promises.
+/// What was accepted is carried out behind the check.
+fn time_away<R: Threads + Clock + Sync>(
     rt: &R,
     alloc: Global,
     topo: &GroupTopo,
     book: &Book,
-    twins: &mut Twins,
+    world: &mut World,
     switch: u32,
     firmware: u32,
 ) -> io::Result<(Outcome, Spans)>
@@ -191,33 +198,127 @@ fn check_one<R: Threads + Clock + Sync>(
     let mut spans = Spans::none();
     spans.checks = 1;
     judge_unmarked(rt, alloc, topo, book, switch, &mut spans)?;
-    let outcome = check_twins(rt, alloc, twins, switch, firmware, &mut spans)?;
+    propose(alloc, world, switch, firmware)?;
+    let outcome = check_away(rt, alloc, world, &mut spans)?;
+    carry_out(world)?;
     Ok((outcome, spans))
 }
 
-/// The same of so many proposals, of one switch after another.
-fn check_all<R: Threads + Clock + Sync>(
+/// The same of a check by a step, without a judgement of all promises.
+fn time_step<R: Clock>(
+    rt: &R,
+    alloc: Global,
+    world: &mut World,
+    switch: u32,
+    firmware: u32,
+) -> io::Result<(Outcome, Spans)> {
+    let mut spans = Spans::none();
+    propose(alloc, world, switch, firmware)?;
+    let outcome = check_by_step(rt, world, &mut spans)?;
+    carry_out(world)?;
+    Ok((outcome, spans))
+}
+
+/// Times so many checks away from a world, of one switch after another.
+fn time_each_away<R: Threads + Clock + Sync>(
     rt: &R,
     alloc: Global,
     topo: &GroupTopo,
     book: &Book,
+    switches: &Switches,
     proposals: u32,
-) -> io::Result<Holds>
+    world: &mut World,
+    holds: &mut Holds,
+) -> io::Result<()>
     requires { IsBookOf topo.now book.now.of }
 {
-    let switches = Switches::of(alloc, topo)?;
-    let mut twins = Twins::open(alloc, topo)?;
-    let mut holds = Holds::none();
     for number in 0..proposals {
         let switch = switches.in_turn(number);
         let firmware = number.saturating_add(2);
-        let (outcome, spans) = check_one(rt, alloc, topo, book, &mut twins, switch, firmware)?;
+        let (outcome, spans) = time_away(rt, alloc, topo, book, world, switch, firmware)?;
         holds.add(outcome, spans);
     }
-    Ok(holds)
+    Ok(())
 }
 
-/// Checks so many proposals of a group, each away from a world and by a step of another, and times the parts.
+/// The same of a world that is not needed any more.
+fn time_all_away<R: Threads + Clock + Sync>(
+    rt: &R,
+    alloc: Global,
+    topo: &GroupTopo,
+    book: &Book,
+    switches: &Switches,
+    proposals: u32,
+    mut world: World,
+    holds: &mut Holds,
+) -> io::Result<()>
+    requires { IsBookOf topo.now book.now.of }
+{
+    time_each_away(
+        rt, alloc, topo, book, switches, proposals, &mut world, holds,
+    )
+}
+
+/// Times so many checks by steps of a world, of the same switches.
+fn time_each_step<R: Clock>(
+    rt: &R,
+    alloc: Global,
+    switches: &Switches,
+    proposals: u32,
+    world: &mut World,
+    holds: &mut Holds,
+) -> io::Result<()> {
+    for number in 0..proposals {
+        let switch = switches.in_turn(number);
+        let firmware = number.saturating_add(2);
+        let (outcome, spans) = time_step(rt, alloc, world, switch, firmware)?;
+        holds.add(outcome, spans);
+    }
+    Ok(())
+}
+
+/// The same of a world that is not needed any more.
+fn time_all_steps<R: Clock>(
+    rt: &R,
+    alloc: Global,
+    switches: &Switches,
+    proposals: u32,
+    mut world: World,
+    holds: &mut Holds,
+) -> io::Result<()> {
+    time_each_step(rt, alloc, switches, proposals, &mut world, holds)
+}
+
+/// Times the checks away from a world of a group that is opened for them.
+fn away_from_one<R: Threads + Clock + Sync>(
+    rt: &R,
+    alloc: Global,
+    topo: &GroupTopo,
+    book: &Book,
+    switches: &Switches,
+    proposals: u32,
+    holds: &mut Holds,
+) -> io::Result<()>
+    requires { IsBookOf topo.now book.now.of }
+{
+    let world = open_world(alloc, topo.copy(alloc)?)?;
+    time_all_away(rt, alloc, topo, book, switches, proposals, world, holds)
+}
+
+/// Times the checks by steps of a world of a group that is opened for them.
+fn by_steps_of_one<R: Clock>(
+    rt: &R,
+    alloc: Global,
+    topo: &GroupTopo,
+    switches: &Switches,
+    proposals: u32,
+    holds: &mut Holds,
+) -> io::Result<()> {
+    let world = open_world(alloc, topo.copy(alloc)?)?;
+    time_all_steps(rt, alloc, switches, proposals, world, holds)
+}
+
+/// Checks so many proposals of a group, each away from a world and by a step of another, which decide the same, and times the parts.
 pub fn time_holds<R: Threads + Clock + Sync>(
     rt: &R,
     alloc: Global,
@@ -225,5 +326,9 @@ pub fn time_holds<R: Threads + Clock + Sync>(
     proposals: u32,
 ) -> io::Result<Holds> {
     let book = Book::start(alloc, topo)?;
-    check_all(rt, alloc, topo, &book, proposals)
+    let switches = Switches::of(alloc, topo)?;
+    let mut holds = Holds::none();
+    away_from_one(rt, alloc, topo, &book, &switches, proposals, &mut holds)?;
+    by_steps_of_one(rt, alloc, topo, &switches, proposals, &mut holds)?;
+    Ok(holds)
 }
