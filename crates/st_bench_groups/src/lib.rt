@@ -13,6 +13,3 @@ pub use group::{Switches, group_of};
 pub use proposal::{Outcome, check, commit, open_world, outcome_of, row_of, submit};
 pub use standing::{take_down, up_first};
 pub use words::{PERCENT, percent_of};
-
-#[cfg(test)]
-mod tests;

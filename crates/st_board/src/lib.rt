@@ -17,6 +17,3 @@ pub use held::Held;
 pub use line::Line;
 pub use note::Note;
 pub use reader::{Seen, TargetReader};
-
-#[cfg(test)]
-mod tests;

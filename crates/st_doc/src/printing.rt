@@ -115,6 +115,3 @@ pub fn print_doc(doc: &Doc, out: &mut Text) -> Result<(), AllocError>
 {
     print_lines(doc, out)
 }
-
-#[cfg(test)]
-mod tests;

@@ -124,6 +124,3 @@ fn ended(reader: Reader, line: u32, at: Option<JournalAt>) -> Result<DocRead, Al
         }))
     }
 }
-
-#[cfg(test)]
-mod tests;

@@ -12,8 +12,6 @@ mod maximum;
 mod meeting;
 mod push;
 mod search;
-#[cfg(test)]
-mod tests;
 
 pub use cut::{Cut, cut_value, flow_within_cut};
 pub use edge::Edge;

@@ -56,6 +56,3 @@ pub fn generate(alloc: Global, pods: u32, seed: u32) -> Result<Doc, AllocError>
 {
     document(alloc, pods, seed)
 }
-
-#[cfg(test)]
-mod tests;

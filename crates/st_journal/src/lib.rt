@@ -14,6 +14,3 @@ pub use printing_back::prints_back;
 pub use reading::{Journals, JournalsRead, read_journals};
 pub use replaying::{Replayed, replay};
 pub use st_token::FaultKind as JournalKind;
-
-#[cfg(test)]
-mod tests;

@@ -4,8 +4,6 @@
 
 mod build;
 mod entity;
-#[cfg(test)]
-mod examples;
 mod fault;
 mod law;
 mod level;

@@ -28,6 +28,3 @@ mod weighing;
 pub use calling::{player, run_player};
 pub use playing::{Played, play};
 pub use st_replay::Status;
-
-#[cfg(test)]
-mod tests;

@@ -15,8 +15,6 @@ mod kept_flow;
 mod reaching;
 mod same;
 mod search;
-#[cfg(test)]
-mod tests;
 mod to_first;
 mod up;
 mod up_network;

@@ -20,6 +20,3 @@ mod wire;
 pub use json_report::report_json;
 pub use sums::print_sums;
 pub use text_report::report_text;
-
-#[cfg(test)]
-mod tests;

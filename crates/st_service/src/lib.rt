@@ -27,6 +27,3 @@ pub use offlock::OffLock;
 pub use pass::Pass;
 pub use service::{MAX_ROOMS, Service};
 pub use start::RoomLines;
-
-#[cfg(test)]
-mod tests;

@@ -281,6 +281,3 @@ impl<H: Wait + Drop> Room<H> {
         self.world.entries_since(from)
     }
 }
-
-#[cfg(test)]
-mod tests;

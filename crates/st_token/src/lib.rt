@@ -4,8 +4,6 @@
 
 mod counts;
 mod entities;
-#[cfg(test)]
-mod examples;
 mod fault;
 mod health;
 mod names;

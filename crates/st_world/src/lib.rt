@@ -5,8 +5,6 @@
 pub mod laws;
 mod machine;
 mod plant;
-#[cfg(test)]
-mod tests;
 mod world;
 
 pub use world::acts::group_number;

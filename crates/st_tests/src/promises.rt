@@ -1,0 +1,135 @@
+//! A fat tree of ten pods, whose promises are judged with a link and with a ToR down, and in which a book counts its runs. Small
+//! groups that are judged in two ways have a module of their own.
+ghost use Rattle.std.specs.Prelude.{IfOk};
+ghost use Rattle.st_net.specs.Sets.{MarksOf};
+ghost use Rattle.st_promise.specs.Book.{IsBookOf};
+
+mod changes;
+
+use st_gen::generate;
+use st_net::{Broken, BrokenKind, Entity, EntitySet, GroupTopo};
+use st_promise::Book;
+use st_serial::topo_of;
+use std::alloc::{AllocError, Global};
+use std::test::Fail;
+
+/// A fat tree of ten pods.
+fn fat_tree(alloc: Global) -> Result<GroupTopo, Fail> {
+    let doc = generate(alloc, 10, 0)?;
+    match doc.groups.as_slice().first() {
+        Some(parts) => Ok(topo_of(alloc, parts)?),
+        None => Err(Fail::new("no group")),
+    }
+}
+
+/// Every entity of a group.
+fn every_entity(alloc: Global, topo: &GroupTopo) -> Result<EntitySet, AllocError>
+    ensures { IfOk result (MarksOf topo.now) }
+{
+    let mut up = EntitySet::none(alloc, topo)?;
+    for device in 0..topo.device_count() {
+        up.put(Entity::Device(device));
+    }
+    for link in 0..topo.link_count() {
+        up.put(Entity::Link(link));
+    }
+    Ok(up)
+}
+
+/// What the loss of one entity breaks, of a book of the group.
+fn lost(
+    alloc: Global,
+    topo: &GroupTopo,
+    book: &mut Book,
+    down: Entity,
+) -> Result<Option<Broken>, AllocError>
+    requires book { IsBookOf topo.now book.old.of }
+    ensures book { IsBookOf topo.now book.new.of }
+{
+    let before = every_entity(alloc, topo)?;
+    let mut after = before.copy(alloc)?;
+    if topo.has(down) {
+        after.remove(down);
+    }
+    book.judge_pairs(topo, &before, &after)
+}
+
+/// Whether it is promise number 44 that is cut off.
+fn is_last_of_first(broken: Option<Broken>) -> bool {
+    match broken {
+        Some(broken) => {
+            broken.promise == 44
+                && broken.kind == BrokenKind::CutOff
+                && broken.need == 25
+                && broken.has == 0
+        }
+        None => false,
+    }
+}
+
+/// What was seen of a new book: after the loss of a link, and then of a ToR.
+#[derive(Clone, Copy)]
+struct Runs {
+    promises: u32,
+    link_breaks: bool,
+    runs: u64,
+    tor_cut_off: bool,
+    more_runs: u64,
+}
+
+// The link p9e0a0 is the first of the 50 of pod 9, the ToR p9e0 device 90, and the promise of p0e0 and p9e0 number 44.
+fn seen_in(alloc: Global, topo: &GroupTopo) -> Result<Runs, AllocError> {
+    let mut book = Book::start(alloc, topo)?;
+    let link = lost(alloc, topo, &mut book, Entity::Link(450))?;
+    let runs = book.flows_run();
+    let tor = lost(alloc, topo, &mut book, Entity::Device(90))?;
+    Ok(Runs {
+        promises: topo.promise_count(),
+        link_breaks: link.is_some(),
+        runs,
+        tor_cut_off: is_last_of_first(tor),
+        more_runs: book.flows_run(),
+    })
+}
+
+#[test]
+fn only_flows_that_lost_too_much_are_found_again(rt: HostRuntime) -> Result<(), Fail> {
+    let seen = seen_in(rt.alloc(), &fat_tree(rt.alloc())?)?;
+    assert_eq!(rt; seen.promises, 1225);
+    assert!(rt; !seen.link_breaks && seen.tor_cut_off);
+    assert!(rt; seen.runs <= 98);
+    assert!(rt; seen.more_runs > seen.runs);
+    Ok(())
+}
+
+/// How many flows were run by two checks of one change where a ToR was down before, and whether that breaks a promise.
+#[derive(Clone, Copy)]
+struct Repeated {
+    first: u64,
+    second: u64,
+    breaks: bool,
+}
+
+fn repeated_in(alloc: Global, topo: &GroupTopo) -> Result<Repeated, AllocError> {
+    let mut book = Book::start(alloc, topo)?;
+    let mut before = every_entity(alloc, topo)?;
+    if topo.has(Entity::Device(90)) {
+        before.remove(Entity::Device(90));
+    }
+    let broken = book.judge_pairs(topo, &before, &before)?;
+    let first = book.flows_run();
+    let again = book.judge_pairs(topo, &before, &before)?;
+    Ok(Repeated {
+        first,
+        second: book.flows_run().saturating_sub(first),
+        breaks: broken.is_some() || again.is_some(),
+    })
+}
+
+#[test]
+fn promises_that_fail_already_take_no_more_flows(rt: HostRuntime) -> Result<(), Fail> {
+    let seen = repeated_in(rt.alloc(), &fat_tree(rt.alloc())?)?;
+    assert!(rt; !seen.breaks && seen.first >= 49);
+    assert_eq!(rt; seen.second, 0);
+    Ok(())
+}
