@@ -1,5 +1,5 @@
 -- Of no concern to callers: the text of values one after another.
-use Rattle.std.specs.Prelude.{◌≡◌, ◌<◌, ◌≤◌, ◌-◌, ℕ, Bool, true, false, not, List, [], ◌∷◌, ◌++◌, Option, Some, None, ⊤}
+use Rattle.std.specs.Prelude.{◌≡◌, ◌<◌, ◌≤◌, ◌-◌, ℕ, Bool, true, false, not, List, [], ◌∷◌, ◌++◌, Option, Some, None}
 use Rattle.serde_json.specs.Data.{Data, Members, no_members, member}
 use Rattle.serde_json.specs.Written.{comma_if, compact_text}
 use Rattle.st_player.specs.Pictures.{size_of}
@@ -31,4 +31,4 @@ WritesFitting old new d is_first room None = IsLeftOut old new d room
 
 abbrev pub HasMembers : Members → Type 0
 HasMembers no_members = ⊥
-HasMembers (member k d ms) = ⊤
+HasMembers (member k d ms) = Unit {0}

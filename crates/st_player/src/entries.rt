@@ -1,6 +1,6 @@
 //! What is told of one entry of a journal: its line, what it is about, and why it refuses.
 
-ghost use Rattle.std.specs.Prelude.{◌≡◌, ℕ, ◌<◌, ◌^◌, ◌++◌, ◌∷◌, [], IfOk, OnOk, codes, drop, length, option_map, true};
+ghost use Rattle.std.specs.Prelude.{◌≡◌, ℕ, ◌<◌, ◌^◌, ◌++◌, ◌∷◌, [], IfOk, OnOk, codes, length, option_map, true};
 ghost use Rattle.std.specs.Option.{option_copied};
 ghost use Rattle.serde_json.specs.Data.{put as put_lem, string};
 ghost use Rattle.serde_json.specs.View.{view, members_view};
@@ -13,6 +13,7 @@ ghost use Rattle.st_player.specs.Cuts.{numbers_of};
 ghost use Rattle.st_player.specs.Entries.{about as about_lem, asked_of, entry_words as entry_words_lem, has_row_on as has_row_on_lem, line_of, lost_from, named_by as named_by_lem, rows_about as rows_about_lem, with_words};
 ghost use Rattle.st_player.specs.Refusals.{refusal_of, refused_of};
 
+use crate::joining::behind_first;
 use crate::playback::Playback;
 use crate::refusals::cause_json;
 use crate::safe_json::{Json, JsonObject};
@@ -40,16 +41,6 @@ fn words_of(
     Ok(text)
 }
 
-/// The bytes of a text without the space that it begins with.
-fn without_space(text: &Text) -> &[u8]
-    ensures { result.now ≡ drop 1 text.now }
-{
-    match text.bytes().split_first() {
-        Some((_space, rest)) => rest,
-        None => b"",
-    }
-}
-
 /// Puts the line of an entry without its number, whichever that is.
 fn put_line(
     object: &mut JsonObject,
@@ -63,7 +54,8 @@ fn put_line(
 {
     topo.is_sound();
     let words = words_of(alloc, topo, apps, entry)?;
-    object.put_text("line", without_space(&words))
+    // Without the space that they begin with.
+    object.put_text("line", behind_first(words.bytes()))
 }
 
 /// The rows that an entry is about, behind the entries of a world.

@@ -53,12 +53,12 @@ pub(crate) fn write_fitting(
     Ok(Some(room - size))
 }
 
-/// The bytes of a text without the bracket that it begins with.
-fn without_bracket(text: &str) -> &[u8]
-    ensures { result.now ≡ drop 1 text.now }
+/// The bytes behind the first.
+pub(crate) fn behind_first(bytes: &[u8]) -> &[u8]
+    ensures { result.now ≡ drop 1 bytes.now }
 {
-    match text.as_bytes().split_first() {
-        Some((_bracket, rest)) => rest,
+    match bytes.split_first() {
+        Some((_first, rest)) => rest,
         None => b"",
     }
 }
@@ -75,5 +75,6 @@ pub(crate) fn write_members(
 {
     let text = Json::object(object).to_text(alloc)?;
     out.word(b",")?;
-    out.word(without_bracket(text.as_str()))
+    // Without the bracket that it begins with.
+    out.word(behind_first(text.as_bytes()))
 }

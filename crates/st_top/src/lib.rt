@@ -16,6 +16,3 @@ pub use answer::{Journals, Logs, Outcome};
 pub use program::{ended, run_program};
 pub use st_replay::Status;
 pub use top::{statesman, statesman_alone};
-
-#[cfg(test)]
-mod tests;

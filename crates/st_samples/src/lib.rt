@@ -1,0 +1,94 @@
+//! Groups and worlds that are read from texts, for the tests of the crates below.
+#![tactic(auto)]
+
+ghost use Rattle.std.specs.Prelude.{◌≡◌, [], ◌∷◌, false, All, IfOk, Ok, Some, map};
+ghost use Rattle.st_grammar.specs.Reading.{read_of};
+ghost use Rattle.st_grammar.specs.Sound.{IsSoundDoc, IsSoundGroup};
+ghost use Rattle.st_samples.specs.Declared.{declared_groups, declared_worlds};
+ghost use Rattle.st_net.specs.Faults.{group_of};
+ghost use Rattle.st_serial.specs.Serial.{state_of};
+
+use st_doc::read_doc;
+use st_grammar::{Doc, DocRead};
+use st_net::{GroupTopo, Parts};
+use st_serial::{open_worlds, topo_of};
+use st_world::World;
+use std::alloc::{AllocError, Global};
+use std::test::Fail;
+
+/// Two ToRs, t1 and t2, joined by way of two switches, a1 and a2, with a promise of half the capacity between them.
+pub const TWO_PATH: &str = "statesman 1
+group dc1
+device t1 tor
+device t2 tor
+device a1 switch
+device a2 switch
+link l1 t1 a1 10
+link l2 t1 a2 10
+link l3 t2 a1 10
+link l4 t2 a2 10
+promise t1 t2 50
+";
+
+/// The document that a text is.
+fn document(alloc: Global, text: &str) -> Result<Doc, Fail>
+    ensures exact { IfOk result (λ doc. read_of false text.now ≡ Ok doc) }
+    ensures sound { IfOk result IsSoundDoc }
+{
+    let bytes = text.as_bytes();
+    if bytes.len() > 1_000_000 {
+        return Err(Fail::new("too long a text"));
+    }
+    match read_doc(alloc, bytes, false)? {
+        DocRead::Doc(doc) => Ok(doc),
+        DocRead::Fault(_) => Err(Fail::new("a bad line")),
+    }
+}
+
+/// The groups of these parts, of which nothing is wrong.
+fn all_built(alloc: Global, groups: &[Parts]) -> Result<Vec<GroupTopo>, AllocError>
+    requires { All IsSoundGroup groups.now }
+    ensures { IfOk result (λ topos. topos.items ≡ map group_of groups.now) }
+{
+    let mut topos = Vec::new(alloc);
+    for parts in groups {
+        topos.push(topo_of(alloc, parts)?)?;
+    }
+    Ok(topos)
+}
+
+/// The groups that a text declares, in order. `Err` tells that the text is no document, or has more than a million bytes, and is for want
+/// of memory.
+pub fn groups(alloc: Global, text: &str) -> Result<Vec<GroupTopo>, Fail>
+    ensures { IfOk result (λ topos. declared_groups text.now ≡ Some topos.items) }
+{
+    let doc = document(alloc, text)?;
+    Ok(all_built(alloc, doc.groups.as_slice())?)
+}
+
+/// The group that a text declares. `Err` is as with `groups`, and tells that there is no group or another beside it.
+pub fn group(alloc: Global, text: &str) -> Result<GroupTopo, Fail>
+    ensures { IfOk result (λ topo. declared_groups text.now ≡ Some (topo ∷ [])) }
+{
+    let mut topos = groups(alloc, text)?;
+    let topo = topos.pop().ok_or("no group")?;
+    if topos.is_empty() {
+        Ok(topo)
+    } else {
+        Err(Fail::new("more than one group"))
+    }
+}
+
+/// The world of the group that a text declares, before the first event, with the losses of its wire lines. `Err` is as with `group`.
+pub fn world(alloc: Global, text: &str) -> Result<World, Fail>
+    ensures { IfOk result (λ world. declared_worlds text.now ≡ Some (state_of world ∷ [])) }
+{
+    let doc = document(alloc, text)?;
+    let mut worlds = open_worlds(alloc, doc.groups.as_slice(), doc.wires.as_slice())?;
+    let world = worlds.pop().ok_or("no group")?;
+    if worlds.is_empty() {
+        Ok(world)
+    } else {
+        Err(Fail::new("more than one group"))
+    }
+}

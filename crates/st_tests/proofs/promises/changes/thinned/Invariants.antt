@@ -1,8 +1,0 @@
-use Rattle.st_net.specs.Sets.{MarksOf}
-use Rattle.st_tests.proofs.promises.changes.thinned.Given as goal
-
-abbrev pub invariant-loop-device : goal.invariant-loop-device
-invariant-loop-device l = MarksOf l.topo l.thin
-
-abbrev pub invariant-loop-link : goal.invariant-loop-link
-invariant-loop-link l = MarksOf l.topo l.thin

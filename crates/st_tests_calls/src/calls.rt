@@ -1,0 +1,175 @@
+//! Whole calls: words and bytes in; text, status and journals out. Expected texts are worked by hand.
+
+mod ends;
+mod gates;
+mod hostile;
+mod jobs;
+mod replays;
+mod rounds;
+mod runs;
+mod serial;
+mod tables;
+
+use st_crew::{Gate, NoGate};
+use st_doc::DocKind;
+use st_event::{Event, Reply, Verdict};
+use st_io::{MemorySink, MemorySource, SureSink, SureSource};
+use st_net::{Entity, Var};
+use st_top::{Outcome, Status, statesman};
+use std::alloc::{AllocError, Global};
+use std::process::Abort;
+use std::sync::Wait;
+use std::test::Fail;
+use std::thread::Threads;
+
+/// Two ToRs that two switches join, without promises and scripts.
+const TWO_PATHS: &[u8] =
+    b"statesman 1\ngroup dc1\ndevice t1 tor\ndevice t2 tor\ndevice a1 switch\ndevice a2 switch\nlink l1 t1 a1 10\nlink l2 t1 a2 10\nlink l3 t2 a1 10\nlink l4 t2 a2 10\n";
+
+const HALF: &[u8] = b"promise t1 t2 50\n";
+
+const HALF_WITH_CR: &[u8] = b"promise t1 t2 50\r\n";
+
+const SIXTY: &[u8] = b"promise t1 t2 60\n";
+
+const WALK: &[u8] = b"promise t1 t2 0\n";
+
+const TO_A_SWITCH: &[u8] = b"promise t1 a1 50\n";
+
+const HEADER: &[u8] = b"statesman 1";
+
+const FIRST: &[u8] = b"app up\npropose dc1 a1.firmware=2\n";
+
+const SECOND: &[u8] = b"propose dc1 a2.firmware=2\n";
+
+const ACCEPTED: &[u8] =
+    b"statesman report 1\ngroup dc1\nversion 1\nentries 2\nreceipt 1 up accepted 1\ntarget a1.firmware=2\nunsettled a1\nwire commands 0 reports 0 stale 0 old 0\npromises 1 start 1 now 1\nend\n";
+
+/// How a call ended, and what it wrote.
+#[derive(Drop)]
+struct Called {
+    outcome: Outcome,
+    text: Vec<u8>,
+}
+
+/// These parts, one behind the other.
+fn joined(alloc: Global, parts: &[&[u8]]) -> Result<Vec<u8>, AllocError> {
+    let mut bytes = Vec::new(alloc);
+    for part in parts {
+        bytes.extend_from_slice(part)?;
+    }
+    Ok(bytes)
+}
+
+fn words_of(alloc: Global, words: &[&str]) -> Result<Vec<String>, AllocError> {
+    let mut list = Vec::new(alloc);
+    for word in words {
+        list.push(format!(in alloc; "{word}")?)?;
+    }
+    Ok(list)
+}
+
+/// A call over a source and a sink that never fail, with a gate.
+fn call_at<R: Threads + Wait + Sync, G: Gate + Sync>(
+    rt: &R,
+    alloc: Global,
+    words: &[&str],
+    parts: &[&[u8]],
+    gate: &G,
+) -> Result<Called, AllocError> {
+    let words = words_of(alloc, words)?;
+    let mut source = SureSource::new(joined(alloc, parts)?);
+    let mut sink = SureSink::new(alloc);
+    let outcome = statesman(rt, alloc, words.as_slice(), &mut source, &mut sink, gate);
+    Ok(Called {
+        outcome,
+        text: sink.bytes().to_vec(alloc)?,
+    })
+}
+
+/// A call over a source and a sink that never fail.
+fn call<R: Threads + Wait + Sync>(
+    rt: &R,
+    alloc: Global,
+    words: &[&str],
+    parts: &[&[u8]],
+) -> Result<Called, AllocError> {
+    call_at(rt, alloc, words, parts, &NoGate)
+}
+
+/// A word for each entry of the journals: what happened, and how it was answered.
+fn entry_words(alloc: Global, outcome: &Outcome) -> Result<Vec<&'static str>, AllocError> {
+    let mut told = Vec::new(alloc);
+    for journal in outcome.journals.as_slice() {
+        for entry in journal.entries.as_slice() {
+            told.push(match (&entry.event, &entry.reply) {
+                (Event::Submit { .. }, Reply::Queued { .. }) => "queued",
+                (Event::Check, Reply::Decided(receipt)) => match receipt.verdict {
+                    Verdict::Accepted { .. } => "accepted",
+                    Verdict::Refused(_) => "refused",
+                },
+                _ => "other",
+            })?;
+        }
+    }
+    Ok(told)
+}
+
+/// What a call is to end with: its status, its text, and a word for each entry of its journals.
+fn ends_as(
+    rt: &impl Abort,
+    alloc: Global,
+    called: &Called,
+    status: Status,
+    text: &[u8],
+    entries: &[&str],
+) -> Result<(), AllocError> {
+    assert_eq!(rt; called.outcome.status, status);
+    assert_eq!(rt; called.text.as_slice(), text);
+    assert_eq!(rt; entry_words(alloc, &called.outcome)?.as_slice(), entries);
+    Ok(())
+}
+
+/// What `serial` is to write of a document of these parts.
+fn writes<R: Abort + Threads + Wait + Sync>(
+    rt: &R,
+    alloc: Global,
+    parts: &[&[u8]],
+    text: &[u8],
+) -> Result<(), AllocError> {
+    let called = call(rt, alloc, &["serial"], parts)?;
+    assert_eq!(rt; called.outcome.status, Status::Ok);
+    assert_eq!(rt; called.text.as_slice(), text);
+    Ok(())
+}
+
+/// What `serial` is to write of the two paths with a promise of half their capacity, these wire lines and this script of one application.
+/// A `run`, of which workers make checks and halves where they come, is only to be Ok.
+fn plant_writes<R: Abort + Threads + Wait + Sync>(
+    rt: &R,
+    alloc: Global,
+    lines: &[u8],
+    script: &[u8],
+    text: &[u8],
+) -> Result<Called, AllocError> {
+    let parts = [TWO_PATHS, HALF, lines, script];
+    let run = call(rt, alloc, &["run"], &parts)?;
+    assert_eq!(rt; run.outcome.status, Status::Ok);
+    let called = call(rt, alloc, &["serial"], &parts)?;
+    assert_eq!(rt; called.outcome.status, Status::Ok);
+    assert_eq!(rt; called.text.as_slice(), text);
+    Ok(called)
+}
+
+/// The reply of entry `n` of the first journal, counted from 1.
+fn reply_of(called: &Called, n: usize) -> Option<&Reply> {
+    match called.outcome.journals.as_slice().first() {
+        Some(journal) => match journal.entries.as_slice().get(n.saturating_sub(1)) {
+            Some(entry) => Some(&entry.reply),
+            None => None,
+        },
+        None => None,
+    }
+}
+
+const UPGRADE: &[u8] = b"app up\npropose dc1 a1.firmware=2\nawait dc1\nsettle dc1 1\n";

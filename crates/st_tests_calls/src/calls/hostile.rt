@@ -1,0 +1,202 @@
+//! What the outside may do: each read and each write that fails, each beginning of a document, each limit, a journal with a line less.
+
+use super::{
+    Called, FIRST, HALF, SECOND, TWO_PATHS, UPGRADE, call, call_at, ends_as, joined, words_of,
+};
+use st_crew::NoGate;
+use st_doc::{DocKind, DocRead, read_doc};
+use st_io::{MemorySink, MemorySource, SureSink};
+use st_top::{Outcome, Status, statesman};
+use std::alloc::{AllocError, Global};
+use std::process::Abort;
+use std::sync::Wait;
+use std::test::Fail;
+use std::thread::Threads;
+
+/// What `serial` comes to on a source of 64 bytes a read, of which one read fails.
+fn read_failing<R: Threads + Wait + Sync>(
+    rt: &R,
+    alloc: Global,
+    parts: &[&[u8]],
+    failing: u32,
+) -> Result<Called, AllocError> {
+    let words = words_of(alloc, &["serial"])?;
+    let mut source = MemorySource::new(joined(alloc, parts)?, 64, vec![in alloc; failing]?);
+    let mut sink = SureSink::new(alloc);
+    let outcome = statesman(rt, alloc, words.as_slice(), &mut source, &mut sink, &NoGate);
+    Ok(Called {
+        outcome,
+        text: sink.bytes().to_vec(alloc)?,
+    })
+}
+
+#[test]
+fn each_failing_read_is_told(rt: HostRuntime) -> Result<(), Fail> {
+    let alloc = rt.alloc();
+    let parts = [TWO_PATHS, HALF, FIRST];
+    // Four reads have the bytes, and a fifth finds the end.
+    for failing in 1..6 {
+        let called = read_failing(&rt, alloc, &parts, failing)?;
+        ends_as(&rt, alloc, &called, Status::ReadFault, b"fault read\n", &[])?;
+    }
+    let called = read_failing(&rt, alloc, &parts, 6)?;
+    assert_eq!(&rt; called.outcome.status, Status::Ok);
+    Ok(())
+}
+
+/// What a call comes to on a sink of 16 bytes a write, of which one write fails, and what the sink holds.
+fn write_failing<R: Threads + Wait + Sync>(
+    rt: &R,
+    alloc: Global,
+    words: &[&str],
+    parts: &[&[u8]],
+    failing: u32,
+) -> Result<(Outcome, Vec<u8>), AllocError> {
+    let words = words_of(alloc, words)?;
+    let mut source = MemorySource::new(joined(alloc, parts)?, 64, Vec::new(alloc));
+    let mut sink = MemorySink::new(alloc, 16, vec![in alloc; failing]?);
+    let outcome = statesman(rt, alloc, words.as_slice(), &mut source, &mut sink, &NoGate);
+    Ok((outcome, sink.bytes().to_vec(alloc)?))
+}
+
+/// Lets each of so many writes fail in turn: the sink holds a beginning of the text, or the write was never made and it holds all of it.
+fn each_write_fails<R: Abort + Threads + Wait + Sync>(
+    rt: &R,
+    alloc: Global,
+    words: &[&str],
+    parts: &[&[u8]],
+    most: u32,
+) -> Result<(), AllocError> {
+    let whole = call(rt, alloc, words, parts)?;
+    let text = whole.text.as_slice();
+    for failing in 1..=most {
+        let (outcome, held) = write_failing(rt, alloc, words, parts, failing)?;
+        let is_told = outcome.status == Status::WriteFault
+            && held.len() < text.len()
+            && text.starts_with(held.as_slice());
+        let is_whole = outcome.status == whole.outcome.status && held.as_slice() == text;
+        assert!(rt; is_told || is_whole);
+        // Each write takes 16 bytes, and the one behind the last is not made.
+        assert_eq!(rt;
+            is_told,
+            (failing as usize).saturating_sub(1) < text.len().div_ceil(16)
+        );
+    }
+    Ok(())
+}
+
+#[test]
+fn each_failing_write_leaves_a_beginning(rt: HostRuntime) -> Result<(), Fail> {
+    let alloc = rt.alloc();
+    each_write_fails(&rt, alloc, &["serial"], &[TWO_PATHS, HALF, FIRST], 200)?;
+    each_write_fails(&rt, alloc, &[], &[], 20)?;
+    Ok(())
+}
+
+#[test]
+fn each_beginning_of_a_document_is_read_as_it_stands(rt: HostRuntime) -> Result<(), Fail> {
+    let alloc = rt.alloc();
+    let text = joined(alloc, &[TWO_PATHS, HALF, FIRST, SECOND])?;
+    let text = text.as_slice();
+    assert!(&rt; text.len() < 1_000);
+    for n in 0..text.len() {
+        let bytes = &text[..n];
+        let is_document = matches!(read_doc(alloc, bytes, false)?, DocRead::Doc(_));
+        let called = call(&rt, alloc, &["serial"], &[bytes])?;
+        assert_eq!(&rt; called.outcome.status == Status::Ok, is_document);
+        assert_eq!(&rt;
+            matches!(called.outcome.status, Status::BadInput { .. }),
+            !is_document
+        );
+    }
+    Ok(())
+}
+
+/// A text, and behind it so many lines of a word, a numbered name and an end.
+fn numbered(
+    alloc: Global,
+    opening: &str,
+    word: &str,
+    end: &str,
+    count: u32,
+) -> Result<Vec<u8>, AllocError> {
+    let mut text = opening.as_bytes().to_vec(alloc)?;
+    for number in 0..count {
+        let line = format!(in alloc; "{word} x{number}{end}\n")?;
+        text.extend_from_slice(line.as_bytes())?;
+    }
+    Ok(text)
+}
+
+/// A document of these parts has its first bad line there.
+fn is_bad<R: Abort + Threads + Wait + Sync>(
+    rt: &R,
+    alloc: Global,
+    parts: &[&[u8]],
+    line: u32,
+    kind: DocKind,
+) -> Result<(), AllocError> {
+    let called = call_at(rt, alloc, &["check"], parts, &NoGate)?;
+    assert_eq!(rt; called.outcome.status, Status::BadInput { line, kind });
+    Ok(())
+}
+
+#[test]
+fn one_more_than_there_may_be_is_a_fault(rt: HostRuntime) -> Result<(), Fail> {
+    let alloc = rt.alloc();
+    let group = "statesman 1\ngroup dc1\n";
+    for (opening, word, end, most, line) in [
+        (group, "device", " switch", 512, 515),
+        (group, "device", " tor", 64, 67),
+        ("statesman 1\n", "group", "", 16, 18),
+        ("statesman 1\n", "app", "", 32, 34),
+    ] {
+        let whole = numbered(alloc, opening, word, end, most)?;
+        let called = call(&rt, alloc, &["check"], &[whole.as_slice()])?;
+        assert_eq!(&rt; called.outcome.status, Status::Ok);
+        let over = numbered(alloc, opening, word, end, most + 1)?;
+        is_bad(&rt, alloc, &[over.as_slice()], line, DocKind::Limit)?;
+    }
+    let rows =
+        b"app up\npropose dc1 t1.power=1 t1.firmware=2 t1.config=3 t1.routing=1 t2.power=1 t2.firmware=2 t2.config=3 t2.routing=1 a1.power=1 a1.firmware=2 a1.config=3 a1.routing=1 a2.power=1 a2.firmware=2 a2.config=3 a2.routing=1 l1.power=1\n";
+    is_bad(&rt, alloc, &[TWO_PATHS, HALF, rows], 13, DocKind::Limit)?;
+    let rounds = b"app up\nsettle dc1 65\n";
+    is_bad(&rt, alloc, &[TWO_PATHS, HALF, rounds], 13, DocKind::Number)?;
+    let link =
+        b"statesman 1\ngroup dc1\ndevice t1 tor\ndevice t2 tor\ndevice a1 switch\ndevice a2 switch\nlink l1 t1 a1 0\n";
+    is_bad(&rt, alloc, &[link], 7, DocKind::Number)?;
+    Ok(())
+}
+
+/// A text without the line that begins so, and the number of that line.
+fn without(alloc: Global, text: &[u8], word: &str) -> Result<(Vec<u8>, u32), AllocError> {
+    let mut left = Vec::new(alloc);
+    let mut number = 0u32;
+    let mut gone = 0;
+    for line in text.split(|byte| *byte == b'\n') {
+        number = number.wrapping_add(1);
+        if line.starts_with(word.as_bytes()) {
+            gone = number;
+        } else {
+            left.extend_from_slice(line)?;
+            left.push(b'\n')?;
+        }
+    }
+    Ok((left, gone))
+}
+
+#[test]
+fn a_journal_without_an_entry_is_told(rt: HostRuntime) -> Result<(), Fail> {
+    let alloc = rt.alloc();
+    let parts = [TWO_PATHS, HALF, b"drop dc1 command 1\n", UPGRADE];
+    let printed = call(&rt, alloc, &["serial", "--form", "replay"], &parts)?;
+    let (text, gone) = without(alloc, printed.text.as_slice(), "5 ")?;
+    let called = call(&rt, alloc, &["replay"], &[text.as_slice()])?;
+    // The next entry stands on the line of the one that is gone.
+    let number = Status::BadInput {
+        line: gone,
+        kind: DocKind::Number,
+    };
+    assert_eq!(&rt; called.outcome.status, number);
+    Ok(())
+}

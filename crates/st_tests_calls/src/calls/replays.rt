@@ -1,0 +1,348 @@
+//! Runs that were printed and are gone through again: whole outputs, altered journals, and every beginning of a printed run.
+
+use super::jobs::{JOURNAL, PRINTED, REPORT};
+use super::{Called, FIRST, HALF, SECOND, TWO_PATHS, call, ends_as, entry_words, joined, words_of};
+use st_crew::NoGate;
+use st_doc::DocKind;
+use st_io::{MemorySink, SureSource};
+use st_top::{Status, statesman};
+use std::alloc::{AllocError, Global};
+use std::process::Abort;
+use std::sync::Wait;
+use std::test::Fail;
+use std::thread::Threads;
+
+/// The lines of the journal's entries.
+const ENTRIES: [&str; 4] = [
+    "1 submit up a1.firmware=2 : queued 1\n",
+    "2 submit up a2.firmware=2 : queued 2\n",
+    "3 check : receipt 1 accepted 1\n",
+    "4 check : receipt 2 refused broken t1 t2 cutoff need 10 has 0 side t1\n",
+];
+
+/// Two groups of one switch each, and an application.
+const TWO_GROUPS: &str =
+    "statesman 1\ngroup g\ndevice a switch\ngroup h\ndevice a switch\napp up\n";
+
+/// The printed run with another line in the place of that of an entry.
+fn altered(alloc: Global, entry: u32, line: &str) -> Result<Vec<u8>, AllocError> {
+    let mut text = joined(alloc, &[PRINTED.as_bytes(), b"journal dc1\n"])?;
+    let mut number = 0u32;
+    for own in ENTRIES {
+        number = number.wrapping_add(1);
+        let taken = if number == entry { line } else { own };
+        text.extend_from_slice(taken.as_bytes())?;
+    }
+    Ok(text)
+}
+
+/// What `replay` is to end with on a text that it refuses: a status, and one line.
+fn refused<R: Abort + Threads + Wait + Sync>(
+    rt: &R,
+    alloc: Global,
+    parts: &[&[u8]],
+    status: Status,
+    line: &str,
+) -> Result<(), AllocError> {
+    let called = call(rt, alloc, &["replay"], parts)?;
+    assert_eq!(rt; called.outcome.status, status);
+    assert_eq!(rt; called.text.as_slice(), line.as_bytes());
+    Ok(())
+}
+
+#[test]
+fn a_printed_run_is_replayed_in_each_form(rt: HostRuntime) -> Result<(), Fail> {
+    let alloc = rt.alloc();
+    let printed = joined(alloc, &[PRINTED.as_bytes(), JOURNAL.as_bytes()])?;
+    let json =
+        "{\"groups\":[{\"entries\":4,\"locks\":[],\"lost\":[],\"name\":\"dc1\",\"now\":1,\"promises\":1,\"receipts\":[\"1 up accepted 1\",\"2 up refused broken t1 t2 cutoff need 10 has 0 side t1\"],\"start\":1,\"targets\":[\"a1.firmware=2\"],\"unsettled\":[\"a1\"],\"version\":1,\"wire\":{\"commands\":0,\"old\":0,\"reports\":0,\"stale\":0}}],\"reads\":[],\"statesman\":1}\n";
+    let cases: [(&[&str], &[u8]); 4] = [
+        (&["replay"], REPORT.as_bytes()),
+        (&["--form", "text", "replay"], REPORT.as_bytes()),
+        (&["replay", "--form=json"], json.as_bytes()),
+        (&["--form=replay", "--", "replay"], printed.as_slice()),
+    ];
+    let entries = ["queued", "queued", "accepted", "refused"];
+    for (words, text) in cases {
+        let called = call(&rt, alloc, words, &[printed.as_slice()])?;
+        ends_as(&rt, alloc, &called, Status::Ok, text, &entries)?;
+        assert_eq!(&rt; called.outcome.logs.as_slice().len(), 0);
+    }
+    Ok(())
+}
+
+#[test]
+fn what_was_read_is_not_replayed(rt: HostRuntime) -> Result<(), Fail> {
+    let alloc = rt.alloc();
+    let script = b"await dc1\nread dc1 a1.firmware\nreadat dc1 0 a1.firmware\n";
+    let parts: [&[u8]; 5] = [TWO_PATHS, HALF, FIRST, SECOND, script];
+    let run = call(&rt, alloc, &["serial"], &parts)?;
+    let ends =
+        "promises 1 start 1 now 1\nread up dc1 a1.firmware version 1 value 2\nread up dc1 a1.firmware at 0 value 1\nend\n";
+    assert!(&rt; run.text.as_slice().ends_with(ends.as_bytes()));
+    let printed = call(&rt, alloc, &["serial", "--form", "replay"], &parts)?;
+    let again = call(&rt, alloc, &["replay"], &[printed.text.as_slice()])?;
+    assert_eq!(&rt; again.text.as_slice(), REPORT.as_bytes());
+    Ok(())
+}
+
+#[test]
+fn a_fat_tree_is_run_and_replayed(rt: HostRuntime) -> Result<(), Fail> {
+    let alloc = rt.alloc();
+    let report =
+        "statesman report 1\ngroup dc1\nversion 2\nentries 48\nlock te c0 high granted\nunlock te c0 high released\nreceipt 1 up accepted 1\nreceipt 2 up accepted 2\nreceipt 3 up refused broken p0e0 p0e1 cutoff need 10 has 0 side p0e0\ntarget p0a0.firmware=2\ntarget p0a1.firmware=2\ntarget p1a0.firmware=2\ntarget p1a1.firmware=2\ntarget p2a0.firmware=2\ntarget p2a1.firmware=2\ntarget p3a0.firmware=2\ntarget p3a1.firmware=2\nwire commands 8 reports 8 stale 0 old 0\npromises 28 start 28 now 28\n";
+    let made = call(&rt, alloc, &["gen", "--seed", "0"], &[])?;
+    let document = made.text.as_slice();
+    let run = call(&rt, alloc, &["serial"], &[document])?;
+    let read = b"read te dc1 p0a0.firmware version 1 value 2\n";
+    let whole = joined(alloc, &[report.as_bytes(), read, b"end\n"])?;
+    assert_eq!(&rt; run.text.as_slice(), whole.as_slice());
+    let printed = call(&rt, alloc, &["serial", "--form=replay"], &[document])?;
+    let again = call(&rt, alloc, &["replay"], &[printed.text.as_slice()])?;
+    let rest = joined(alloc, &[report.as_bytes(), b"end\n"])?;
+    assert_eq!(&rt; again.text.as_slice(), rest.as_slice());
+    Ok(())
+}
+
+#[test]
+fn an_untold_failure_is_replayed(rt: HostRuntime) -> Result<(), Fail> {
+    let alloc = rt.alloc();
+    let journal =
+        b"app up\njournal dc1\n1 fail a2 0 power=1 firmware=1 config=1 routing=1 : changed\n2 submit up a1.routing=0 : queued 1\n3 check : receipt 1 accepted 1\n4 send a1 : sent 1\n5 deliver 1 : begun\n6 finish a1 : done\n7 report a1 : reported 1\n8 hear 1 : taken\n";
+    let called = call(&rt, alloc, &["replay"], &[TWO_PATHS, HALF, journal])?;
+    let text =
+        b"statesman report 1\ngroup dc1\nversion 1\nentries 8\nreceipt 1 up accepted 1\ntarget a1.routing=0\nwire commands 1 reports 1 stale 0 old 0\npromises 1 start 1 now 0\nlost t1 t2\nend\n";
+    assert_eq!(&rt; called.text.as_slice(), text.as_slice());
+    Ok(())
+}
+
+#[test]
+fn an_altered_reply_is_found(rt: HostRuntime) -> Result<(), Fail> {
+    let alloc = rt.alloc();
+    let cases = [
+        (1, "1 submit up a1.firmware=2 : queued 2\n"),
+        (1, "1 submit up a1.firmware=2 : full 64\n"),
+        (2, "2 submit up a2.firmware=2 : queued 1\n"),
+        (3, "3 check : idle\n"),
+        (3, "3 check : receipt 2 accepted 1\n"),
+        (3, "3 check : receipt 1 accepted 2\n"),
+        (3, "3 check : receipt 1 refused locked a1 up low\n"),
+        (3, "3 check : receipt 1 refused off a1.firmware=2\n"),
+        (4, "4 check : receipt 2 accepted 2\n"),
+        (
+            4,
+            "4 check : receipt 2 refused broken t1 t2 short need 10 has 0 side t1\n",
+        ),
+        (
+            4,
+            "4 check : receipt 2 refused broken t1 t2 cutoff need 9 has 0 side t1\n",
+        ),
+        (
+            4,
+            "4 check : receipt 2 refused broken t1 t2 cutoff need 10 has 1 side t1\n",
+        ),
+        (
+            4,
+            "4 check : receipt 2 refused broken t1 t2 cutoff need 10 has 0 side t1 a1\n",
+        ),
+    ];
+    let lines = [
+        "",
+        "fault illegal dc1 1\n",
+        "fault illegal dc1 2\n",
+        "fault illegal dc1 3\n",
+        "fault illegal dc1 4\n",
+    ];
+    for (entry, line) in cases {
+        let text = altered(alloc, entry, line)?;
+        let told = lines.get(entry as usize).copied().unwrap_or("");
+        refused(
+            &rt,
+            alloc,
+            &[text.as_slice()],
+            Status::Illegal { group: 0, entry },
+            told,
+        )?;
+    }
+    Ok(())
+}
+
+#[test]
+fn the_first_group_that_is_not_legal_is_named(rt: HostRuntime) -> Result<(), Fail> {
+    let alloc = rt.alloc();
+    let text = "journal g\n1 check : idle\njournal h\n1 check : idle\n2 finish a : done\n";
+    let status = Status::Illegal { group: 1, entry: 2 };
+    refused(
+        &rt,
+        alloc,
+        &[TWO_GROUPS.as_bytes(), text.as_bytes()],
+        status,
+        "fault illegal h 2\n",
+    )?;
+    let text = "journal g\n1 finish a : done\njournal h\n1 finish a : done\n";
+    let status = Status::Illegal { group: 0, entry: 1 };
+    refused(
+        &rt,
+        alloc,
+        &[TWO_GROUPS.as_bytes(), text.as_bytes()],
+        status,
+        "fault illegal g 1\n",
+    )?;
+    let text = "journal h\n1 send a : settled\n";
+    let called = call(
+        &rt,
+        alloc,
+        &["replay"],
+        &[TWO_GROUPS.as_bytes(), text.as_bytes()],
+    )?;
+    assert_eq!(&rt; called.outcome.status, Status::Ok);
+    assert_eq!(&rt; called.outcome.journals.as_slice().len(), 2);
+    Ok(())
+}
+
+#[test]
+fn a_bad_line_of_a_journal_is_told(rt: HostRuntime) -> Result<(), Fail> {
+    let alloc = rt.alloc();
+    let cases = [
+        (
+            "1 check : idle\n",
+            7,
+            DocKind::Word,
+            "fault input line 7 word\n",
+        ),
+        (
+            "journal g\ndevice b switch\n",
+            8,
+            DocKind::Word,
+            "fault input line 8 word\n",
+        ),
+        (
+            "journals g\n",
+            7,
+            DocKind::Word,
+            "fault input line 7 word\n",
+        ),
+        (
+            "journal g\n1 check idle\n",
+            8,
+            DocKind::Count,
+            "fault input line 8 count\n",
+        ),
+        (
+            "journal g\n2 check : idle\n",
+            8,
+            DocKind::Number,
+            "fault input line 8 number\n",
+        ),
+        (
+            "journal g\n1 check : changed\n",
+            8,
+            DocKind::Value,
+            "fault input line 8 value\n",
+        ),
+        (
+            "journal g\n1 send b : settled\n",
+            8,
+            DocKind::Unknown,
+            "fault input line 8 unknown\n",
+        ),
+        (
+            "journal i\n",
+            7,
+            DocKind::Unknown,
+            "fault input line 7 unknown\n",
+        ),
+        (
+            "journal h\njournal g\n",
+            8,
+            DocKind::Twice,
+            "fault input line 8 twice\n",
+        ),
+        (
+            "journal g\njournal g\n",
+            8,
+            DocKind::Twice,
+            "fault input line 8 twice\n",
+        ),
+        (
+            "journal g\n1 check : idl\u{1}\n",
+            8,
+            DocKind::Byte,
+            "fault input line 8 byte\n",
+        ),
+    ];
+    for (journal, line, kind, told) in cases {
+        let parts: [&[u8]; 2] = [TWO_GROUPS.as_bytes(), journal.as_bytes()];
+        refused(&rt, alloc, &parts, Status::BadInput { line, kind }, told)?;
+    }
+    Ok(())
+}
+
+#[test]
+fn other_commands_take_no_journal(rt: HostRuntime) -> Result<(), Fail> {
+    let alloc = rt.alloc();
+    let word = Status::BadInput {
+        line: 15,
+        kind: DocKind::Word,
+    };
+    for command in ["serial", "run", "check"] {
+        let called = call(
+            &rt,
+            alloc,
+            &[command],
+            &[PRINTED.as_bytes(), JOURNAL.as_bytes()],
+        )?;
+        ends_as(
+            &rt,
+            alloc,
+            &called,
+            word,
+            b"fault input line 15 word\n",
+            &[],
+        )?;
+    }
+    Ok(())
+}
+
+/// Whether a call ended as one on a beginning of a printed run may end: well, at a bad line, or at the last entry that it has.
+fn is_beginning(alloc: Global, called: &Called) -> Result<bool, AllocError> {
+    let entries = entry_words(alloc, &called.outcome)?.len();
+    Ok(match called.outcome.status {
+        Status::Ok | Status::BadInput { .. } => true,
+        Status::Illegal { group: 0, entry } => entry as usize == entries,
+        _ => false,
+    })
+}
+
+#[test]
+fn every_beginning_of_a_printed_run_is_replayed_or_refused(rt: HostRuntime) -> Result<(), Fail> {
+    let alloc = rt.alloc();
+    let text = joined(alloc, &[PRINTED.as_bytes(), JOURNAL.as_bytes()])?;
+    for n in 0..text.len() {
+        let called = call(&rt, alloc, &["replay"], &[&text.as_slice()[..n]])?;
+        let is_well = is_beginning(alloc, &called)?;
+        assert!(&rt; is_well);
+    }
+    Ok(())
+}
+
+#[test]
+fn a_failing_sink_leaves_the_journals(rt: HostRuntime) -> Result<(), Fail> {
+    let alloc = rt.alloc();
+    let words = words_of(alloc, &["replay"])?;
+    let mut source = SureSource::new(joined(alloc, &[PRINTED.as_bytes(), JOURNAL.as_bytes()])?);
+    let mut sink = MemorySink::new(alloc, 16, vec![in alloc; 2]?);
+    let outcome = statesman(
+        &rt,
+        alloc,
+        words.as_slice(),
+        &mut source,
+        &mut sink,
+        &NoGate,
+    );
+    assert_eq!(rt; outcome.status, Status::WriteFault);
+    assert_eq!(rt; sink.bytes(), b"statesman report".as_slice());
+    let told = entry_words(alloc, &outcome)?;
+    assert_eq!(rt; told.len(), 4);
+    Ok(())
+}

@@ -1,0 +1,276 @@
+//! `run`: scripts by threads. Where the order in which threads come matters, a gate holds them.
+
+use super::gates::{Behind, Checked, Halves, Leader, Meeting, Relay};
+use super::{Called, FIRST, HALF, TWO_PATHS, call, call_at, reply_of};
+use st_crew::{Gate, NoGate};
+use st_doc::DocKind;
+use st_event::{LogSaw, Reply};
+use st_top::Status;
+use std::alloc::{AllocError, Global};
+use std::process::Abort;
+use std::sync::Wait;
+use std::test::Fail;
+use std::thread::Threads;
+
+/// A run of a document of these parts, by threads.
+fn run<R: Threads + Wait + Sync, G: Gate + Sync>(
+    rt: &R,
+    alloc: Global,
+    parts: &[&[u8]],
+    gate: &G,
+) -> Result<Called, AllocError> {
+    call_at(rt, alloc, &["run"], parts, gate)
+}
+
+#[test]
+fn what_was_accepted_is_read(rt: HostRuntime) -> Result<(), Fail> {
+    let alloc = rt.alloc();
+    let script = b"await dc1\nread dc1 a1.firmware\n";
+    let called = run(&rt, alloc, &[TWO_PATHS, HALF, FIRST, script], &NoGate)?;
+    let text =
+        b"statesman report 1\ngroup dc1\nversion 1\nentries 2\nreceipt 1 up accepted 1\ntarget a1.firmware=2\nunsettled a1\nwire commands 0 reports 0 stale 0 old 0\npromises 1 start 1 now 1\nread up dc1 a1.firmware version 1 value 2\nend\n";
+    assert_eq!(&rt; called.outcome.status, Status::Ok);
+    assert_eq!(&rt; called.text.as_slice(), text.as_slice());
+    Ok(())
+}
+
+#[test]
+fn two_applications_work_at_once(rt: HostRuntime) -> Result<(), Fail> {
+    let alloc = rt.alloc();
+    let scripts = b"app up\nread dc1 a1.firmware\napp te\nread dc1 a1.firmware\n";
+    let gate = Meeting::of(2);
+    let called = run(&rt, alloc, &[TWO_PATHS, HALF, scripts], &gate)?;
+    let text =
+        b"statesman report 1\ngroup dc1\nversion 0\nentries 0\nwire commands 0 reports 0 stale 0 old 0\npromises 1 start 1 now 1\nread up dc1 a1.firmware version 0 value 1\nread te dc1 a1.firmware version 0 value 1\nend\n";
+    assert!(&rt; gate.was_kept());
+    assert_eq!(&rt; called.text.as_slice(), text.as_slice());
+    Ok(())
+}
+
+#[test]
+fn a_reader_sees_what_it_was_not_told(rt: HostRuntime) -> Result<(), Fail> {
+    let alloc = rt.alloc();
+    let scripts =
+        b"await dc1\nread dc1 a1.firmware\napp te\nread dc1 a1.firmware\nread dc1 a1.firmware\n";
+    let gate = Leader::of(0, 1);
+    let called = run(&rt, alloc, &[TWO_PATHS, HALF, FIRST, scripts], &gate)?;
+    assert!(&rt; gate.was_kept(2));
+    assert_eq!(&rt; called.outcome.status, Status::Ok);
+    // The second read of `te`, which took no lock, stands behind all that `up` did.
+    let seen = match called.outcome.logs.as_slice().get(1) {
+        Some(log) => log.entries.as_slice().get(1).map(|line| line.saw),
+        None => None,
+    };
+    let accepted = LogSaw::Seen {
+        version: 1,
+        value: 2,
+    };
+    assert_eq!(&rt; seen, Some(accepted));
+    Ok(())
+}
+
+/// An application that proposes and awaits, and one that locks a link and reads.
+const WAITS: &[u8] = b"app up\npropose dc1 a1.firmware=2\nawait dc1\n";
+
+const LOCKS: &[u8] = b"app te\nlock dc1 l1 low\nread dc1 a1.firmware\n";
+
+/// What they come to, where the read went ahead of the judgement.
+const JUDGED: &[u8] =
+    b"statesman report 1\ngroup dc1\nversion 1\nentries 3\nlock te l1 low granted\nreceipt 1 up accepted 1\ntarget a1.firmware=2\nunsettled a1\nwire commands 0 reports 0 stale 0 old 0\npromises 1 start 1 now 1\nread te dc1 a1.firmware version 0 value 1\nend\n";
+
+#[test]
+fn a_proposal_is_judged_while_others_hold_the_lock(rt: HostRuntime) -> Result<(), Fail> {
+    let alloc = rt.alloc();
+    let gate = Behind::judgements(1);
+    let called = run(&rt, alloc, &[TWO_PATHS, HALF, WAITS, LOCKS], &gate)?;
+    assert!(&rt; gate.was_kept());
+    assert_eq!(&rt; called.text.as_slice(), JUDGED);
+    let gate = Behind::judgements(0);
+    let called = run(&rt, alloc, &[TWO_PATHS, HALF, LOCKS, WAITS], &gate)?;
+    assert!(&rt; gate.was_kept());
+    assert_eq!(&rt; called.text.as_slice(), JUDGED);
+    Ok(())
+}
+
+/// Sixteen groups of a switch, and an application that proposes four times to each, group after group, and reads.
+fn sixteen_groups(alloc: Global) -> Result<Vec<u8>, AllocError> {
+    let mut text = b"statesman 1\n".to_vec(alloc)?;
+    for group in 0..16u32 {
+        let lines = format!(in alloc; "group g{group}\ndevice a switch\n")?;
+        text.extend_from_slice(lines.as_bytes())?;
+    }
+    text.extend_from_slice(b"app up\n")?;
+    for line in 0..64u32 {
+        let group = line % 16;
+        let line = format!(in alloc; "propose g{group} a.config=2\n")?;
+        text.extend_from_slice(line.as_bytes())?;
+    }
+    text.extend_from_slice(b"read g0 a.config\n")?;
+    Ok(text)
+}
+
+#[test]
+fn a_checker_judges_what_nobody_awaits(rt: HostRuntime) -> Result<(), Fail> {
+    let alloc = rt.alloc();
+    let text = sixteen_groups(alloc)?;
+    // Checkers may look before there are proposals, as often as they look at all, but not each of them each time.
+    for _time in 0..200 {
+        let gate = Checked::new();
+        let called = run(&rt, alloc, &[text.as_slice()], &gate)?;
+        assert_eq!(&rt; called.outcome.status, Status::Ok);
+        if gate.was_seen() {
+            return Ok(());
+        }
+    }
+    Err(Fail::new("no checker came"))
+}
+
+#[test]
+fn an_updater_and_a_monitor_settle_what_was_accepted(rt: HostRuntime) -> Result<(), Fail> {
+    let alloc = rt.alloc();
+    let script =
+        b"app up\npropose dc1 a1.firmware=2 a2.firmware=2\nawait dc1\nread dc1 a1.firmware\nsettle dc1 1\nsettle dc1 1\n";
+    let gate = Relay::new();
+    let called = run(&rt, alloc, &[TWO_PATHS, script], &gate)?;
+    let text =
+        b"statesman report 1\ngroup dc1\nversion 1\nentries 12\nreceipt 1 up accepted 1\ntarget a1.firmware=2\ntarget a2.firmware=2\nwire commands 2 reports 2 stale 0 old 0\npromises 0 start 0 now 0\nread up dc1 a1.firmware version 1 value 2\nend\n";
+    assert!(&rt; gate.was_kept());
+    assert_eq!(&rt; called.text.as_slice(), text.as_slice());
+    // The updater's half is of both switches, and then the monitor's: a round would have a report behind each command.
+    assert!(rt; matches!(reply_of(&called, 6), Some(Reply::Sent { command: 2 })));
+    assert!(rt; matches!(reply_of(&called, 9), Some(Reply::Reported { report: 1 })));
+    Ok(())
+}
+
+#[test]
+fn an_updater_and_a_monitor_work_beside_a_reader(rt: HostRuntime) -> Result<(), Fail> {
+    let alloc = rt.alloc();
+    let script = b"app te\nread dc1 a1.firmware\nsettle dc1 1\n";
+    let gate = Halves::of(0);
+    let called = run(&rt, alloc, &[TWO_PATHS, HALF, script], &gate)?;
+    let text =
+        b"statesman report 1\ngroup dc1\nversion 0\nentries 0\nwire commands 0 reports 0 stale 0 old 0\npromises 1 start 1 now 1\nread te dc1 a1.firmware version 0 value 1\nend\n";
+    assert!(&rt; gate.was_kept(1));
+    assert_eq!(&rt; called.text.as_slice(), text.as_slice());
+    Ok(())
+}
+
+#[test]
+fn as_many_applications_as_there_may_be_read_at_once(rt: HostRuntime) -> Result<(), Fail> {
+    let alloc = rt.alloc();
+    let mut scripts = Vec::new(alloc);
+    for app in 0..32u32 {
+        let script = format!(in alloc;
+            "app a{app}\nread dc1 a1.firmware\npropose dc1 a1.config=2\nsettle dc1 1\n"
+        )?;
+        scripts.extend_from_slice(script.as_bytes())?;
+    }
+    let gate = Meeting::of(32);
+    let called = run(&rt, alloc, &[TWO_PATHS, HALF, scripts.as_slice()], &gate)?;
+    assert!(&rt; gate.was_kept());
+    assert_eq!(&rt; called.outcome.status, Status::Ok);
+    assert_eq!(&rt; called.outcome.logs.as_slice().len(), 32);
+    Ok(())
+}
+
+/// A second group, and four applications that change a group each, of which two share one. Each group has a checker, an updater and a
+/// monitor beside them.
+const FOUR: &[u8] =
+    b"group dc2\ndevice t1 tor\ndevice t2 tor\ndevice a1 switch\nlink l1 t1 a1 10\nlink l2 t2 a1 10\npromise t1 t2 0\napp up\nread dc1 a1.config\npropose dc1 a1.config=2\nawait dc1\nread dc1 a1.config\napp te\nread dc1 a1.config\npropose dc1 a1.config=3\nawait dc1\nread dc1 a1.config\nsettle dc1 2\napp third\nread dc2 a1.config\npropose dc2 a1.config=2\nawait dc2\nread dc2 a1.config\napp fourth\nread dc2 a1.config\npropose dc2 a1.config=3\nawait dc2\nread dc2 a1.config\nsettle dc2 2\n";
+
+/// Runs the four applications with this gate, prints the run, and lets it be replayed. Gives what was printed.
+fn printed_and_replayed<R: Abort + Threads + Wait + Sync, G: Gate + Sync>(
+    rt: &R,
+    alloc: Global,
+    gate: &G,
+) -> Result<Called, AllocError> {
+    let words = ["run", "--form", "replay"];
+    let printed = call_at(rt, alloc, &words, &[TWO_PATHS, HALF, FOUR], gate)?;
+    assert_eq!(rt; printed.outcome.status, Status::Ok);
+    let words = ["replay", "--form", "replay"];
+    let again = call(rt, alloc, &words, &[printed.text.as_slice()])?;
+    assert_eq!(rt; again.outcome.status, Status::Ok);
+    assert_eq!(rt; again.text.as_slice(), printed.text.as_slice());
+    Ok(printed)
+}
+
+#[test]
+fn several_orders_are_replayed(rt: HostRuntime) -> Result<(), Fail> {
+    let alloc = rt.alloc();
+    let mut led = Vec::new(alloc);
+    for app in 0..4 {
+        let gate = Leader::of(app, 2);
+        led.push(printed_and_replayed(&rt, alloc, &gate)?)?;
+        assert!(&rt; gate.was_kept(6));
+    }
+    // Who goes ahead proposes first to its group, so there are several journals.
+    assert_eq!(&rt; led.len(), 4);
+    assert!(&rt; led[0].text.as_slice() != led[1].text.as_slice());
+    assert!(&rt; led[2].text.as_slice() != led[3].text.as_slice());
+    for _time in 0..196 {
+        let _free = printed_and_replayed(&rt, alloc, &NoGate)?;
+    }
+    Ok(())
+}
+
+#[test]
+fn a_bad_document_is_not_run(rt: HostRuntime) -> Result<(), Fail> {
+    let alloc = rt.alloc();
+    let called = run(&rt, alloc, &[b"statesman 2\n"], &NoGate)?;
+    let bad = Status::BadInput {
+        line: 1,
+        kind: DocKind::Header,
+    };
+    assert_eq!(&rt; called.outcome.status, bad);
+    assert_eq!(&rt;
+        called.text.as_slice(),
+        b"fault input line 1 header\n".as_slice()
+    );
+    let long = vec![in alloc; b'#'; 1_048_577]?;
+    let called = run(&rt, alloc, &[long.as_slice()], &NoGate)?;
+    assert_eq!(&rt; called.outcome.status, Status::TooLong);
+    assert_eq!(&rt; called.text.as_slice(), b"fault long\n".as_slice());
+    Ok(())
+}
+
+/// A second group.
+const SECOND: &[u8] =
+    b"group dc2\ndevice t1 tor\ndevice t2 tor\ndevice a1 switch\nlink l1 t1 a1 10\nlink l2 t2 a1 10\n";
+
+/// An application of the second group, and one that fills the journal of the first with a switch that failed before anything was sent to
+/// it, so that it can't settle. It reads then.
+const FILLING: &[u8] =
+    b"app te\npropose dc2 a1.config=2\nawait dc2\nread dc2 a1.config\napp up\npropose dc2 a1.firmware=2\npropose dc1 a1.firmware=2\nawait dc1\nfail dc1 a1 0\npoll dc1 a1\nread dc1 a1.firmware\n";
+
+fn filling_scripts(alloc: Global) -> Result<Vec<u8>, AllocError> {
+    let mut scripts = FILLING.to_vec(alloc)?;
+    for _line in 0..782 {
+        scripts.extend_from_slice(b"settle dc1 64\n")?;
+    }
+    scripts.extend_from_slice(b"read dc2 a1.config\n")?;
+    Ok(scripts)
+}
+
+#[test]
+fn a_full_journal_stops_who_meets_it_alone(rt: HostRuntime) -> Result<(), Fail> {
+    let alloc = rt.alloc();
+    let scripts = filling_scripts(alloc)?;
+    let parts = [TWO_PATHS, HALF, SECOND, scripts.as_slice()];
+    // The updater and the monitor come behind the failure.
+    let gate = Behind::halves(1);
+    let called = run(&rt, alloc, &parts, &gate)?;
+    assert!(&rt; gate.was_kept());
+    assert_eq!(&rt; called.outcome.status, Status::JournalFull { group: 0 });
+    assert_eq!(&rt; called.text.as_slice(), b"fault full dc1\n".as_slice());
+    let journals = called.outcome.journals.as_slice();
+    assert_eq!(&rt; journals.len(), 2);
+    assert_eq!(&rt; journals[0].entries.as_slice().len(), 200_000);
+    // The other application did all of its commands, and nothing is left pending in the other group.
+    assert_eq!(&rt; journals[1].entries.as_slice().len(), 4);
+    let logs = called.outcome.logs.as_slice();
+    assert_eq!(&rt; logs.len(), 2);
+    assert_eq!(&rt; logs[0].entries.as_slice().len(), 1);
+    // And the one that met the full journal did nothing behind it.
+    assert_eq!(&rt; logs[1].entries.as_slice().len(), 1);
+    Ok(())
+}

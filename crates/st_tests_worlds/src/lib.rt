@@ -1,0 +1,5 @@
+//! Tests of worlds: worked courses of events.
+#![tactic(auto)]
+
+#[cfg(test)]
+mod worlds;
