@@ -13,13 +13,13 @@ ghost use Rattle.st_event.specs.declared.event.Proposal.{Proposal};
 ghost use Rattle.st_event.specs.declared.reply.Cause.TheVariants.{Broken as broken_cause};
 ghost use Rattle.st_event.specs.declared.reply.Reply.TheVariants.{Decided as decided_reply};
 ghost use Rattle.st_event.specs.Standing.{sure_in, settled_in};
-ghost use Rattle.st_locks.specs.LockRows.{LocksOf};
-ghost use Rattle.st_store.specs.Store.{IsStoreOf, proposal_of};
+ghost use Rattle.st_locks.specs.LockRows.{LocksOf, holder_in};
+ghost use Rattle.st_store.specs.Store.{IsStart as is_start_store, IsStoreOf, proposal_of};
 ghost use Rattle.st_control.specs.Control.{IsSameButRuns, Moves, Sends, Hears, OldChangesNothing, IsStart, standing_in, reply_of_put, reply_of_check, reply_of_grant, reply_of_release};
 ghost use Rattle.st_control.specs.Verdict.{IsFirst, IsLatest, first_broken_without, sure_without, AreJudgedIn, IsJudgedIn, decided_as};
-ghost use Rattle.st_promise.specs.Book.{AreKept};
+ghost use Rattle.st_promise.specs.Book.{AreKept, IsBookOf};
 ghost use Rattle.st_control.specs.Commits.{Begins, MayCommit, Commits};
-ghost use Rattle.st_net.specs.InOrder.{entity_count};
+ghost use Rattle.st_net.specs.InOrder.{entity_count, stamp_in};
 ghost use Rattle.st_control.specs.Sure.{MarksShown};
 
 use crate::basis::{Basis, Judged};
@@ -152,16 +152,42 @@ impl Model for Control {
     ghost invariant = { λ c. IsConsistent (checker_of c) (arc_value c.shared) };
 }
 
+/// The book of a group, and a copy of the group that can be shared.
+fn opening_book(
+    alloc: Global,
+    topo: &GroupTopo,
+) -> Result<(Book, Arc<GroupTopo, Global>), AllocError>
+    ensures book { IfOk result (λ parts. IsBookOf topo.now parts.0.of) }
+    ensures no_runs { IfOk result (λ parts. parts.0.flows_run ≡ 0) }
+    ensures shared { IfOk result (λ parts. arc_value parts.1 ≡ topo.now) }
+{
+    let book = Book::start(alloc, topo)?;
+    Ok((book, shared_copy(alloc, topo)?))
+}
+
+/// What is kept of a group's entities at its opening: values and reports, stamps, and locks.
+fn opening_tables(
+    alloc: Global,
+    topo: &GroupTopo,
+) -> Result<(Store, Vec<u32>, LockTable), AllocError>
+    ensures store { IfOk result (λ parts. is_start_store topo.now parts.0) }
+    ensures count { IfOk result (λ parts. length parts.1.items ≡ entity_count topo.now) }
+    ensures opening { IfOk result (λ parts. stamp_in topo.now parts.1.items ≡ (λ e. 0)) }
+    ensures locks { IfOk result (λ parts. LocksOf topo.now parts.2) }
+    ensures free { IfOk result (λ parts. holder_in parts.2 ≡ (λ e prio. None)) }
+{
+    let store = Store::start(alloc, topo)?;
+    let stamps = opening_stamps(alloc, topo)?;
+    Ok((store, stamps, LockTable::start(alloc, topo)?))
+}
+
 impl Control {
     /// The checker of a group at its opening.
     pub fn start(alloc: Global, topo: GroupTopo) -> Result<Control, AllocError>
         ensures { IfOk result (IsStart topo) }
     {
-        let book = Book::start(alloc, &topo)?;
-        let store = Store::start(alloc, &topo)?;
-        let stamps = opening_stamps(alloc, &topo)?;
-        let locks = LockTable::start(alloc, &topo)?;
-        let shared = shared_copy(alloc, &topo)?;
+        let (book, shared) = opening_book(alloc, &topo)?;
+        let (store, stamps, locks) = opening_tables(alloc, &topo)?;
         Ok(Control {
             alloc,
             topo,

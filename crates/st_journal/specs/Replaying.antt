@@ -1,6 +1,6 @@
 -- What comes of a journal that is replayed: a world that went through all of it, or the first entry whose reply is not the one that is
 -- called for.
-use Rattle.std.specs.Prelude.{◌≡◌, ◌≢◌, ℕ, ◌+◌, List, [], ◌∷◌, ◌++◌, length, reverse}
+use Rattle.std.specs.Prelude.{Result, Ok, Err, Option, Some, None, ◌≡◌, ◌≢◌, ℕ, ◌+◌, List, [], ◌∷◌, ◌++◌, length, reverse}
 use Rattle.st_net.specs.Groups.{Group}
 use Rattle.st_event.specs.declared.journal.Entry.{Entry}
 use Rattle.st_event.specs.Legal.{Fits, IsLegal}
@@ -32,6 +32,11 @@ pub record IsFirstWrong (g : Group) (entries : List Entry) (n : ℕ) : Type 0 wh
 abbrev pub Replays : Group → List Entry → Replayed → Type 0
 Replays g entries (Legal world) = IsReplayOf g entries world
 Replays g entries (Illegal n) = IsFirstWrong g entries n
+
+-- an item is given back exactly where there is no number
+abbrev pub IsBackUnless : {T E : Type 0} → T → Result (Option ℕ) E → Result T ℕ → Type 0
+IsBackUnless item first (Ok back) = (back ≡ item) × (first ≡ Ok None)
+IsBackUnless item first (Err n) = first ≡ Ok (Some n)
 
 -- a journal with a first wrong entry is not legal, and has one such entry
 abbrev pub WrongIsIllegal : Type 0

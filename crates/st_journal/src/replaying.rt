@@ -1,11 +1,11 @@
 //! Journals are replayed here: a group goes through a journal's events again, and each reply is compared with the one that is called
 //! for. The entries come from a journal that was read or kept; the world is handed on to reports.
 
-ghost use Rattle.std.specs.Prelude.{◌≡◌, ◌↔◌, ◌≤◌, ◌<◌, All, IfOk, IsTrue, length};
+ghost use Rattle.std.specs.Prelude.{◌≡◌, ◌↔◌, ◌≤◌, ◌<◌, [], All, IfOk, IsTrue, MatchOption, length};
 ghost use Rattle.st_event.specs.History.{with_entry};
 ghost use Rattle.st_event.specs.Replies.{reply};
 ghost use Rattle.st_event.specs.Services.{entry_after};
-ghost use Rattle.st_journal.specs.Replaying.{EventFits, Replays};
+ghost use Rattle.st_journal.specs.Replaying.{EventFits, IsBackUnless, IsFirstWrong, IsReplayOf, Replays};
 
 use crate::same::is_same_reply;
 use st_event::{Entry, MAX_ENTRIES};
@@ -37,6 +37,42 @@ fn is_replied(alloc: Global, world: &mut World, entry: &Entry) -> Result<bool, A
     }
 }
 
+/// Lets a world at its opening go through entries, the oldest first, up to the first whose reply is not the one that is called for, and
+/// gives the number of that one, from 1.
+fn first_wrong(
+    alloc: Global,
+    world: &mut World,
+    entries: &[Entry],
+) -> Result<Option<u32>, AllocError>
+    requires opening { world.old.history.past ≡ [] }
+    requires lines { world.old.lines ≡ [] }
+    requires few { length entries.now ≤ MAX_ENTRIES }
+    requires fits { All (EventFits world.old.history.group) entries.now }
+    ensures { IfOk result (λ first. MatchOption first (IsReplayOf world.old.history.group entries.now world.new) (IsFirstWrong world.old.history.group entries.now)) }
+{
+    for (i, entry) in entries.iter().enumerate() {
+        if !is_replied(alloc, world, entry)? {
+            world.is_legal();
+            return Ok(Some(i as u32 + 1));
+        }
+    }
+    world.is_legal();
+    Ok(None)
+}
+
+/// An item back, where there is no number.
+fn unless_wrong<T: Drop>(
+    item: T,
+    first: Result<Option<u32>, AllocError>,
+) -> Result<Result<T, u32>, AllocError>
+    ensures { IfOk result (IsBackUnless item first) }
+{
+    match first? {
+        Some(n) => Ok(Err(n)),
+        None => Ok(Ok(item)),
+    }
+}
+
 /// Lets a group go through a journal, the oldest entry first: at most 200,000 entries, each with an event that a step of the group may
 /// enter. `Legal` comes exactly where each reply is the one that the entries before it call for, and its world has the group, no wire
 /// lines, and the whole journal. `Illegal` names the first entry whose reply is another. Takes the time of as many steps, and the memory
@@ -48,14 +84,9 @@ pub fn replay(alloc: Global, topo: GroupTopo, entries: &[Entry]) -> Result<Repla
 {
     let plan = LossPlan::from_lines(alloc, Vec::new(alloc));
     let mut world = World::start(alloc, topo, plan)?;
-    for (i, entry) in entries.iter().enumerate() {
-        if !is_replied(alloc, &mut world, entry)? {
-            world.is_legal();
-            return Ok(Replayed::Illegal {
-                entry: i as u32 + 1,
-            });
-        }
+    let first = first_wrong(alloc, &mut world, entries);
+    match unless_wrong(world, first)? {
+        Ok(world) => Ok(Replayed::Legal(world)),
+        Err(entry) => Ok(Replayed::Illegal { entry }),
     }
-    world.is_legal();
-    Ok(Replayed::Legal(world))
 }

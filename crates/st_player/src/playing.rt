@@ -16,7 +16,8 @@ use st_doc::{Doc, DocRead, read_doc};
 use st_event::Journal;
 use st_journal::JournalsRead;
 use st_net::{GroupTopo, Parts};
-use st_replay::{Again, Status, app_names, journals_read, replay_all, status_line, topos_of};
+use st_replay::{Again, Status, app_names, journals_read, replay_all, status_line};
+use st_serial::topos_of;
 use st_text::Text;
 use std::alloc::{AllocError, Global};
 

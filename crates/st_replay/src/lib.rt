@@ -6,5 +6,5 @@ mod replaying;
 mod status;
 
 pub use args::after_name;
-pub use replaying::{Again, app_names, journals_read, replay_all, topos_of};
+pub use replaying::{Again, app_names, journals_read, replay_all};
 pub use status::{Status, status_line};

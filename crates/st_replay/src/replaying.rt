@@ -1,10 +1,8 @@
 //! A text is gone through again: a document is read with its journals, and these lead to worlds, or to the first entry that is not legal.
 
-ghost use Rattle.std.specs.Prelude.{◌≡◌, ◌≤◌, ◌<◌, ◌^◌, All, length, map, IfOk};
+ghost use Rattle.std.specs.Prelude.{◌≡◌, ◌≤◌, ◌<◌, ◌^◌, All, length, IfOk};
 ghost use Rattle.st_io.specs.declared.reading.TheConstants.{MAX_BYTES};
-ghost use Rattle.st_net.specs.Faults.{group_of};
 ghost use Rattle.st_grammar.specs.Reading.{IsPlaceWithin};
-ghost use Rattle.st_grammar.specs.Sound.{IsSoundGroup};
 ghost use Rattle.st_journal.specs.JournalReading.{journals_in, AreJournalsOf, HasOneOfEach, Reads as ReadsJournals};
 ghost use Rattle.st_replay.specs.Again.{IsAgain};
 ghost use Rattle.st_replay.specs.Replaying.{app_names as app_names_lem, journal_bytes, journal_line, HasFewEntries, HaveFewEntries};
@@ -12,8 +10,7 @@ ghost use Rattle.st_replay.specs.Replaying.{app_names as app_names_lem, journal_
 use st_doc::Doc;
 use st_event::Journal;
 use st_journal::{JournalsRead, Replayed, read_journals, replay};
-use st_net::{GroupTopo, Name, Parts};
-use st_serial::topo_of;
+use st_net::{GroupTopo, Name};
 use st_world::World;
 use std::alloc::{AllocError, Global};
 
@@ -34,18 +31,6 @@ pub fn app_names(alloc: Global, doc: &Doc) -> Result<Vec<Name>, AllocError>
         names.push(script.name.copy(alloc)?)?;
     }
     Ok(names)
-}
-
-/// A topology of each group of a document, in order.
-pub fn topos_of(alloc: Global, groups: &[Parts]) -> Result<Vec<GroupTopo>, AllocError>
-    requires { All IsSoundGroup groups.now }
-    ensures { IfOk result (λ topos. topos.items ≡ map group_of groups.now) }
-{
-    let mut topos = Vec::new(alloc);
-    for parts in groups {
-        topos.push(topo_of(alloc, parts)?)?;
-    }
-    Ok(topos)
 }
 
 /// The journals of a document that was read from these bytes, and whose groups are these.

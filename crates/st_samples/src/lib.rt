@@ -1,19 +1,18 @@
 //! Groups and worlds that are read from texts, for the tests of the crates below.
 #![tactic(auto)]
 
-ghost use Rattle.std.specs.Prelude.{◌≡◌, [], ◌∷◌, false, All, IfOk, Ok, Some, map};
+ghost use Rattle.std.specs.Prelude.{◌≡◌, [], ◌∷◌, false, IfOk, IfSome, Ok, Some};
 ghost use Rattle.st_grammar.specs.Reading.{read_of};
-ghost use Rattle.st_grammar.specs.Sound.{IsSoundDoc, IsSoundGroup};
-ghost use Rattle.st_samples.specs.Declared.{declared_groups, declared_worlds};
-ghost use Rattle.st_net.specs.Faults.{group_of};
+ghost use Rattle.st_grammar.specs.Sound.{IsSoundDoc};
+ghost use Rattle.st_samples.specs.Samples.{declared_groups, declared_worlds};
 ghost use Rattle.st_serial.specs.Serial.{state_of};
 
 use st_doc::read_doc;
 use st_grammar::{Doc, DocRead};
-use st_net::{GroupTopo, Parts};
-use st_serial::{open_worlds, topo_of};
+use st_net::GroupTopo;
+use st_serial::{open_worlds, topos_of};
 use st_world::World;
-use std::alloc::{AllocError, Global};
+use std::alloc::Global;
 use std::test::Fail;
 
 /// Two ToRs, t1 and t2, joined by way of two switches, a1 and a2, with a promise of half the capacity between them.
@@ -45,16 +44,12 @@ fn document(alloc: Global, text: &str) -> Result<Doc, Fail>
     }
 }
 
-/// The groups of these parts, of which nothing is wrong.
-fn all_built(alloc: Global, groups: &[Parts]) -> Result<Vec<GroupTopo>, AllocError>
-    requires { All IsSoundGroup groups.now }
-    ensures { IfOk result (λ topos. topos.items ≡ map group_of groups.now) }
+/// The item of a list that has one.
+fn only<T: Drop>(mut items: Vec<T>) -> Option<T>
+    ensures { IfSome result (λ item. items.items ≡ item ∷ []) }
 {
-    let mut topos = Vec::new(alloc);
-    for parts in groups {
-        topos.push(topo_of(alloc, parts)?)?;
-    }
-    Ok(topos)
+    let item = items.pop()?;
+    if items.is_empty() { Some(item) } else { None }
 }
 
 /// The groups that a text declares, in order. `Err` tells that the text is no document, or has more than a million bytes, and is for want
@@ -63,20 +58,14 @@ pub fn groups(alloc: Global, text: &str) -> Result<Vec<GroupTopo>, Fail>
     ensures { IfOk result (λ topos. declared_groups text.now ≡ Some topos.items) }
 {
     let doc = document(alloc, text)?;
-    Ok(all_built(alloc, doc.groups.as_slice())?)
+    Ok(topos_of(alloc, doc.groups.as_slice())?)
 }
 
 /// The group that a text declares. `Err` is as with `groups`, and tells that there is no group or another beside it.
 pub fn group(alloc: Global, text: &str) -> Result<GroupTopo, Fail>
     ensures { IfOk result (λ topo. declared_groups text.now ≡ Some (topo ∷ [])) }
 {
-    let mut topos = groups(alloc, text)?;
-    let topo = topos.pop().ok_or("no group")?;
-    if topos.is_empty() {
-        Ok(topo)
-    } else {
-        Err(Fail::new("more than one group"))
-    }
+    Ok(only(groups(alloc, text)?).ok_or("not one group")?)
 }
 
 /// The world of the group that a text declares, before the first event, with the losses of its wire lines. `Err` is as with `group`.
@@ -84,11 +73,6 @@ pub fn world(alloc: Global, text: &str) -> Result<World, Fail>
     ensures { IfOk result (λ world. declared_worlds text.now ≡ Some (state_of world ∷ [])) }
 {
     let doc = document(alloc, text)?;
-    let mut worlds = open_worlds(alloc, doc.groups.as_slice(), doc.wires.as_slice())?;
-    let world = worlds.pop().ok_or("no group")?;
-    if worlds.is_empty() {
-        Ok(world)
-    } else {
-        Err(Fail::new("more than one group"))
-    }
+    let worlds = open_worlds(alloc, doc.groups.as_slice(), doc.wires.as_slice())?;
+    Ok(only(worlds).ok_or("not one group")?)
 }

@@ -6,4 +6,4 @@ mod running;
 mod schedule;
 mod serial;
 
-pub use running::{Ran, open_worlds, serial_done, topo_of};
+pub use running::{Ran, open_worlds, serial_done, topo_of, topos_of};

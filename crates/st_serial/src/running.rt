@@ -1,6 +1,6 @@
 //! The scripts of a document run on one thread, and what comes of them: worlds and logs.
 
-ghost use Rattle.std.specs.Prelude.{◌≡◌, ◌<◌, ◌^◌, [], All, replicate, length, IfOk};
+ghost use Rattle.std.specs.Prelude.{◌≡◌, ◌<◌, ◌^◌, [], All, map, replicate, length, IfOk};
 ghost use Rattle.st_net.specs.Faults.{group_of};
 ghost use Rattle.st_grammar.specs.Sound.{IsSoundGroup, IsSoundDoc};
 ghost use Rattle.st_serial.specs.Serial.{all_opened, scripts_done as scripts_done_lem, decided as decided_lem, serial_end, states_of, run_in};
@@ -23,6 +23,18 @@ pub fn topo_of(alloc: Global, parts: &Parts) -> Result<GroupTopo, AllocError>
         Built::Topo(topo) => Ok(topo),
         Built::Fault(_) => unreachable!(),
     }
+}
+
+/// A topology of each group of a document, in order.
+pub fn topos_of(alloc: Global, groups: &[Parts]) -> Result<Vec<GroupTopo>, AllocError>
+    requires { All IsSoundGroup groups.now }
+    ensures { IfOk result (λ topos. topos.items ≡ map group_of groups.now) }
+{
+    let mut topos = Vec::new(alloc);
+    for parts in groups {
+        topos.push(topo_of(alloc, parts)?)?;
+    }
+    Ok(topos)
 }
 
 /// The losses of these wire lines.

@@ -6,7 +6,7 @@ ghost use Rattle.st_grammar.specs.Reading.{doc_at};
 
 use crate::reader::Reader;
 use st_draft::Group;
-use st_grammar::{AppOrder, Doc, DocGroups, DocWires, JournalAt, Scripts};
+use st_grammar::{AppOrder, Doc, DocGroups, DocWires, JournalAt, Script, Scripts};
 use std::alloc::{AllocError, Global};
 
 /// The items with one more behind them, if there is one.
@@ -34,18 +34,50 @@ fn ended(alloc: Global, groups: Vec<Group>) -> Result<(DocGroups, DocWires), All
     Ok((DocGroups::new(all), DocWires::new(wires)))
 }
 
+/// The parts and the wire lines of groups, of which the last stands apart.
+fn all_ended(
+    alloc: Global,
+    groups: Vec<Group>,
+    last: Option<Group>,
+) -> Result<(DocGroups, DocWires), AllocError>
+    ensures parts { IfOk result (λ ended. ended.0 ≡ map parts_of (groups.items ++ option_to_list last)) }
+    ensures wires { IfOk result (λ ended. ended.1 ≡ map (λ g. g.wires) (groups.items ++ option_to_list last)) }
+{
+    ended(alloc, with_last(groups, last)?)
+}
+
+/// The parts and the wire lines of groups, and the scripts of applications: of each the last stands apart.
+fn sections(
+    alloc: Global,
+    groups: Vec<Group>,
+    group: Option<Group>,
+    apps: Vec<Script>,
+    app: Option<Script>,
+) -> Result<(DocGroups, DocWires, Scripts), AllocError>
+    ensures parts { IfOk result (λ all. all.0 ≡ map parts_of (groups.items ++ option_to_list group)) }
+    ensures wires { IfOk result (λ all. all.1 ≡ map (λ g. g.wires) (groups.items ++ option_to_list group)) }
+    ensures apps { IfOk result (λ all. all.2 ≡ apps.items ++ option_to_list app) }
+{
+    let (groups, wires) = all_ended(alloc, groups, group)?;
+    Ok((groups, wires, Scripts::new(with_last(apps, app)?)))
+}
+
 impl Reader {
     /// The document that the lines declare, with the place of its journals.
     pub fn finish(self, at: Option<JournalAt>) -> Result<Doc, AllocError>
         ensures { IfOk result (λ doc. doc ≡ doc_at at self) }
     {
-        let groups = with_last(self.groups, self.group)?;
-        let apps = with_last(self.apps, self.app)?;
-        let (groups, wires) = ended(self.alloc, groups)?;
+        let (groups, wires, apps) = sections(
+            self.alloc,
+            self.groups,
+            self.group,
+            self.apps,
+            self.app,
+        )?;
         Ok(Doc {
             groups,
             wires,
-            apps: Scripts::new(apps),
+            apps,
             order: AppOrder::new(self.order),
             journal_at: at,
         })

@@ -4,10 +4,10 @@ use Rattle.st_control.proofs.control.Control.start.Goals as goal
 
 pub returns : goal.returns
 returns c =
-    let start = c.in_ok-store.ensures in
+    let start = c.in_ok-store.ensures.store in
     record {
       group = refl;
       runs = c.in_ok-book.ensures.no_runs;
-      standing = rw (start.tickets, start.decided, start.pending, start.version, start.target, start.observed, c.in_ok-stamps.ensures.opening, c.in_ok-locks.ensures.free) refl;
+      standing = rw (start.tickets, start.decided, start.pending, start.version, start.target, start.observed, c.in_ok-store.ensures.opening, c.in_ok-store.ensures.free) refl;
       versions = start.versions ∙ sym (value_at-opening c.args.topo);
     }

@@ -1,6 +1,6 @@
 use Rattle.std.proofs.Common.{◌≡◌, map, take}
 use Rattle.st_net.specs.Faults.{group_of}
-use Rattle.st_replay.proofs.replaying.topos_of.Given as goal
+use Rattle.st_serial.proofs.running.topos_of.Given as goal
 
 -- the topologies of the groups so far
 abbrev pub invariant-loop-parts : goal.invariant-loop-parts
