@@ -9,7 +9,7 @@ use st_bench_groups::{
 use st_control::{Begin, Judged, judge_basis};
 use st_event::Verdict;
 use st_net::{Entity, EntitySet, GroupTopo, Row, Var};
-use st_samples::group;
+use st_samples::{group, groups};
 use st_world::World;
 use std::alloc::Global;
 use std::test::Fail;
@@ -101,11 +101,12 @@ fn device_count(topo: &GroupTopo, set: &EntitySet) -> u32
 
 #[test]
 fn the_first_devices_are_up_but_one_that_is_taken_down(rt: HostRuntime) -> Result<(), Fail> {
-    let topo = group(rt.alloc(), BETWEEN)?;
-    let mut up = up_first(rt.alloc(), &topo, 3)?;
-    assert_eq!(rt; device_count(&topo, &up), 3);
-    take_down(&topo, &mut up, 1);
-    assert_eq!(rt; device_count(&topo, &up), 2);
+    let topos = groups(rt.alloc(), BETWEEN)?;
+    let topo = topos.first().ok_or("no group")?;
+    let mut up = up_first(rt.alloc(), topo, 3)?;
+    assert_eq!(rt; device_count(topo, &up), 3);
+    take_down(topo, &mut up, 1);
+    assert_eq!(rt; device_count(topo, &up), 2);
     Ok(())
 }
 
@@ -153,6 +154,20 @@ fn committed(world: &mut World, judged: &Judged) -> Result<Outcome, Fail> {
     Ok(commit(world, judged)?)
 }
 
+/// What comes of a commit, and of the same again.
+fn committed_twice(world: &mut World, judged: &Judged) -> Result<(Outcome, Outcome), Fail> {
+    let first = committed(world, judged)?;
+    let second = committed(world, judged)?;
+    Ok((first, second))
+}
+
+/// The same of a judgement that is not needed any more.
+fn committed_once(world: &mut World, judged: Judged) -> Result<(Outcome, Outcome), Fail> {
+    let told = committed_twice(world, &judged);
+    drop(judged);
+    told
+}
+
 /// The outcomes of a check, of a commit, and of the same commit again, and how many entries there are then.
 fn outcomes(
     rt: &(impl Threads + Sync),
@@ -162,8 +177,7 @@ fn outcomes(
     let first = stepped(alloc, world, 1)?;
     // The first switch is changing, so the other may not.
     let judged = proposed(rt, alloc, world, 2)?;
-    let second = committed(world, &judged)?;
-    let third = committed(world, &judged)?;
+    let (second, third) = committed_once(world, judged)?;
     Ok(([first, second, third], world.entries()))
 }
 
@@ -173,7 +187,9 @@ fn outcomes_once(
     alloc: Global,
     mut world: World,
 ) -> Result<([Outcome; 3], u32), Fail> {
-    outcomes(rt, alloc, &mut world)
+    let told = outcomes(rt, alloc, &mut world);
+    drop(world);
+    told
 }
 
 #[test]

@@ -3,7 +3,7 @@
 ghost use Rattle.st_net.specs.Sets.{MarksOf};
 
 use st_net::{Entity, EntitySet, GroupTopo, Name};
-use st_samples::group;
+use st_samples::groups;
 use std::alloc::Global;
 use std::test::Fail;
 
@@ -59,15 +59,16 @@ fn has_just(
 #[test]
 fn entities_that_pass_a_test_are_taken_out_again(rt: HostRuntime) -> Result<(), Fail> {
     let alloc = rt.alloc();
-    let topo = group(alloc, JOINED)?;
+    let topos = groups(alloc, JOINED)?;
+    let topo = topos.first().ok_or("no group")?;
     let (second, link) = (Entity::Device(1), Entity::Link(0));
-    let mut set = EntitySet::passing(alloc, &topo, |entity| topo.opening(entity).v1 == 7)?;
-    assert!(rt; has_just(alloc, &topo, &set, &[second, link])?);
-    let links = EntitySet::passing(alloc, &topo, |entity| entity.is_same(link))?;
+    let mut set = EntitySet::passing(alloc, topo, |entity| topo.opening(entity).v1 == 7)?;
+    assert!(rt; has_just(alloc, topo, &set, &[second, link])?);
+    let links = EntitySet::passing(alloc, topo, |entity| entity.is_same(link))?;
     set.remove_all(&links);
-    assert!(rt; has_just(alloc, &topo, &set, &[second])?);
+    assert!(rt; has_just(alloc, topo, &set, &[second])?);
     set.remove_all(&links);
-    assert!(rt; has_just(alloc, &topo, &set, &[second])?);
+    assert!(rt; has_just(alloc, topo, &set, &[second])?);
     Ok(())
 }
 

@@ -4,7 +4,7 @@ ghost use Rattle.std.specs.Prelude.{◌≡◌, ◌+◌, ◌≤◌, [], IfOk, len
 
 use scenario::{Scenario, play};
 use st_net::GroupTopo;
-use st_samples::{TWO_PATH, group};
+use st_samples::{TWO_PATH, groups};
 use st_service::{Closed, Naming, Pass, RoomLines, Service};
 use st_wire::LossPlan;
 use st_world::World;
@@ -134,12 +134,13 @@ fn played<R: Threads + Wait + Sync>(
     requires { apps + workers ≤ 512 }
 {
     let blank = Blank::new(u64::from(apps) + u64::from(workers) + 2);
-    let topo = group(alloc, TWO_PATH)?;
-    let world = opening(alloc, &topo)?;
+    let topos = groups(alloc, TWO_PATH)?;
+    let topo = topos.first().ok_or("no group")?;
+    let world = opening(alloc, topo)?;
     day::<Brand, Brand, R>(
         rt,
         alloc,
-        &topo,
+        topo,
         world,
         RoomLines::new(),
         blank,

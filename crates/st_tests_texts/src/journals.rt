@@ -101,12 +101,16 @@ fn fit(world: &World, entries: &[Entry]) -> bool
 fn fit_once(world: World, entries: &[Entry]) -> bool
     ensures { IsTrue result ↔ All (EventFits world.history.group) entries.now }
 {
-    fit(&world, entries)
+    let all = fit(&world, entries);
+    drop(world);
+    all
 }
 
 /// How many entries a world has.
 fn entry_count(world: World) -> u32 {
-    world.entries()
+    let count = world.entries();
+    drop(world);
+    count
 }
 
 /// How many entries the world of a legal journal has, or the number of the first entry that is not legal, behind the word for it.

@@ -1,7 +1,7 @@
 //! Tokens over a group that is built, worked by hand.
 
 use st_net::{Entity, GroupTopo, Var};
-use st_samples::group;
+use st_samples::groups;
 use st_text::tokens;
 use st_token::{FaultKind, LineError, NamedEntities, rows_in, value_in, values_in, variable_in};
 use std::alloc::Global;
@@ -26,7 +26,8 @@ fn fault_of(alloc: Global, topo: &GroupTopo, line: &[u8]) -> Result<Option<Fault
 #[test]
 fn assignments_have_the_first_kind_that_applies(rt: HostRuntime) -> Result<(), Fail> {
     let alloc = rt.alloc();
-    let topo = group(alloc, SMALL)?;
+    let topos = groups(alloc, SMALL)?;
+    let topo = topos.first().ok_or("no group")?;
     let rows: [(&[u8], Option<FaultKind>); 11] = [
         (b"a1.power=0 a1.firmware=4294967295".as_slice(), None),
         (b"a1=3".as_slice(), Some(FaultKind::Name)),
@@ -44,7 +45,7 @@ fn assignments_have_the_first_kind_that_applies(rt: HostRuntime) -> Result<(), F
         (b"a1.power=1 a1.power=0".as_slice(), Some(FaultKind::Twice)),
     ];
     for (line, want) in rows {
-        assert_eq!(rt; fault_of(alloc, &topo, line)?, want);
+        assert_eq!(rt; fault_of(alloc, topo, line)?, want);
     }
     Ok(())
 }
@@ -52,16 +53,17 @@ fn assignments_have_the_first_kind_that_applies(rt: HostRuntime) -> Result<(), F
 #[test]
 fn tokens_are_read_over_a_built_group(rt: HostRuntime) -> Result<(), Fail> {
     let alloc = rt.alloc();
-    let topo = group(alloc, SMALL)?;
+    let topos = groups(alloc, SMALL)?;
+    let topo = topos.first().ok_or("no group")?;
     let line = b"a1.power=0 a1.firmware=2".as_slice();
     let words = tokens(alloc, line)?;
-    let rows = rows_in(alloc, &topo, line, words.as_slice())
+    let rows = rows_in(alloc, topo, line, words.as_slice())
         .ok()
         .ok_or("two rows")?;
     assert_eq!(rt; rows.len(), 2);
     let at = topo.entity_in(alloc, b"a1").ok().ok_or("an entity")?;
     assert_eq!(rt; at, Entity::Device(0));
-    let variable = variable_in(alloc, &topo, b"a1.routing")
+    let variable = variable_in(alloc, topo, b"a1.routing")
         .ok()
         .ok_or("a variable")?;
     assert_eq!(rt; variable, (Entity::Device(0), Var::Routing));

@@ -7,7 +7,7 @@ ghost use Rattle.st_promise.specs.Book.{IsBookOf};
 use super::*;
 use st_flow::{Graph, MAX_CAPACITY, MAX_EDGES, least_cut};
 use st_promise::{ToFirst, Wide, judge_to_first, judge_wide};
-use st_samples::group;
+use st_samples::groups;
 use std::thread::Threads;
 
 const DEVICES: u32 = 6;
@@ -296,8 +296,9 @@ fn judge_groups(rt: &(impl Threads + Sync), alloc: Global) -> Result<Tally, Fail
     };
     for _ in 0..20 {
         let text = small_document(alloc, &mut dice)?;
-        let topo = group(alloc, text.as_str())?;
-        judge_changes(rt, alloc, &topo, &mut dice, &mut tally)?;
+        for topo in &groups(alloc, text.as_str())? {
+            judge_changes(rt, alloc, topo, &mut dice, &mut tally)?;
+        }
     }
     Ok(tally)
 }

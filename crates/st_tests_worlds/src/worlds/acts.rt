@@ -163,7 +163,9 @@ fn takes_each(alloc: Global, world: &mut World) -> Result<(), Fail> {
 
 /// The same of a world that is not needed any more.
 fn takes_each_once(alloc: Global, mut world: World) -> Result<(), Fail> {
-    takes_each(alloc, &mut world)
+    let told = takes_each(alloc, &mut world);
+    drop(world);
+    told
 }
 
 #[test]

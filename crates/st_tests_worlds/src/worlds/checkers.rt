@@ -50,7 +50,9 @@ fn proposed_and_decided(alloc: Global, control: &mut Control) -> Result<(), Fail
 fn decided_once(alloc: Global, mut control: Control) -> Result<(), Fail>
     requires { control.store.tickets + 1 < 2 ^ 32 }
 {
-    proposed_and_decided(alloc, &mut control)
+    let told = proposed_and_decided(alloc, &mut control);
+    drop(control);
+    told
 }
 
 #[test]
@@ -99,7 +101,9 @@ fn decides_once(control: &mut Control, first: &Judged, second: &Judged) -> Resul
 
 /// The same of judgements that are not needed any more.
 fn uses_up(control: &mut Control, first: Judged, second: Judged) -> Result<(), Fail> {
-    decides_once(control, &first, &second)
+    let told = decides_once(control, &first, &second);
+    drop((first, second));
+    told
 }
 
 /// What is judged twice of the oldest proposal is decided once.
@@ -119,7 +123,9 @@ fn committed_once(
 ) -> Result<(), Fail>
     requires { control.store.tickets + 1 < 2 ^ 32 }
 {
-    committed(rt, alloc, &mut control)
+    let told = committed(rt, alloc, &mut control);
+    drop(control);
+    told
 }
 
 #[test]

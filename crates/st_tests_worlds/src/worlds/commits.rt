@@ -54,7 +54,9 @@ fn committed(world: &mut World, judged: &Judged) -> Result<Committed, Fail> {
 
 /// The same of a judgement that is not needed any more.
 fn committed_once(world: &mut World, judged: Judged) -> Result<Committed, Fail> {
-    committed(world, &judged)
+    let told = committed(world, &judged);
+    drop(judged);
+    told
 }
 
 /// Drains the first switch.
@@ -133,7 +135,9 @@ fn fall(alloc: Global, world: &mut World, first: &Judged, second: &Judged) -> Re
 
 /// The same of judgements that are not needed any more.
 fn fall_once(alloc: Global, world: &mut World, first: Judged, second: Judged) -> Result<(), Fail> {
-    fall(alloc, world, &first, &second)
+    let told = fall(alloc, world, &first, &second);
+    drop((first, second));
+    told
 }
 
 fn shrunk(rt: &(impl Threads + Sync), alloc: Global, world: &mut World) -> Result<(), Fail> {
@@ -144,7 +148,9 @@ fn shrunk(rt: &(impl Threads + Sync), alloc: Global, world: &mut World) -> Resul
 
 /// The same of a world that is not needed any more.
 fn shrunk_once(rt: &(impl Threads + Sync), alloc: Global, mut world: World) -> Result<(), Fail> {
-    shrunk(rt, alloc, &mut world)
+    let told = shrunk(rt, alloc, &mut world);
+    drop(world);
+    told
 }
 
 #[test]
@@ -175,7 +181,9 @@ fn kept(rt: &(impl Threads + Sync), alloc: Global, world: &mut World) -> Result<
 
 /// The same of a world that is not needed any more.
 fn kept_once(rt: &(impl Threads + Sync), alloc: Global, mut world: World) -> Result<(), Fail> {
-    kept(rt, alloc, &mut world)
+    let told = kept(rt, alloc, &mut world);
+    drop(world);
+    told
 }
 
 #[test]
@@ -203,7 +211,9 @@ fn runs_away_once(
     mut world: World,
     entity: Entity,
 ) -> Result<u64, Fail> {
-    runs_away(rt, alloc, &mut world, entity)
+    let runs = runs_away(rt, alloc, &mut world, entity);
+    drop(world);
+    runs
 }
 
 /// How many it counts once the same was checked by it.
@@ -214,7 +224,9 @@ fn runs_here(alloc: Global, world: &mut World, entity: Entity) -> Result<u64, Fa
 
 /// The same of a world that is not needed any more.
 fn runs_here_once(alloc: Global, mut world: World, entity: Entity) -> Result<u64, Fail> {
-    runs_here(alloc, &mut world, entity)
+    let runs = runs_here(alloc, &mut world, entity);
+    drop(world);
+    runs
 }
 
 fn runs_of_commit(rt: &(impl Threads + Sync), alloc: Global, way: Entity) -> Result<u64, Fail> {
@@ -254,7 +266,9 @@ fn runs_refused_once(
     alloc: Global,
     mut world: World,
 ) -> Result<u64, Fail> {
-    runs_refused(rt, alloc, &mut world)
+    let runs = runs_refused(rt, alloc, &mut world);
+    drop(world);
+    runs
 }
 
 // A check that refuses by a broken promise runs a flow, as a clause says.
@@ -327,7 +341,9 @@ fn runs_with_more_once(
     entity: Entity,
     link: Entity,
 ) -> Result<u64, Fail> {
-    runs_with_more(rt, alloc, &mut world, entity, link)
+    let runs = runs_with_more(rt, alloc, &mut world, entity, link);
+    drop(world);
+    runs
 }
 
 fn runs_of_more(

@@ -136,7 +136,9 @@ fn take_all(alloc: Global, world: &mut World, steps: &[Step]) -> Result<(), Fail
 
 /// The steps of a world that is not needed any more.
 fn take_once(alloc: Global, mut world: World, steps: &[Step]) -> Result<(), Fail> {
-    take_all(alloc, &mut world, steps)
+    let told = take_all(alloc, &mut world, steps);
+    drop(world);
+    told
 }
 
 /// The two-path group takes each step of a course, with these wire lines.

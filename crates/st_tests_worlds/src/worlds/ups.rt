@@ -50,7 +50,9 @@ fn falls_and_comes_back(alloc: Global, world: &mut World) -> Result<(), Fail> {
 
 /// The same of a world that is not needed any more.
 fn falls_and_comes_back_once(alloc: Global, mut world: World) -> Result<(), Fail> {
-    falls_and_comes_back(alloc, &mut world)
+    let told = falls_and_comes_back(alloc, &mut world);
+    drop(world);
+    told
 }
 
 #[test]
