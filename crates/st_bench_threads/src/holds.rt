@@ -109,9 +109,11 @@ fn judged_of(
     judge_basis(rt, alloc, basis)
 }
 
-/// What comes of a judgement.
-fn outcome_at(world: &mut World, judged: &Judged) -> Result<Outcome, AllocError> {
-    commit(world, judged)
+/// What comes of a judgement, which is not needed any more.
+fn outcome_at(world: &mut World, judged: Judged) -> Result<Outcome, AllocError> {
+    let outcome = commit(world, &judged);
+    drop(judged);
+    outcome
 }
 
 /// What comes of a step that decides.
@@ -133,7 +135,7 @@ fn check_away<R: Threads + Clock + Sync>(
     let begun = Instant::now(rt)?;
     let judged = judged_of(rt, alloc, basis)?;
     let found = Instant::now(rt)?;
-    let outcome = outcome_at(world, &judged)?;
+    let outcome = outcome_at(world, judged)?;
     let done = Instant::now(rt)?;
     spans.begin = begun - start;
     spans.judge = found - begun;
@@ -241,24 +243,6 @@ fn time_each_away<R: Threads + Clock + Sync>(
     Ok(())
 }
 
-/// The same of a world that is not needed any more.
-fn time_all_away<R: Threads + Clock + Sync>(
-    rt: &R,
-    alloc: Global,
-    topo: &GroupTopo,
-    book: &Book,
-    switches: &Switches,
-    proposals: u32,
-    mut world: World,
-    holds: &mut Holds,
-) -> io::Result<()>
-    requires { IsBookOf topo.now book.now.of }
-{
-    time_each_away(
-        rt, alloc, topo, book, switches, proposals, &mut world, holds,
-    )
-}
-
 /// Times so many checks by steps of a world, of the same switches.
 fn time_each_step<R: Clock>(
     rt: &R,
@@ -277,18 +261,6 @@ fn time_each_step<R: Clock>(
     Ok(())
 }
 
-/// The same of a world that is not needed any more.
-fn time_all_steps<R: Clock>(
-    rt: &R,
-    alloc: Global,
-    switches: &Switches,
-    proposals: u32,
-    mut world: World,
-    holds: &mut Holds,
-) -> io::Result<()> {
-    time_each_step(rt, alloc, switches, proposals, &mut world, holds)
-}
-
 /// Times the checks away from a world of a group that is opened for them.
 fn away_from_one<R: Threads + Clock + Sync>(
     rt: &R,
@@ -301,8 +273,12 @@ fn away_from_one<R: Threads + Clock + Sync>(
 ) -> io::Result<()>
     requires { IsBookOf topo.now book.now.of }
 {
-    let world = open_world(alloc, topo.copy(alloc)?)?;
-    time_all_away(rt, alloc, topo, book, switches, proposals, world, holds)
+    let mut world = open_world(alloc, topo.copy(alloc)?)?;
+    let timed = time_each_away(
+        rt, alloc, topo, book, switches, proposals, &mut world, holds,
+    );
+    drop(world);
+    timed
 }
 
 /// Times the checks by steps of a world of a group that is opened for them.
@@ -314,8 +290,10 @@ fn by_steps_of_one<R: Clock>(
     proposals: u32,
     holds: &mut Holds,
 ) -> io::Result<()> {
-    let world = open_world(alloc, topo.copy(alloc)?)?;
-    time_all_steps(rt, alloc, switches, proposals, world, holds)
+    let mut world = open_world(alloc, topo.copy(alloc)?)?;
+    let timed = time_each_step(rt, alloc, switches, proposals, &mut world, holds);
+    drop(world);
+    timed
 }
 
 /// Checks so many proposals of a group, each away from a world and by a step of another, which decide the same, and times the parts.

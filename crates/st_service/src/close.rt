@@ -116,10 +116,12 @@ fn shut_one<J: Naming, L: Ledger, H: Wait + Drop>(
         lost,
     } = locked;
     if lost || room.is_spent() {
+        drop((room, makers));
         return Err(AllocError);
     }
-    let ended = Ended::new(room, alloc)?;
+    let ended = Ended::new(room, alloc);
     own.merge(makers.units);
+    let ended = ended?;
     Ok(Shut {
         group,
         ended,
@@ -185,6 +187,7 @@ fn hand_in<J: Naming, L: Ledger, H: Wait + Drop>(
     own.merge(share);
     for group in 0..shut.len() {
         if !stands_in(&mut places[group], &shut[group]) {
+            drop((places, log));
             return Err(AllocError);
         }
     }

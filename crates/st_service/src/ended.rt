@@ -46,8 +46,13 @@ impl<H: Wait + Drop> Ended<H> {
             mut held,
             ..
         } = room;
-        let note = held.board.end(&held.rt, alloc)?;
-        Ok(Ended { world, held, note })
+        match held.board.end(&held.rt, alloc) {
+            Ok(note) => Ok(Ended { world, held, note }),
+            Err(error) => {
+                drop((world, held));
+                Err(error)
+            }
+        }
     }
 
     /// Teaches a reader of the room the whole front, which has every overlay of its journal.
