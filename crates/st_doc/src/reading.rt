@@ -104,9 +104,16 @@ fn read_at(
     requires few { length places.now < 4294967295 }
     ensures { IfOk result (λ read. Reads read (doc_with at (declared_on reader (map (line_in bytes.now) places.now)))) }
 {
-    match take_lines(&mut reader, 1, bytes, places)? {
-        Some(fault) => Ok(DocRead::Fault(fault)),
-        None => ended(reader, places.len() as u32 + 1, at),
+    match take_lines(&mut reader, 1, bytes, places) {
+        Ok(None) => ended(reader, places.len() as u32 + 1, at),
+        Ok(Some(fault)) => {
+            drop(reader);
+            Ok(DocRead::Fault(fault))
+        }
+        Err(error) => {
+            drop(reader);
+            Err(error)
+        }
     }
 }
 
@@ -118,6 +125,7 @@ fn ended(reader: Reader, line: u32, at: Option<JournalAt>) -> Result<DocRead, Al
     if reader.has_begun() {
         Ok(DocRead::Doc(reader.finish(at)?))
     } else {
+        drop(reader);
         Ok(DocRead::Fault(LineFault {
             line,
             kind: FaultKind::Header,
