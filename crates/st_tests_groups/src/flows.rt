@@ -76,6 +76,51 @@ fn is_ascending(side: &[u32]) -> bool {
     side.windows(2).all(|pair| pair[0] < pair[1])
 }
 
+/// A least cut has this value, and its side these nodes.
+fn is_least(
+    rt: &impl Abort,
+    alloc: Global,
+    g: &Graph,
+    a: u32,
+    b: u32,
+    least: u64,
+    common: u32,
+) -> Result<(), AllocError> {
+    assert!(rt; a < g.nodes() && b < g.nodes() && a != b);
+    let cut = least_cut(alloc, g, a, b)?;
+    assert_eq!(rt; (cut.value, set_of(cut.side.as_slice())), (least, common));
+    assert!(rt; is_ascending(cut.side.as_slice()));
+    assert_eq!(rt; cut_value(g, cut.side.as_slice()), least);
+    Ok(())
+}
+
+/// The least value of a cut flows, and one more does not.
+fn is_most(
+    rt: &impl Abort,
+    alloc: Global,
+    g: &Graph,
+    a: u32,
+    b: u32,
+    least: u64,
+    common: u32,
+) -> Result<(), AllocError> {
+    assert!(rt; a < g.nodes() && b < g.nodes() && a != b);
+    match max_flow(alloc, g, a, b, least)? {
+        Flowing::Enough(flow) => assert!(rt; flow_holds(g, &flow, a, b, least)),
+        Flowing::Short(_) => assert!(rt; false, "a cut below the least"),
+    }
+    match max_flow(alloc, g, a, b, least.wrapping_add(1))? {
+        Flowing::Enough(_) => assert!(rt; false, "a flow above the least cut"),
+        Flowing::Short(short) => {
+            assert_eq!(rt;
+                (short.value, set_of(short.side.as_slice())),
+                (least, common)
+            );
+        }
+    }
+    Ok(())
+}
+
 /// Compares all that the crate answers on a pair with the list of all cuts.
 fn agrees(
     rt: &impl Abort,
@@ -86,26 +131,8 @@ fn agrees(
 ) -> Result<(), AllocError> {
     let g = network(alloc, NODES, edges)?;
     let (least, common) = least_of(edges, a, b);
-    assert!(rt; a < g.nodes() && b < g.nodes() && a != b);
-    let cut = least_cut(alloc, &g, a, b)?;
-    assert_eq!(rt; cut.value, least);
-    assert_eq!(rt; set_of(cut.side.as_slice()), common);
-    assert!(rt; is_ascending(cut.side.as_slice()));
-    assert_eq!(rt; cut_value(&g, cut.side.as_slice()), least);
-    match max_flow(alloc, &g, a, b, least)? {
-        Flowing::Enough(flow) => {
-            assert!(rt; flow_holds(&g, &flow, a, b, least));
-        }
-        Flowing::Short(_) => assert!(rt; false, "a cut below the least"),
-    }
-    match max_flow(alloc, &g, a, b, least.wrapping_add(1))? {
-        Flowing::Enough(_) => assert!(rt; false, "a flow above the least cut"),
-        Flowing::Short(short) => {
-            assert_eq!(rt; short.value, least);
-            assert_eq!(rt; set_of(short.side.as_slice()), common);
-        }
-    }
-    Ok(())
+    is_least(rt, alloc, &g, a, b, least, common)?;
+    is_most(rt, alloc, &g, a, b, least, common)
 }
 
 fn agrees_on_all_pairs(
@@ -248,46 +275,76 @@ fn least_cuts_worked_by_hand(rt: HostRuntime) -> Result<(), Fail> {
     Ok(())
 }
 
-#[test]
-fn two_ways_of_ten_with_a_need(rt: HostRuntime) -> Result<(), Fail> {
-    let alloc = rt.alloc();
-    let g = network(
-        alloc,
-        NODES,
-        &[(0, 1, 10), (5, 1, 10), (0, 2, 10), (2, 5, 10)],
-    )?;
+/// Two ways of 10 from node 0 to node 5, of which an edge was added from 5 to 1.
+const TWO_WAYS: [(u32, u32, u32); 4] = [(0, 1, 10), (5, 1, 10), (0, 2, 10), (2, 5, 10)];
+
+/// A flow of 12 is one, and not one of more, to another node, or the other way.
+fn twelve_flow(rt: &impl Abort, alloc: Global, g: &Graph) -> Result<(), AllocError> {
     assert!(rt; g.nodes() == NODES && g.edges() == 4);
-    match max_flow(alloc, &g, 0, 5, 12)? {
+    match max_flow(alloc, g, 0, 5, 12)? {
         Flowing::Enough(flow) => {
-            assert!(rt; flow_holds(&g, &flow, 0, 5, 12));
-            assert!(rt; !flow_holds(&g, &flow, 0, 5, 21));
+            assert!(rt; flow_holds(g, &flow, 0, 5, 12));
+            assert!(rt; !flow_holds(g, &flow, 0, 5, 21));
             assert!(rt;
-                !flow_holds(&g, &flow, 0, 1, 1),
+                !flow_holds(g, &flow, 0, 1, 1),
                 "node 5 keeps what enters it"
             );
-            assert!(rt; !flow_holds(&g, &flow, 5, 0, 1), "it flows the other way");
+            assert!(rt; !flow_holds(g, &flow, 5, 0, 1), "it flows the other way");
         }
         Flowing::Short(_) => assert!(rt; false, "12 fit"),
     }
-    // All of both ways: the edge that was added from 5 to 1 carries its amount from 1 to 5.
-    if let Flowing::Enough(flow) = max_flow(alloc, &g, 0, 5, 20)? {
-        assert_eq!(rt; flow.amount(0), 10);
-        assert_eq!(rt; flow.amount(1), -10);
-        assert_eq!(rt; flow.amount(2), 10);
-        assert_eq!(rt; flow.amount(3), 10);
-    } else {
-        assert!(rt; false, "20 fit");
+    Ok(())
+}
+
+/// All of both ways: the edge that was added from 5 to 1 carries its amount from 1 to 5.
+fn twenty_flow(rt: &impl Abort, alloc: Global, g: &Graph) -> Result<(), AllocError> {
+    assert!(rt; g.nodes() == NODES && g.edges() == 4);
+    match max_flow(alloc, g, 0, 5, 20)? {
+        Flowing::Enough(flow) => {
+            let amounts = [
+                flow.amount(0),
+                flow.amount(1),
+                flow.amount(2),
+                flow.amount(3),
+            ];
+            assert_eq!(rt; amounts, [10, -10, 10, 10]);
+        }
+        Flowing::Short(_) => assert!(rt; false, "20 fit"),
     }
-    let other = network(alloc, NODES, &[(0, 1, 10), (5, 1, 10), (0, 2, 10)])?;
-    if let Flowing::Enough(flow) = max_flow(alloc, &g, 0, 5, 0)? {
-        assert!(rt; flow_holds(&g, &flow, 0, 5, 0));
-        assert!(rt;
-            !flow_holds(&other, &flow, 0, 5, 0),
-            "it has an amount too many"
-        );
+    Ok(())
+}
+
+/// A flow of a network is none of another with an edge less.
+fn nothing_flows(
+    rt: &impl Abort,
+    alloc: Global,
+    g: &Graph,
+    other: &Graph,
+) -> Result<(), AllocError> {
+    assert!(rt; g.nodes() == NODES && g.edges() == 4);
+    match max_flow(alloc, g, 0, 5, 0)? {
+        Flowing::Enough(flow) => {
+            assert!(rt; flow_holds(g, &flow, 0, 5, 0));
+            assert!(rt;
+                !flow_holds(other, &flow, 0, 5, 0),
+                "it has an amount too many"
+            );
+        }
+        Flowing::Short(_) => assert!(rt; false, "0 fit"),
     }
-    assert_eq!(rt; cut_value(&g, &[1, 0]), 20);
-    assert_eq!(rt; cut_value(&g, &[0, 1, 2, 5]), 0);
+    Ok(())
+}
+
+#[test]
+fn two_ways_of_ten_with_a_need(rt: HostRuntime) -> Result<(), Fail> {
+    let alloc = rt.alloc();
+    let g = network(alloc, NODES, &TWO_WAYS)?;
+    twelve_flow(&rt, alloc, &g)?;
+    twenty_flow(&rt, alloc, &g)?;
+    let other = network(alloc, NODES, &TWO_WAYS[..3])?;
+    nothing_flows(&rt, alloc, &g, &other)?;
+    assert_eq!(&rt; cut_value(&g, &[1, 0]), 20);
+    assert_eq!(&rt; cut_value(&g, &[0, 1, 2, 5]), 0);
     Ok(())
 }
 
