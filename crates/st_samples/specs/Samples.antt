@@ -1,5 +1,5 @@
 -- The groups that a text declares, and their worlds at the opening.
-use Rattle.std.specs.Prelude.{◌≡◌, ℕ, List, [], ◌∷◌, false, Option, Some, None, Result, Ok, Err, IfOk}
+use Rattle.std.specs.Prelude.{ℕ, List, false, Option, Some, None, Result, Ok, Err}
 use Rattle.st_net.specs.Groups.{Group}
 use Rattle.st_token.specs.declared.fault.LineFault.{LineFault}
 use Rattle.st_grammar.specs.declared.doc.Doc.{Doc}
@@ -7,7 +7,7 @@ use Rattle.st_grammar.specs.Reading.{read_of}
 use Rattle.st_serial.specs.Kept.{groups_of}
 use Rattle.st_serial.specs.Serial.{GroupState, all_opened}
 
--- what the document is that a text is; a text that is none has nothing
+-- what a document has that was read; of a text that is none there is nothing
 abbrev pub of_doc : {A : Type 0} → (Doc → A) → Result Doc LineFault → Option A
 of_doc f (Ok doc) = Some (f doc)
 of_doc f (Err fault) = None
