@@ -45,11 +45,28 @@ const SECOND: &[u8] = b"propose dc1 a2.firmware=2\n";
 const ACCEPTED: &[u8] =
     b"statesman report 1\ngroup dc1\nversion 1\nentries 2\nreceipt 1 up accepted 1\ntarget a1.firmware=2\nunsettled a1\nwire commands 0 reports 0 stale 0 old 0\npromises 1 start 1 now 1\nend\n";
 
-/// How a call ended, and what it wrote.
+/// How a call ended, and what it wrote. It has many parts: who has seen enough hands it to `drop`, which takes the checker less than
+/// the end of a function does.
 #[derive(Drop)]
 struct Called {
     outcome: Outcome,
     text: Vec<u8>,
+}
+
+/// The status and the text of a call, of which nothing else is asked.
+#[derive(Drop)]
+struct Told {
+    status: Status,
+    text: Vec<u8>,
+}
+
+impl Called {
+    fn into_told(self) -> Told {
+        let Called { outcome, text } = self;
+        let status = outcome.status;
+        drop(outcome);
+        Told { status, text }
+    }
 }
 
 /// These parts, one behind the other.
@@ -97,6 +114,16 @@ fn call<R: Threads + Wait + Sync>(
     call_at(rt, alloc, words, parts, &NoGate)
 }
 
+/// What a call tells, over a source and a sink that never fail.
+fn tell<R: Threads + Wait + Sync>(
+    rt: &R,
+    alloc: Global,
+    words: &[&str],
+    parts: &[&[u8]],
+) -> Result<Told, AllocError> {
+    Ok(call(rt, alloc, words, parts)?.into_told())
+}
+
 /// A word for each entry of the journals: what happened, and how it was answered.
 fn entry_words(alloc: Global, outcome: &Outcome) -> Result<Vec<&'static str>, AllocError> {
     let mut told = Vec::new(alloc);
@@ -115,18 +142,33 @@ fn entry_words(alloc: Global, outcome: &Outcome) -> Result<Vec<&'static str>, Al
     Ok(told)
 }
 
+/// How many entries the journals have.
+fn entry_count(outcome: &Outcome) -> usize {
+    let mut count = 0usize;
+    for journal in outcome.journals.as_slice() {
+        count = count.saturating_add(journal.entries.as_slice().len());
+    }
+    count
+}
+
 /// What a call is to end with: its status, its text, and a word for each entry of its journals.
 fn ends_as(
     rt: &impl Abort,
     alloc: Global,
-    called: &Called,
+    called: Called,
     status: Status,
     text: &[u8],
     entries: &[&str],
 ) -> Result<(), AllocError> {
-    assert_eq!(rt; called.outcome.status, status);
-    assert_eq!(rt; called.text.as_slice(), text);
-    assert_eq!(rt; entry_words(alloc, &called.outcome)?.as_slice(), entries);
+    let Called {
+        outcome,
+        text: written,
+    } = called;
+    assert_eq!(rt; outcome.status, status);
+    assert_eq!(rt; written.as_slice(), text);
+    let told = entry_words(alloc, &outcome);
+    drop(outcome);
+    assert_eq!(rt; told?.as_slice(), entries);
     Ok(())
 }
 
@@ -137,9 +179,9 @@ fn writes<R: Abort + Threads + Wait + Sync>(
     parts: &[&[u8]],
     text: &[u8],
 ) -> Result<(), AllocError> {
-    let called = call(rt, alloc, &["serial"], parts)?;
-    assert_eq!(rt; called.outcome.status, Status::Ok);
-    assert_eq!(rt; called.text.as_slice(), text);
+    let serial = tell(rt, alloc, &["serial"], parts)?;
+    assert_eq!(rt; serial.status, Status::Ok);
+    assert_eq!(rt; serial.text.as_slice(), text);
     Ok(())
 }
 
@@ -151,10 +193,22 @@ fn plant_writes<R: Abort + Threads + Wait + Sync>(
     lines: &[u8],
     script: &[u8],
     text: &[u8],
+) -> Result<(), AllocError> {
+    drop(plant_call(rt, alloc, lines, script, text)?);
+    Ok(())
+}
+
+/// The call of `plant_writes`, whose replies can be looked at.
+fn plant_call<R: Abort + Threads + Wait + Sync>(
+    rt: &R,
+    alloc: Global,
+    lines: &[u8],
+    script: &[u8],
+    text: &[u8],
 ) -> Result<Called, AllocError> {
     let parts = [TWO_PATHS, HALF, lines, script];
-    let run = call(rt, alloc, &["run"], &parts)?;
-    assert_eq!(rt; run.outcome.status, Status::Ok);
+    let run = tell(rt, alloc, &["run"], &parts)?;
+    assert_eq!(rt; run.status, Status::Ok);
     let called = call(rt, alloc, &["serial"], &parts)?;
     assert_eq!(rt; called.outcome.status, Status::Ok);
     assert_eq!(rt; called.text.as_slice(), text);

@@ -20,7 +20,8 @@ fn a_full_journal_ends_the_run(rt: HostRuntime) -> Result<(), Fail> {
     )?;
     assert_eq!(&rt; called.outcome.status, Status::JournalFull { group: 0 });
     assert_eq!(&rt; called.text.as_slice(), b"fault full dc1\n".as_slice());
-    assert_eq!(&rt; entry_words(alloc, &called.outcome)?.len(), 200_000);
+    assert_eq!(&rt; entry_count(&called.outcome), 200_000);
+    drop(called);
     Ok(())
 }
 
@@ -35,7 +36,7 @@ fn bad_input_is_told_by_its_line(rt: HostRuntime) -> Result<(), Fail> {
     ends_as(
         &rt,
         alloc,
-        &called,
+        called,
         header,
         b"fault input line 1 header\n",
         &[],
@@ -45,14 +46,7 @@ fn bad_input_is_told_by_its_line(rt: HostRuntime) -> Result<(), Fail> {
         line: 11,
         kind: DocKind::Pair,
     };
-    ends_as(
-        &rt,
-        alloc,
-        &called,
-        pair,
-        b"fault input line 11 pair\n",
-        &[],
-    )?;
+    ends_as(&rt, alloc, called, pair, b"fault input line 11 pair\n", &[])?;
     Ok(())
 }
 
@@ -61,7 +55,7 @@ fn input_that_is_too_long_is_told(rt: HostRuntime) -> Result<(), Fail> {
     let alloc = rt.alloc();
     let long = vec![in alloc; b'\n'; 1_048_577]?;
     let called = call(&rt, alloc, &["serial"], &[long.as_slice()])?;
-    ends_as(&rt, alloc, &called, Status::TooLong, b"fault long\n", &[])?;
+    ends_as(&rt, alloc, called, Status::TooLong, b"fault long\n", &[])?;
     Ok(())
 }
 
@@ -79,13 +73,19 @@ fn a_failing_sink_holds_a_prefix(rt: HostRuntime) -> Result<(), Fail> {
         &mut sink,
         &NoGate,
     );
-    assert_eq!(rt; outcome.status, Status::WriteFault);
-    assert_eq!(rt;
-        sink.bytes(),
-        b"statesman report 1\ngroup dc1\nver".as_slice()
-    );
-    let told = entry_words(alloc, &outcome)?;
-    assert_eq!(rt; told.as_slice(), ["queued", "accepted"].as_slice());
+    let called = Called {
+        outcome,
+        text: sink.bytes().to_vec(alloc)?,
+    };
+    let text = b"statesman report 1\ngroup dc1\nver";
+    ends_as(
+        &rt,
+        alloc,
+        called,
+        Status::WriteFault,
+        text,
+        &["queued", "accepted"],
+    )?;
     Ok(())
 }
 
@@ -106,5 +106,6 @@ fn a_failing_source_is_told(rt: HostRuntime) -> Result<(), Fail> {
     );
     assert_eq!(rt; outcome.status, Status::ReadFault);
     assert_eq!(rt; sink.bytes(), b"fault read\n".as_slice());
+    drop(outcome);
     Ok(())
 }

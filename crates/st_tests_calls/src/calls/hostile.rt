@@ -1,12 +1,10 @@
 //! What the outside may do: each read and each write that fails, each beginning of a document, each limit, a journal with a line less.
 
-use super::{
-    Called, FIRST, HALF, SECOND, TWO_PATHS, UPGRADE, call, call_at, ends_as, joined, words_of,
-};
+use super::{Called, FIRST, HALF, SECOND, TWO_PATHS, Told, UPGRADE, joined, tell, words_of};
 use st_crew::NoGate;
 use st_doc::{DocKind, DocRead, read_doc};
 use st_io::{MemorySink, MemorySource, SureSink};
-use st_top::{Outcome, Status, statesman};
+use st_top::{Status, statesman};
 use std::alloc::{AllocError, Global};
 use std::process::Abort;
 use std::sync::Wait;
@@ -19,15 +17,13 @@ fn read_failing<R: Threads + Wait + Sync>(
     alloc: Global,
     parts: &[&[u8]],
     failing: u32,
-) -> Result<Called, AllocError> {
+) -> Result<Told, AllocError> {
     let words = words_of(alloc, &["serial"])?;
     let mut source = MemorySource::new(joined(alloc, parts)?, 64, vec![in alloc; failing]?);
     let mut sink = SureSink::new(alloc);
     let outcome = statesman(rt, alloc, words.as_slice(), &mut source, &mut sink, &NoGate);
-    Ok(Called {
-        outcome,
-        text: sink.bytes().to_vec(alloc)?,
-    })
+    let text = sink.bytes().to_vec(alloc)?;
+    Ok(Called { outcome, text }.into_told())
 }
 
 #[test]
@@ -36,11 +32,12 @@ fn each_failing_read_is_told(rt: HostRuntime) -> Result<(), Fail> {
     let parts = [TWO_PATHS, HALF, FIRST];
     // Four reads have the bytes, and a fifth finds the end.
     for failing in 1..6 {
-        let called = read_failing(&rt, alloc, &parts, failing)?;
-        ends_as(&rt, alloc, &called, Status::ReadFault, b"fault read\n", &[])?;
+        let serial = read_failing(&rt, alloc, &parts, failing)?;
+        assert_eq!(&rt; serial.status, Status::ReadFault);
+        assert_eq!(&rt; serial.text.as_slice(), b"fault read\n".as_slice());
     }
-    let called = read_failing(&rt, alloc, &parts, 6)?;
-    assert_eq!(&rt; called.outcome.status, Status::Ok);
+    let serial = read_failing(&rt, alloc, &parts, 6)?;
+    assert_eq!(&rt; serial.status, Status::Ok);
     Ok(())
 }
 
@@ -51,12 +48,13 @@ fn write_failing<R: Threads + Wait + Sync>(
     words: &[&str],
     parts: &[&[u8]],
     failing: u32,
-) -> Result<(Outcome, Vec<u8>), AllocError> {
+) -> Result<Told, AllocError> {
     let words = words_of(alloc, words)?;
     let mut source = MemorySource::new(joined(alloc, parts)?, 64, Vec::new(alloc));
     let mut sink = MemorySink::new(alloc, 16, vec![in alloc; failing]?);
     let outcome = statesman(rt, alloc, words.as_slice(), &mut source, &mut sink, &NoGate);
-    Ok((outcome, sink.bytes().to_vec(alloc)?))
+    let text = sink.bytes().to_vec(alloc)?;
+    Ok(Called { outcome, text }.into_told())
 }
 
 /// Lets each of so many writes fail in turn: the sink holds a beginning of the text, or the write was never made and it holds all of it.
@@ -67,14 +65,14 @@ fn each_write_fails<R: Abort + Threads + Wait + Sync>(
     parts: &[&[u8]],
     most: u32,
 ) -> Result<(), AllocError> {
-    let whole = call(rt, alloc, words, parts)?;
+    let whole = tell(rt, alloc, words, parts)?;
     let text = whole.text.as_slice();
     for failing in 1..=most {
-        let (outcome, held) = write_failing(rt, alloc, words, parts, failing)?;
-        let is_told = outcome.status == Status::WriteFault
+        let Told { status, text: held } = write_failing(rt, alloc, words, parts, failing)?;
+        let is_told = status == Status::WriteFault
             && held.len() < text.len()
             && text.starts_with(held.as_slice());
-        let is_whole = outcome.status == whole.outcome.status && held.as_slice() == text;
+        let is_whole = status == whole.status && held.as_slice() == text;
         assert!(rt; is_told || is_whole);
         // Each write takes 16 bytes, and the one behind the last is not made.
         assert_eq!(rt;
@@ -102,10 +100,10 @@ fn each_beginning_of_a_document_is_read_as_it_stands(rt: HostRuntime) -> Result<
     for n in 0..text.len() {
         let bytes = &text[..n];
         let is_document = matches!(read_doc(alloc, bytes, false)?, DocRead::Doc(_));
-        let called = call(&rt, alloc, &["serial"], &[bytes])?;
-        assert_eq!(&rt; called.outcome.status == Status::Ok, is_document);
+        let serial = tell(&rt, alloc, &["serial"], &[bytes])?;
+        assert_eq!(&rt; serial.status == Status::Ok, is_document);
         assert_eq!(&rt;
-            matches!(called.outcome.status, Status::BadInput { .. }),
+            matches!(serial.status, Status::BadInput { .. }),
             !is_document
         );
     }
@@ -136,8 +134,8 @@ fn is_bad<R: Abort + Threads + Wait + Sync>(
     line: u32,
     kind: DocKind,
 ) -> Result<(), AllocError> {
-    let called = call_at(rt, alloc, &["check"], parts, &NoGate)?;
-    assert_eq!(rt; called.outcome.status, Status::BadInput { line, kind });
+    let check = tell(rt, alloc, &["check"], parts)?;
+    assert_eq!(rt; check.status, Status::BadInput { line, kind });
     Ok(())
 }
 
@@ -152,8 +150,8 @@ fn one_more_than_there_may_be_is_a_fault(rt: HostRuntime) -> Result<(), Fail> {
         ("statesman 1\n", "app", "", 32, 34),
     ] {
         let whole = numbered(alloc, opening, word, end, most)?;
-        let called = call(&rt, alloc, &["check"], &[whole.as_slice()])?;
-        assert_eq!(&rt; called.outcome.status, Status::Ok);
+        let check = tell(&rt, alloc, &["check"], &[whole.as_slice()])?;
+        assert_eq!(&rt; check.status, Status::Ok);
         let over = numbered(alloc, opening, word, end, most + 1)?;
         is_bad(&rt, alloc, &[over.as_slice()], line, DocKind::Limit)?;
     }
@@ -189,14 +187,14 @@ fn without(alloc: Global, text: &[u8], word: &str) -> Result<(Vec<u8>, u32), All
 fn a_journal_without_an_entry_is_told(rt: HostRuntime) -> Result<(), Fail> {
     let alloc = rt.alloc();
     let parts = [TWO_PATHS, HALF, b"drop dc1 command 1\n", UPGRADE];
-    let printed = call(&rt, alloc, &["serial", "--form", "replay"], &parts)?;
+    let printed = tell(&rt, alloc, &["serial", "--form", "replay"], &parts)?;
     let (text, gone) = without(alloc, printed.text.as_slice(), "5 ")?;
-    let called = call(&rt, alloc, &["replay"], &[text.as_slice()])?;
+    let replay = tell(&rt, alloc, &["replay"], &[text.as_slice()])?;
     // The next entry stands on the line of the one that is gone.
     let number = Status::BadInput {
         line: gone,
         kind: DocKind::Number,
     };
-    assert_eq!(&rt; called.outcome.status, number);
+    assert_eq!(&rt; replay.status, number);
     Ok(())
 }

@@ -1,6 +1,6 @@
 //! The jobs that words ask for, and the forms in which what came of scripts is shown: whole outputs.
 
-use super::{ACCEPTED, FIRST, HALF, SECOND, TWO_PATHS, call, joined};
+use super::{ACCEPTED, FIRST, HALF, SECOND, TWO_PATHS, joined, tell};
 use st_top::Status;
 use std::alloc::{AllocError, Global};
 use std::process::Abort;
@@ -26,13 +26,13 @@ fn is_taken<R: Abort + Threads + Wait + Sync>(
     alloc: Global,
     words: &[&str],
 ) -> Result<bool, AllocError> {
-    let called = call(rt, alloc, words, &[TWO_PATHS, HALF])?;
-    let is_usage = called.outcome.status == Status::Usage;
+    let called = tell(rt, alloc, words, &[TWO_PATHS, HALF])?;
+    let is_usage = called.status == Status::Usage;
     assert_eq!(rt;
         called.text.as_slice() == b"fault usage\n".as_slice(),
         is_usage
     );
-    assert!(rt; is_usage || called.outcome.status == Status::Ok);
+    assert!(rt; is_usage || called.status == Status::Ok);
     Ok(!is_usage)
 }
 
@@ -108,7 +108,7 @@ fn options_stand_before_and_behind(rt: HostRuntime) -> Result<(), Fail> {
         &["serial"],
     ];
     for words in cases {
-        let called = call(&rt, alloc, words, &[TWO_PATHS, HALF, FIRST])?;
+        let called = tell(&rt, alloc, words, &[TWO_PATHS, HALF, FIRST])?;
         assert_eq!(&rt; called.text.as_slice(), ACCEPTED);
     }
     Ok(())
@@ -117,7 +117,7 @@ fn options_stand_before_and_behind(rt: HostRuntime) -> Result<(), Fail> {
 #[test]
 fn a_report_is_one_line_of_json(rt: HostRuntime) -> Result<(), Fail> {
     let alloc = rt.alloc();
-    let called = call(
+    let called = tell(
         &rt,
         alloc,
         &["serial", "--form", "json"],
@@ -132,7 +132,7 @@ fn a_report_is_one_line_of_json(rt: HostRuntime) -> Result<(), Fail> {
 #[test]
 fn a_run_is_printed_for_replay(rt: HostRuntime) -> Result<(), Fail> {
     let alloc = rt.alloc();
-    let called = call(
+    let called = tell(
         &rt,
         alloc,
         &["serial", "--form", "replay"],
@@ -146,7 +146,7 @@ fn a_run_is_printed_for_replay(rt: HostRuntime) -> Result<(), Fail> {
 #[test]
 fn a_fat_tree_is_run_and_summed_up(rt: HostRuntime) -> Result<(), Fail> {
     let alloc = rt.alloc();
-    let called = call(&rt, alloc, &["demo", "--pods", "4", "--seed", "0"], &[])?;
+    let called = tell(&rt, alloc, &["demo", "--pods", "4", "--seed", "0"], &[])?;
     let text =
         b"demo pods 4 seed 0\ndevices 20 links 32 promises 28\nentries 48 version 2 accepted 2 refused 1\ncommands 8 reports 8 unsettled 0\nstart 28 now 28\nend\n";
     assert_eq!(&rt; called.text.as_slice(), text.as_slice());
@@ -156,8 +156,8 @@ fn a_fat_tree_is_run_and_summed_up(rt: HostRuntime) -> Result<(), Fail> {
 #[test]
 fn a_printed_fat_tree_is_counted(rt: HostRuntime) -> Result<(), Fail> {
     let alloc = rt.alloc();
-    let printed = call(&rt, alloc, &["gen"], &[])?;
-    let counted = call(&rt, alloc, &["check"], &[printed.text.as_slice()])?;
+    let printed = tell(&rt, alloc, &["gen"], &[])?;
+    let counted = tell(&rt, alloc, &["check"], &[printed.text.as_slice()])?;
     assert_eq!(&rt;
         counted.text.as_slice(),
         b"ok groups 1 devices 20 links 32 promises 28 apps 2 commands 11\n".as_slice()
@@ -173,8 +173,8 @@ fn has_line(text: &[u8], line: &[u8]) -> bool {
 #[test]
 fn a_printed_fat_tree_of_a_seed_is_run(rt: HostRuntime) -> Result<(), Fail> {
     let alloc = rt.alloc();
-    let printed = call(&rt, alloc, &["gen", "--pods", "4", "--seed", "7"], &[])?;
-    let run = call(&rt, alloc, &["serial"], &[printed.text.as_slice()])?;
+    let printed = tell(&rt, alloc, &["gen", "--pods", "4", "--seed", "7"], &[])?;
+    let run = tell(&rt, alloc, &["serial"], &[printed.text.as_slice()])?;
     let lines = [
         "read te dc1 p0a0.firmware version 1 value 9",
         "receipt 3 up refused broken p0e0 p3e0 cutoff need 10 has 0 side p0e0 p0e1 p0a0 p0a1 p1e0 p1e1 p1a0 p1a1 p2e0 p2e1 p2a0 p2a1 c0 c1 c2 c3",

@@ -1,7 +1,9 @@
 //! Runs that were printed and are gone through again: whole outputs, altered journals, and every beginning of a printed run.
 
 use super::jobs::{JOURNAL, PRINTED, REPORT};
-use super::{Called, FIRST, HALF, SECOND, TWO_PATHS, call, ends_as, entry_words, joined, words_of};
+use super::{
+    Called, FIRST, HALF, SECOND, TWO_PATHS, call, ends_as, entry_count, joined, tell, words_of,
+};
 use st_crew::NoGate;
 use st_doc::DocKind;
 use st_io::{MemorySink, SureSource};
@@ -44,9 +46,9 @@ fn refused<R: Abort + Threads + Wait + Sync>(
     status: Status,
     line: &str,
 ) -> Result<(), AllocError> {
-    let called = call(rt, alloc, &["replay"], parts)?;
-    assert_eq!(rt; called.outcome.status, status);
-    assert_eq!(rt; called.text.as_slice(), line.as_bytes());
+    let replay = tell(rt, alloc, &["replay"], parts)?;
+    assert_eq!(rt; replay.status, status);
+    assert_eq!(rt; replay.text.as_slice(), line.as_bytes());
     Ok(())
 }
 
@@ -65,8 +67,8 @@ fn a_printed_run_is_replayed_in_each_form(rt: HostRuntime) -> Result<(), Fail> {
     let entries = ["queued", "queued", "accepted", "refused"];
     for (words, text) in cases {
         let called = call(&rt, alloc, words, &[printed.as_slice()])?;
-        ends_as(&rt, alloc, &called, Status::Ok, text, &entries)?;
-        assert_eq!(&rt; called.outcome.logs.as_slice().len(), 0);
+        assert!(&rt; called.outcome.logs.as_slice().is_empty());
+        ends_as(&rt, alloc, called, Status::Ok, text, &entries)?;
     }
     Ok(())
 }
@@ -76,12 +78,12 @@ fn what_was_read_is_not_replayed(rt: HostRuntime) -> Result<(), Fail> {
     let alloc = rt.alloc();
     let script = b"await dc1\nread dc1 a1.firmware\nreadat dc1 0 a1.firmware\n";
     let parts: [&[u8]; 5] = [TWO_PATHS, HALF, FIRST, SECOND, script];
-    let run = call(&rt, alloc, &["serial"], &parts)?;
+    let run = tell(&rt, alloc, &["serial"], &parts)?;
     let ends =
         "promises 1 start 1 now 1\nread up dc1 a1.firmware version 1 value 2\nread up dc1 a1.firmware at 0 value 1\nend\n";
     assert!(&rt; run.text.as_slice().ends_with(ends.as_bytes()));
-    let printed = call(&rt, alloc, &["serial", "--form", "replay"], &parts)?;
-    let again = call(&rt, alloc, &["replay"], &[printed.text.as_slice()])?;
+    let printed = tell(&rt, alloc, &["serial", "--form", "replay"], &parts)?;
+    let again = tell(&rt, alloc, &["replay"], &[printed.text.as_slice()])?;
     assert_eq!(&rt; again.text.as_slice(), REPORT.as_bytes());
     Ok(())
 }
@@ -91,14 +93,14 @@ fn a_fat_tree_is_run_and_replayed(rt: HostRuntime) -> Result<(), Fail> {
     let alloc = rt.alloc();
     let report =
         "statesman report 1\ngroup dc1\nversion 2\nentries 48\nlock te c0 high granted\nunlock te c0 high released\nreceipt 1 up accepted 1\nreceipt 2 up accepted 2\nreceipt 3 up refused broken p0e0 p0e1 cutoff need 10 has 0 side p0e0\ntarget p0a0.firmware=2\ntarget p0a1.firmware=2\ntarget p1a0.firmware=2\ntarget p1a1.firmware=2\ntarget p2a0.firmware=2\ntarget p2a1.firmware=2\ntarget p3a0.firmware=2\ntarget p3a1.firmware=2\nwire commands 8 reports 8 stale 0 old 0\npromises 28 start 28 now 28\n";
-    let made = call(&rt, alloc, &["gen", "--seed", "0"], &[])?;
+    let made = tell(&rt, alloc, &["gen", "--seed", "0"], &[])?;
     let document = made.text.as_slice();
-    let run = call(&rt, alloc, &["serial"], &[document])?;
+    let run = tell(&rt, alloc, &["serial"], &[document])?;
     let read = b"read te dc1 p0a0.firmware version 1 value 2\n";
     let whole = joined(alloc, &[report.as_bytes(), read, b"end\n"])?;
     assert_eq!(&rt; run.text.as_slice(), whole.as_slice());
-    let printed = call(&rt, alloc, &["serial", "--form=replay"], &[document])?;
-    let again = call(&rt, alloc, &["replay"], &[printed.text.as_slice()])?;
+    let printed = tell(&rt, alloc, &["serial", "--form=replay"], &[document])?;
+    let again = tell(&rt, alloc, &["replay"], &[printed.text.as_slice()])?;
     let rest = joined(alloc, &[report.as_bytes(), b"end\n"])?;
     assert_eq!(&rt; again.text.as_slice(), rest.as_slice());
     Ok(())
@@ -109,10 +111,10 @@ fn an_untold_failure_is_replayed(rt: HostRuntime) -> Result<(), Fail> {
     let alloc = rt.alloc();
     let journal =
         b"app up\njournal dc1\n1 fail a2 0 power=1 firmware=1 config=1 routing=1 : changed\n2 submit up a1.routing=0 : queued 1\n3 check : receipt 1 accepted 1\n4 send a1 : sent 1\n5 deliver 1 : begun\n6 finish a1 : done\n7 report a1 : reported 1\n8 hear 1 : taken\n";
-    let called = call(&rt, alloc, &["replay"], &[TWO_PATHS, HALF, journal])?;
+    let replay = tell(&rt, alloc, &["replay"], &[TWO_PATHS, HALF, journal])?;
     let text =
         b"statesman report 1\ngroup dc1\nversion 1\nentries 8\nreceipt 1 up accepted 1\ntarget a1.routing=0\nwire commands 1 reports 1 stale 0 old 0\npromises 1 start 1 now 0\nlost t1 t2\nend\n";
-    assert_eq!(&rt; called.text.as_slice(), text.as_slice());
+    assert_eq!(&rt; replay.text.as_slice(), text.as_slice());
     Ok(())
 }
 
@@ -197,6 +199,7 @@ fn the_first_group_that_is_not_legal_is_named(rt: HostRuntime) -> Result<(), Fai
     )?;
     assert_eq!(&rt; called.outcome.status, Status::Ok);
     assert_eq!(&rt; called.outcome.journals.as_slice().len(), 2);
+    drop(called);
     Ok(())
 }
 
@@ -292,26 +295,18 @@ fn other_commands_take_no_journal(rt: HostRuntime) -> Result<(), Fail> {
             &[command],
             &[PRINTED.as_bytes(), JOURNAL.as_bytes()],
         )?;
-        ends_as(
-            &rt,
-            alloc,
-            &called,
-            word,
-            b"fault input line 15 word\n",
-            &[],
-        )?;
+        ends_as(&rt, alloc, called, word, b"fault input line 15 word\n", &[])?;
     }
     Ok(())
 }
 
 /// Whether a call ended as one on a beginning of a printed run may end: well, at a bad line, or at the last entry that it has.
-fn is_beginning(alloc: Global, called: &Called) -> Result<bool, AllocError> {
-    let entries = entry_words(alloc, &called.outcome)?.len();
-    Ok(match called.outcome.status {
+fn is_beginning(called: &Called) -> bool {
+    match called.outcome.status {
         Status::Ok | Status::BadInput { .. } => true,
-        Status::Illegal { group: 0, entry } => entry as usize == entries,
+        Status::Illegal { group: 0, entry } => entry as usize == entry_count(&called.outcome),
         _ => false,
-    })
+    }
 }
 
 #[test]
@@ -320,8 +315,8 @@ fn every_beginning_of_a_printed_run_is_replayed_or_refused(rt: HostRuntime) -> R
     let text = joined(alloc, &[PRINTED.as_bytes(), JOURNAL.as_bytes()])?;
     for n in 0..text.len() {
         let called = call(&rt, alloc, &["replay"], &[&text.as_slice()[..n]])?;
-        let is_well = is_beginning(alloc, &called)?;
-        assert!(&rt; is_well);
+        assert!(&rt; is_beginning(&called));
+        drop(called);
     }
     Ok(())
 }
@@ -342,7 +337,7 @@ fn a_failing_sink_leaves_the_journals(rt: HostRuntime) -> Result<(), Fail> {
     );
     assert_eq!(rt; outcome.status, Status::WriteFault);
     assert_eq!(rt; sink.bytes(), b"statesman report".as_slice());
-    let told = entry_words(alloc, &outcome)?;
-    assert_eq!(rt; told.len(), 4);
+    assert_eq!(rt; entry_count(&outcome), 4);
+    drop(outcome);
     Ok(())
 }

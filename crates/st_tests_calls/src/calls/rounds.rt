@@ -8,7 +8,7 @@ fn a_switch_that_settled_lets_the_other_change(rt: HostRuntime) -> Result<(), Fa
         b"app up\npropose dc1 a1.firmware=2\nawait dc1\nsettle dc1 1\npropose dc1 a2.firmware=2\n";
     let text =
         b"statesman report 1\ngroup dc1\nversion 2\nentries 9\nreceipt 1 up accepted 1\nreceipt 2 up accepted 2\ntarget a1.firmware=2\ntarget a2.firmware=2\nunsettled a2\nwire commands 1 reports 1 stale 0 old 0\npromises 1 start 1 now 1\nend\n";
-    let _called = plant_writes(&rt, rt.alloc(), b"", script, text)?;
+    plant_writes(&rt, rt.alloc(), b"", script, text)?;
     Ok(())
 }
 
@@ -17,11 +17,11 @@ fn a_lost_command_leaves_its_entity_unsettled(rt: HostRuntime) -> Result<(), Fai
     let lost = b"drop dc1 command 1\n";
     let text =
         b"statesman report 1\ngroup dc1\nversion 1\nentries 6\nreceipt 1 up accepted 1\ntarget a1.firmware=2\nunsettled a1\nwire commands 1 reports 1 stale 0 old 0\npromises 1 start 1 now 1\nend\n";
-    let _called = plant_writes(&rt, rt.alloc(), lost, UPGRADE, text)?;
+    plant_writes(&rt, rt.alloc(), lost, UPGRADE, text)?;
     let script = b"app up\npropose dc1 a1.firmware=2\nawait dc1\nsettle dc1 2\n";
     let text =
         b"statesman report 1\ngroup dc1\nversion 1\nentries 11\nreceipt 1 up accepted 1\ntarget a1.firmware=2\nwire commands 2 reports 2 stale 0 old 0\npromises 1 start 1 now 1\nend\n";
-    let _called = plant_writes(&rt, rt.alloc(), lost, script, text)?;
+    plant_writes(&rt, rt.alloc(), lost, script, text)?;
     Ok(())
 }
 
@@ -31,8 +31,9 @@ fn a_command_that_comes_again_is_stale(rt: HostRuntime) -> Result<(), Fail> {
         b"app up\npropose dc1 a1.firmware=2\nawait dc1\nsettle dc1 1\npropose dc1 a1.firmware=3\nawait dc1\nsettle dc1 1\n";
     let text =
         b"statesman report 1\ngroup dc1\nversion 2\nentries 15\nreceipt 1 up accepted 1\nreceipt 2 up accepted 2\ntarget a1.firmware=3\nwire commands 2 reports 2 stale 1 old 0\npromises 1 start 1 now 1\nend\n";
-    let called = plant_writes(&rt, rt.alloc(), b"repeat dc1 command 1 2\n", script, text)?;
+    let called = plant_call(&rt, rt.alloc(), b"repeat dc1 command 1 2\n", script, text)?;
     assert!(rt; matches!(reply_of(&called, 12), Some(Reply::Stale { fence: 9 })));
+    drop(called);
     Ok(())
 }
 
@@ -40,9 +41,10 @@ fn a_command_that_comes_again_is_stale(rt: HostRuntime) -> Result<(), Fail> {
 fn a_report_that_comes_again_is_old(rt: HostRuntime) -> Result<(), Fail> {
     let text =
         b"statesman report 1\ngroup dc1\nversion 1\nentries 8\nreceipt 1 up accepted 1\ntarget a1.firmware=2\nwire commands 1 reports 1 stale 0 old 1\npromises 1 start 1 now 1\nend\n";
-    let called = plant_writes(&rt, rt.alloc(), b"repeat dc1 report 1 1\n", UPGRADE, text)?;
+    let called = plant_call(&rt, rt.alloc(), b"repeat dc1 report 1 1\n", UPGRADE, text)?;
     assert!(rt; matches!(reply_of(&called, 7), Some(Reply::Taken)));
     assert!(rt; matches!(reply_of(&called, 8), Some(Reply::Old { kept: 1 })));
+    drop(called);
     Ok(())
 }
 
@@ -52,8 +54,9 @@ fn an_untold_failure_can_lose_a_promise(rt: HostRuntime) -> Result<(), Fail> {
         b"app plant\nfail dc1 a2 0\napp up\npropose dc1 a1.routing=0\nawait dc1\nsettle dc1 1\n";
     let text =
         b"statesman report 1\ngroup dc1\nversion 1\nentries 8\nreceipt 1 up accepted 1\ntarget a1.routing=0\nwire commands 1 reports 1 stale 0 old 0\npromises 1 start 1 now 0\nlost t1 t2\nend\n";
-    let called = plant_writes(&rt, rt.alloc(), b"", script, text)?;
+    let called = plant_call(&rt, rt.alloc(), b"", script, text)?;
     assert!(rt; matches!(reply_of(&called, 1), Some(Reply::Changed)));
+    drop(called);
     Ok(())
 }
 
@@ -63,7 +66,7 @@ fn a_told_failure_bars_the_change(rt: HostRuntime) -> Result<(), Fail> {
         b"app plant\nfail dc1 a2 0\npoll dc1 a2\napp up\npropose dc1 a1.routing=0\norder plant plant up\n";
     let text =
         b"statesman report 1\ngroup dc1\nversion 0\nentries 5\nreceipt 1 up refused broken t1 t2 cutoff need 10 has 0 side t1\nwire commands 0 reports 1 stale 0 old 0\npromises 1 start 1 now 1\nend\n";
-    let _called = plant_writes(&rt, rt.alloc(), b"", script, text)?;
+    plant_writes(&rt, rt.alloc(), b"", script, text)?;
     Ok(())
 }
 
@@ -72,8 +75,9 @@ fn other_values_are_set_back_by_a_renewed_command(rt: HostRuntime) -> Result<(),
     let script = b"app plant\nfail dc1 a1 5 firmware=9\npoll dc1 a1\nsettle dc1 1\n";
     let text =
         b"statesman report 1\ngroup dc1\nversion 0\nentries 8\nwire commands 1 reports 2 stale 0 old 0\npromises 1 start 1 now 1\nend\n";
-    let called = plant_writes(&rt, rt.alloc(), b"", script, text)?;
+    let called = plant_call(&rt, rt.alloc(), b"", script, text)?;
     assert!(rt; matches!(reply_of(&called, 3), Some(Reply::Taken)));
+    drop(called);
     Ok(())
 }
 
@@ -94,6 +98,7 @@ fn a_row_that_cannot_be_set_any_more_is_blocked(rt: HostRuntime) -> Result<(), F
     };
     assert!(rt; is_blocked);
     assert!(rt; matches!(reply_of(&called, 7), Some(Reply::NotBusy)));
+    drop(called);
     Ok(())
 }
 
@@ -102,15 +107,17 @@ fn held_messages_come_late(rt: HostRuntime) -> Result<(), Fail> {
     let script = b"app up\npropose dc1 a1.firmware=2\nawait dc1\nsettle dc1 2\n";
     let text =
         b"statesman report 1\ngroup dc1\nversion 1\nentries 12\nreceipt 1 up accepted 1\ntarget a1.firmware=2\nwire commands 2 reports 2 stale 1 old 1\npromises 1 start 1 now 1\nend\n";
-    let called = plant_writes(&rt, rt.alloc(), b"hold dc1 report 1 2\n", script, text)?;
+    let called = plant_call(&rt, rt.alloc(), b"hold dc1 report 1 2\n", script, text)?;
     assert!(rt; matches!(reply_of(&called, 8), Some(Reply::Stale { fence: 2 })));
     assert!(rt; matches!(reply_of(&called, 9), Some(Reply::NotBusy)));
     assert!(rt; matches!(reply_of(&called, 12), Some(Reply::Old { kept: 2 })));
+    drop(called);
     let text =
         b"statesman report 1\ngroup dc1\nversion 1\nentries 12\nreceipt 1 up accepted 1\ntarget a1.firmware=2\nwire commands 2 reports 2 stale 1 old 0\npromises 1 start 1 now 1\nend\n";
-    let called = plant_writes(&rt, rt.alloc(), b"hold dc1 command 1 2\n", script, text)?;
+    let called = plant_call(&rt, rt.alloc(), b"hold dc1 command 1 2\n", script, text)?;
     assert!(rt; matches!(reply_of(&called, 8), Some(Reply::Begun)));
     assert!(rt; matches!(reply_of(&called, 9), Some(Reply::Stale { fence: 2 })));
+    drop(called);
     Ok(())
 }
 
@@ -121,6 +128,6 @@ fn every_wire_line_has_its_turn(rt: HostRuntime) -> Result<(), Fail> {
     let script = b"app up\npropose dc1 a1.firmware=2\nawait dc1\nsettle dc1 3\n";
     let text =
         b"statesman report 1\ngroup dc1\nversion 1\nentries 17\nreceipt 1 up accepted 1\ntarget a1.firmware=2\nwire commands 3 reports 3 stale 2 old 1\npromises 1 start 1 now 1\nend\n";
-    let _called = plant_writes(&rt, rt.alloc(), lines, script, text)?;
+    plant_writes(&rt, rt.alloc(), lines, script, text)?;
     Ok(())
 }

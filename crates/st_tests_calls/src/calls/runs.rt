@@ -1,7 +1,7 @@
 //! `run`: scripts by threads. Where the order in which threads come matters, a gate holds them.
 
 use super::gates::{Behind, Checked, Halves, Leader, Meeting, Relay};
-use super::{Called, FIRST, HALF, TWO_PATHS, call, call_at, reply_of};
+use super::{Called, FIRST, HALF, TWO_PATHS, Told, call_at, reply_of, tell};
 use st_crew::{Gate, NoGate};
 use st_doc::DocKind;
 use st_event::{LogSaw, Reply};
@@ -22,15 +22,25 @@ fn run<R: Threads + Wait + Sync, G: Gate + Sync>(
     call_at(rt, alloc, &["run"], parts, gate)
 }
 
+/// What such a run tells.
+fn tell_run<R: Threads + Wait + Sync, G: Gate + Sync>(
+    rt: &R,
+    alloc: Global,
+    parts: &[&[u8]],
+    gate: &G,
+) -> Result<Told, AllocError> {
+    Ok(run(rt, alloc, parts, gate)?.into_told())
+}
+
 #[test]
 fn what_was_accepted_is_read(rt: HostRuntime) -> Result<(), Fail> {
     let alloc = rt.alloc();
     let script = b"await dc1\nread dc1 a1.firmware\n";
-    let called = run(&rt, alloc, &[TWO_PATHS, HALF, FIRST, script], &NoGate)?;
+    let run = tell_run(&rt, alloc, &[TWO_PATHS, HALF, FIRST, script], &NoGate)?;
     let text =
         b"statesman report 1\ngroup dc1\nversion 1\nentries 2\nreceipt 1 up accepted 1\ntarget a1.firmware=2\nunsettled a1\nwire commands 0 reports 0 stale 0 old 0\npromises 1 start 1 now 1\nread up dc1 a1.firmware version 1 value 2\nend\n";
-    assert_eq!(&rt; called.outcome.status, Status::Ok);
-    assert_eq!(&rt; called.text.as_slice(), text.as_slice());
+    assert_eq!(&rt; run.status, Status::Ok);
+    assert_eq!(&rt; run.text.as_slice(), text.as_slice());
     Ok(())
 }
 
@@ -39,11 +49,11 @@ fn two_applications_work_at_once(rt: HostRuntime) -> Result<(), Fail> {
     let alloc = rt.alloc();
     let scripts = b"app up\nread dc1 a1.firmware\napp te\nread dc1 a1.firmware\n";
     let gate = Meeting::of(2);
-    let called = run(&rt, alloc, &[TWO_PATHS, HALF, scripts], &gate)?;
+    let run = tell_run(&rt, alloc, &[TWO_PATHS, HALF, scripts], &gate)?;
     let text =
         b"statesman report 1\ngroup dc1\nversion 0\nentries 0\nwire commands 0 reports 0 stale 0 old 0\npromises 1 start 1 now 1\nread up dc1 a1.firmware version 0 value 1\nread te dc1 a1.firmware version 0 value 1\nend\n";
     assert!(&rt; gate.was_kept());
-    assert_eq!(&rt; called.text.as_slice(), text.as_slice());
+    assert_eq!(&rt; run.text.as_slice(), text.as_slice());
     Ok(())
 }
 
@@ -66,6 +76,7 @@ fn a_reader_sees_what_it_was_not_told(rt: HostRuntime) -> Result<(), Fail> {
         value: 2,
     };
     assert_eq!(&rt; seen, Some(accepted));
+    drop(called);
     Ok(())
 }
 
@@ -82,13 +93,13 @@ const JUDGED: &[u8] =
 fn a_proposal_is_judged_while_others_hold_the_lock(rt: HostRuntime) -> Result<(), Fail> {
     let alloc = rt.alloc();
     let gate = Behind::judgements(1);
-    let called = run(&rt, alloc, &[TWO_PATHS, HALF, WAITS, LOCKS], &gate)?;
+    let run = tell_run(&rt, alloc, &[TWO_PATHS, HALF, WAITS, LOCKS], &gate)?;
     assert!(&rt; gate.was_kept());
-    assert_eq!(&rt; called.text.as_slice(), JUDGED);
+    assert_eq!(&rt; run.text.as_slice(), JUDGED);
     let gate = Behind::judgements(0);
-    let called = run(&rt, alloc, &[TWO_PATHS, HALF, LOCKS, WAITS], &gate)?;
+    let run = tell_run(&rt, alloc, &[TWO_PATHS, HALF, LOCKS, WAITS], &gate)?;
     assert!(&rt; gate.was_kept());
-    assert_eq!(&rt; called.text.as_slice(), JUDGED);
+    assert_eq!(&rt; run.text.as_slice(), JUDGED);
     Ok(())
 }
 
@@ -116,8 +127,8 @@ fn a_checker_judges_what_nobody_awaits(rt: HostRuntime) -> Result<(), Fail> {
     // Checkers may look before there are proposals, as often as they look at all, but not each of them each time.
     for _time in 0..200 {
         let gate = Checked::new();
-        let called = run(&rt, alloc, &[text.as_slice()], &gate)?;
-        assert_eq!(&rt; called.outcome.status, Status::Ok);
+        let run = tell_run(&rt, alloc, &[text.as_slice()], &gate)?;
+        assert_eq!(&rt; run.status, Status::Ok);
         if gate.was_seen() {
             return Ok(());
         }
@@ -139,6 +150,7 @@ fn an_updater_and_a_monitor_settle_what_was_accepted(rt: HostRuntime) -> Result<
     // The updater's half is of both switches, and then the monitor's: a round would have a report behind each command.
     assert!(rt; matches!(reply_of(&called, 6), Some(Reply::Sent { command: 2 })));
     assert!(rt; matches!(reply_of(&called, 9), Some(Reply::Reported { report: 1 })));
+    drop(called);
     Ok(())
 }
 
@@ -147,11 +159,11 @@ fn an_updater_and_a_monitor_work_beside_a_reader(rt: HostRuntime) -> Result<(), 
     let alloc = rt.alloc();
     let script = b"app te\nread dc1 a1.firmware\nsettle dc1 1\n";
     let gate = Halves::of(0);
-    let called = run(&rt, alloc, &[TWO_PATHS, HALF, script], &gate)?;
+    let run = tell_run(&rt, alloc, &[TWO_PATHS, HALF, script], &gate)?;
     let text =
         b"statesman report 1\ngroup dc1\nversion 0\nentries 0\nwire commands 0 reports 0 stale 0 old 0\npromises 1 start 1 now 1\nread te dc1 a1.firmware version 0 value 1\nend\n";
     assert!(&rt; gate.was_kept(1));
-    assert_eq!(&rt; called.text.as_slice(), text.as_slice());
+    assert_eq!(&rt; run.text.as_slice(), text.as_slice());
     Ok(())
 }
 
@@ -170,6 +182,7 @@ fn as_many_applications_as_there_may_be_read_at_once(rt: HostRuntime) -> Result<
     assert!(&rt; gate.was_kept());
     assert_eq!(&rt; called.outcome.status, Status::Ok);
     assert_eq!(&rt; called.outcome.logs.as_slice().len(), 32);
+    drop(called);
     Ok(())
 }
 
@@ -183,15 +196,15 @@ fn printed_and_replayed<R: Abort + Threads + Wait + Sync, G: Gate + Sync>(
     rt: &R,
     alloc: Global,
     gate: &G,
-) -> Result<Called, AllocError> {
+) -> Result<Vec<u8>, AllocError> {
     let words = ["run", "--form", "replay"];
-    let printed = call_at(rt, alloc, &words, &[TWO_PATHS, HALF, FOUR], gate)?;
-    assert_eq!(rt; printed.outcome.status, Status::Ok);
+    let printed = call_at(rt, alloc, &words, &[TWO_PATHS, HALF, FOUR], gate)?.into_told();
+    assert_eq!(rt; printed.status, Status::Ok);
     let words = ["replay", "--form", "replay"];
-    let again = call(rt, alloc, &words, &[printed.text.as_slice()])?;
-    assert_eq!(rt; again.outcome.status, Status::Ok);
+    let again = tell(rt, alloc, &words, &[printed.text.as_slice()])?;
+    assert_eq!(rt; again.status, Status::Ok);
     assert_eq!(rt; again.text.as_slice(), printed.text.as_slice());
-    Ok(printed)
+    Ok(printed.text)
 }
 
 #[test]
@@ -205,8 +218,8 @@ fn several_orders_are_replayed(rt: HostRuntime) -> Result<(), Fail> {
     }
     // Who goes ahead proposes first to its group, so there are several journals.
     assert_eq!(&rt; led.len(), 4);
-    assert!(&rt; led[0].text.as_slice() != led[1].text.as_slice());
-    assert!(&rt; led[2].text.as_slice() != led[3].text.as_slice());
+    assert!(&rt; led[0].as_slice() != led[1].as_slice());
+    assert!(&rt; led[2].as_slice() != led[3].as_slice());
     for _time in 0..196 {
         let _free = printed_and_replayed(&rt, alloc, &NoGate)?;
     }
@@ -216,20 +229,20 @@ fn several_orders_are_replayed(rt: HostRuntime) -> Result<(), Fail> {
 #[test]
 fn a_bad_document_is_not_run(rt: HostRuntime) -> Result<(), Fail> {
     let alloc = rt.alloc();
-    let called = run(&rt, alloc, &[b"statesman 2\n"], &NoGate)?;
+    let run = tell_run(&rt, alloc, &[b"statesman 2\n"], &NoGate)?;
     let bad = Status::BadInput {
         line: 1,
         kind: DocKind::Header,
     };
-    assert_eq!(&rt; called.outcome.status, bad);
+    assert_eq!(&rt; run.status, bad);
     assert_eq!(&rt;
-        called.text.as_slice(),
+        run.text.as_slice(),
         b"fault input line 1 header\n".as_slice()
     );
     let long = vec![in alloc; b'#'; 1_048_577]?;
-    let called = run(&rt, alloc, &[long.as_slice()], &NoGate)?;
-    assert_eq!(&rt; called.outcome.status, Status::TooLong);
-    assert_eq!(&rt; called.text.as_slice(), b"fault long\n".as_slice());
+    let run = tell_run(&rt, alloc, &[long.as_slice()], &NoGate)?;
+    assert_eq!(&rt; run.status, Status::TooLong);
+    assert_eq!(&rt; run.text.as_slice(), b"fault long\n".as_slice());
     Ok(())
 }
 
@@ -272,5 +285,6 @@ fn a_full_journal_stops_who_meets_it_alone(rt: HostRuntime) -> Result<(), Fail> 
     assert_eq!(&rt; logs[0].entries.as_slice().len(), 1);
     // And the one that met the full journal did nothing behind it.
     assert_eq!(&rt; logs[1].entries.as_slice().len(), 1);
+    drop(called);
     Ok(())
 }

@@ -7,7 +7,7 @@ fn a_proposal_is_accepted(rt: HostRuntime) -> Result<(), Fail> {
     let alloc = rt.alloc();
     let called = call(&rt, alloc, &["serial"], &[TWO_PATHS, HALF, FIRST])?;
     let entries = ["queued", "accepted"];
-    ends_as(&rt, alloc, &called, Status::Ok, ACCEPTED, &entries)?;
+    ends_as(&rt, alloc, called, Status::Ok, ACCEPTED, &entries)?;
     Ok(())
 }
 
@@ -18,7 +18,7 @@ fn a_second_proposal_would_break_the_pair(rt: HostRuntime) -> Result<(), Fail> {
     let entries = ["queued", "queued", "accepted", "refused"];
     let text =
         b"statesman report 1\ngroup dc1\nversion 1\nentries 4\nreceipt 1 up accepted 1\nreceipt 2 up refused broken t1 t2 cutoff need 10 has 0 side t1\ntarget a1.firmware=2\nunsettled a1\nwire commands 0 reports 0 stale 0 old 0\npromises 1 start 1 now 1\nend\n";
-    ends_as(&rt, alloc, &called, Status::Ok, text, &entries)?;
+    ends_as(&rt, alloc, called, Status::Ok, text, &entries)?;
     Ok(())
 }
 
@@ -148,7 +148,8 @@ fn a_full_queue_is_checked_first(rt: HostRuntime) -> Result<(), Fail> {
         &[TWO_PATHS, HALF, script.as_slice()],
     )?;
     assert_eq!(&rt; called.outcome.status, Status::Ok);
-    assert_eq!(&rt; entry_words(alloc, &called.outcome)?.len(), 130);
+    assert_eq!(&rt; entry_count(&called.outcome), 130);
+    drop(called);
     Ok(())
 }
 
@@ -174,7 +175,8 @@ fn the_greatest_numbers_of_groups_and_applications_run(rt: HostRuntime) -> Resul
     assert_eq!(&rt; called.outcome.status, Status::Ok);
     assert_eq!(&rt; called.outcome.journals.as_slice().len(), 16);
     assert_eq!(&rt; called.outcome.logs.as_slice().len(), 32);
-    assert_eq!(&rt; entry_words(alloc, &called.outcome)?.len(), 64);
+    assert_eq!(&rt; entry_count(&called.outcome), 64);
+    drop(called);
     Ok(())
 }
 
@@ -185,7 +187,7 @@ fn a_document_without_a_group_has_an_empty_report(rt: HostRuntime) -> Result<(),
     ends_as(
         &rt,
         alloc,
-        &called,
+        called,
         Status::Ok,
         b"statesman report 1\nend\n",
         &[],
@@ -198,6 +200,6 @@ fn parts_are_counted(rt: HostRuntime) -> Result<(), Fail> {
     let alloc = rt.alloc();
     let called = call(&rt, alloc, &["check"], &[TWO_PATHS, HALF_WITH_CR, FIRST])?;
     let line = b"ok groups 1 devices 4 links 4 promises 1 apps 1 commands 1\n";
-    ends_as(&rt, alloc, &called, Status::Ok, line, &[])?;
+    ends_as(&rt, alloc, called, Status::Ok, line, &[])?;
     Ok(())
 }

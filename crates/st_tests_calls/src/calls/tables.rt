@@ -1,7 +1,7 @@
 //! Words of the texts in tables, a row for each: the kinds of a bad line, the replies of locks, the exit statuses. And what stands
 //! exactly at a limit.
 
-use super::{ACCEPTED, FIRST, HALF, TWO_PATHS, call, ends_as, joined, words_of, writes};
+use super::{ACCEPTED, FIRST, HALF, TWO_PATHS, call, ends_as, joined, tell, words_of, writes};
 use st_doc::DocKind;
 use st_io::{SureSink, SureSource};
 use st_top::{Status, run_program};
@@ -32,13 +32,9 @@ fn each_kind_of_bad_line_has_its_word(rt: HostRuntime) -> Result<(), Fail> {
         (SMALL, sixteen, "fault input line 20 limit\n"),
     ];
     for (before, line, text) in cases {
-        let called = call(
-            &rt,
-            alloc,
-            &["check"],
-            &[before.as_bytes(), line.as_bytes()],
-        )?;
-        assert_eq!(&rt; called.text.as_slice(), text.as_bytes());
+        let parts = [before.as_bytes(), line.as_bytes()];
+        let check = tell(&rt, alloc, &["check"], &parts)?;
+        assert_eq!(&rt; check.text.as_slice(), text.as_bytes());
     }
     Ok(())
 }
@@ -117,13 +113,13 @@ fn an_input_of_the_most_bytes_is_read(rt: HostRuntime) -> Result<(), Fail> {
     ends_as(
         &rt,
         alloc,
-        &called,
+        called,
         Status::Ok,
         ACCEPTED,
         &["queued", "accepted"],
     )?;
     let called = call(&rt, alloc, &["serial"], &[bytes.as_slice(), b"\n"])?;
-    ends_as(&rt, alloc, &called, Status::TooLong, b"fault long\n", &[])?;
+    ends_as(&rt, alloc, called, Status::TooLong, b"fault long\n", &[])?;
     Ok(())
 }
 
@@ -148,7 +144,7 @@ fn a_proposal_has_at_most_sixteen_rows(rt: HostRuntime) -> Result<(), Fail> {
     ends_as(
         &rt,
         alloc,
-        &called,
+        called,
         limit,
         b"fault input line 12 limit\n",
         &[],
