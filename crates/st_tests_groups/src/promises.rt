@@ -78,23 +78,34 @@ struct Runs {
 }
 
 // The link p9e0a0 is the first of the 50 of pod 9, the ToR p9e0 device 90, and the promise of p0e0 and p9e0 number 44.
-fn seen_in(alloc: Global, topo: &GroupTopo) -> Result<Runs, AllocError> {
-    let mut book = Book::start(alloc, topo)?;
-    let link = lost(alloc, topo, &mut book, Entity::Link(450))?;
+fn seen_of(alloc: Global, topo: &GroupTopo, book: &mut Book) -> Result<Runs, AllocError>
+    requires book { IsBookOf topo.now book.old.of }
+{
+    let link_breaks = lost(alloc, topo, book, Entity::Link(450))?.is_some();
     let runs = book.flows_run();
-    let tor = lost(alloc, topo, &mut book, Entity::Device(90))?;
+    let tor = lost(alloc, topo, book, Entity::Device(90))?;
     Ok(Runs {
         promises: topo.promise_count(),
-        link_breaks: link.is_some(),
+        link_breaks,
         runs,
         tor_cut_off: is_last_of_first(tor),
         more_runs: book.flows_run(),
     })
 }
 
+fn seen_in(alloc: Global, topo: &GroupTopo) -> Result<Runs, AllocError> {
+    let mut book = Book::start(alloc, topo)?;
+    let seen = seen_of(alloc, topo, &mut book);
+    drop(book);
+    seen
+}
+
 #[test]
 fn only_flows_that_lost_too_much_are_found_again(rt: HostRuntime) -> Result<(), Fail> {
-    let seen = seen_in(rt.alloc(), &fat_tree(rt.alloc())?)?;
+    let topo = fat_tree(rt.alloc())?;
+    let seen = seen_in(rt.alloc(), &topo);
+    drop(topo);
+    let seen = seen?;
     assert_eq!(rt; seen.promises, 1225);
     assert!(rt; !seen.link_breaks && seen.tor_cut_off);
     assert!(rt; seen.runs <= 98);
@@ -110,25 +121,46 @@ struct Repeated {
     breaks: bool,
 }
 
-fn repeated_in(alloc: Global, topo: &GroupTopo) -> Result<Repeated, AllocError> {
-    let mut book = Book::start(alloc, topo)?;
-    let mut before = every_entity(alloc, topo)?;
-    if topo.has(Entity::Device(90)) {
-        before.remove(Entity::Device(90));
-    }
-    let broken = book.judge_pairs(topo, &before, &before)?;
+/// Whether a change of nothing breaks a promise.
+fn breaks(topo: &GroupTopo, book: &mut Book, up: &EntitySet) -> Result<bool, AllocError>
+    requires book { IsBookOf topo.now book.old.of }
+    requires up { MarksOf topo.now up.now }
+    ensures book { IsBookOf topo.now book.new.of }
+{
+    Ok(book.judge_pairs(topo, up, up)?.is_some())
+}
+
+fn repeated_of(topo: &GroupTopo, book: &mut Book, up: &EntitySet) -> Result<Repeated, AllocError>
+    requires book { IsBookOf topo.now book.old.of }
+    requires up { MarksOf topo.now up.now }
+{
+    let breaks_first = breaks(topo, book, up)?;
     let first = book.flows_run();
-    let again = book.judge_pairs(topo, &before, &before)?;
+    let breaks_again = breaks(topo, book, up)?;
     Ok(Repeated {
         first,
         second: book.flows_run().saturating_sub(first),
-        breaks: broken.is_some() || again.is_some(),
+        breaks: breaks_first || breaks_again,
     })
+}
+
+fn repeated_in(alloc: Global, topo: &GroupTopo) -> Result<Repeated, AllocError> {
+    let mut up = every_entity(alloc, topo)?;
+    if topo.has(Entity::Device(90)) {
+        up.remove(Entity::Device(90));
+    }
+    let mut book = Book::start(alloc, topo)?;
+    let repeated = repeated_of(topo, &mut book, &up);
+    drop(book);
+    repeated
 }
 
 #[test]
 fn promises_that_fail_already_take_no_more_flows(rt: HostRuntime) -> Result<(), Fail> {
-    let seen = repeated_in(rt.alloc(), &fat_tree(rt.alloc())?)?;
+    let topo = fat_tree(rt.alloc())?;
+    let seen = repeated_in(rt.alloc(), &topo);
+    drop(topo);
+    let seen = seen?;
     assert!(rt; !seen.breaks && seen.first >= 49);
     assert_eq!(rt; seen.second, 0);
     Ok(())

@@ -2,7 +2,7 @@
 
 ghost use Rattle.std.specs.Prelude.{◌≡◌, ◌+◌, ◌≤◌, [], IfOk, length};
 
-use scenario::{Scenario, play};
+use scenario::{InTurn, Scenario, play};
 use st_net::GroupTopo;
 use st_samples::{TWO_PATH, groups};
 use st_service::{Closed, Naming, Pass, RoomLines, Service};
@@ -187,35 +187,53 @@ fn two_threads_propose_in_one_room(rt: HostRuntime) -> Result<(), Fail> {
 
 #[test]
 fn a_settle_follows_anothers_await(rt: HostRuntime) -> Result<(), Fail> {
-    let counts = counted(&rt, rt.alloc(), 2, 0, Scenario::SettleAfterAwait)?;
+    let counts = counted(
+        &rt,
+        rt.alloc(),
+        2,
+        0,
+        Scenario::InTurn(InTurn::SettleAfterAwait),
+    )?;
     assert_eq!(rt; counts, (7, 1));
     Ok(())
 }
 
 #[test]
 fn a_worker_does_a_round(rt: HostRuntime) -> Result<(), Fail> {
-    let counts = counted(&rt, rt.alloc(), 1, 1, Scenario::WorkerRound)?;
+    let counts = counted(&rt, rt.alloc(), 1, 1, Scenario::InTurn(InTurn::WorkerRound))?;
     assert_eq!(rt; counts, (7, 0));
     Ok(())
 }
 
 #[test]
 fn workers_do_a_round_by_halves(rt: HostRuntime) -> Result<(), Fail> {
-    let counts = counted(&rt, rt.alloc(), 1, 2, Scenario::WorkerHalves)?;
+    let counts = counted(
+        &rt,
+        rt.alloc(),
+        1,
+        2,
+        Scenario::InTurn(InTurn::WorkerHalves),
+    )?;
     assert_eq!(rt; counts, (7, 1));
     Ok(())
 }
 
 #[test]
 fn workers_check_off_the_lock_and_do_halves(rt: HostRuntime) -> Result<(), Fail> {
-    let counts = counted(&rt, rt.alloc(), 1, 3, Scenario::WorkerCalls)?;
+    let counts = counted(&rt, rt.alloc(), 1, 3, Scenario::InTurn(InTurn::WorkerCalls))?;
     assert_eq!(rt; counts, (7, 1));
     Ok(())
 }
 
 #[test]
 fn a_settle_follows_a_workers_check(rt: HostRuntime) -> Result<(), Fail> {
-    let counts = counted(&rt, rt.alloc(), 1, 3, Scenario::SettleAfterCheck)?;
+    let counts = counted(
+        &rt,
+        rt.alloc(),
+        1,
+        3,
+        Scenario::InTurn(InTurn::SettleAfterCheck),
+    )?;
     assert_eq!(rt; counts, (7, 0));
     Ok(())
 }
@@ -230,7 +248,7 @@ fn a_check_is_judged_off_the_lock(rt: HostRuntime) -> Result<(), Fail> {
 
 #[test]
 fn each_act_enters_its_events(rt: HostRuntime) -> Result<(), Fail> {
-    let counts = counted(&rt, rt.alloc(), 1, 0, Scenario::EachAct)?;
+    let counts = counted(&rt, rt.alloc(), 1, 0, Scenario::InTurn(InTurn::EachAct))?;
     // Lock, unlock, failure; a report and its hearing.
     assert_eq!(rt; counts, (5, 2));
     Ok(())
@@ -245,7 +263,7 @@ fn readers_wait_for_nobody(rt: HostRuntime) -> Result<(), Fail> {
 
 #[test]
 fn a_full_journal_is_told(rt: HostRuntime) -> Result<(), Fail> {
-    let counts = counted(&rt, rt.alloc(), 1, 0, Scenario::FullJournal)?;
+    let counts = counted(&rt, rt.alloc(), 1, 0, Scenario::InTurn(InTurn::FullJournal))?;
     assert_eq!(rt; counts, (200_000, 1));
     Ok(())
 }

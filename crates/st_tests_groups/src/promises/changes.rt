@@ -268,6 +268,36 @@ fn judge(
     Ok(())
 }
 
+/// A change that is drawn.
+fn drawn(alloc: Global, topo: &GroupTopo, dice: &mut Dice) -> Result<Sets, AllocError>
+    ensures all { IfOk result (λ sets. MarksOf topo.now sets.all) }
+    ensures before { IfOk result (λ sets. MarksOf topo.now sets.before) }
+    ensures after { IfOk result (λ sets. MarksOf topo.now sets.after) }
+{
+    let all = every_entity(alloc, topo)?;
+    let before = thinned(alloc, topo, &all, dice)?;
+    let after = thinned(alloc, topo, &before, dice)?;
+    Ok(Sets { all, before, after })
+}
+
+/// Draws a change, judges it in each way, and counts it.
+fn judge_drawn(
+    rt: &(impl Threads + Sync),
+    alloc: Global,
+    topo: &GroupTopo,
+    book: &mut Book,
+    dice: &mut Dice,
+    tally: &mut Tally,
+) -> Result<(), AllocError>
+    requires book { IsBookOf topo.now book.old.of }
+    ensures book { IsBookOf topo.now book.new.of }
+{
+    let sets = drawn(alloc, topo, dice)?;
+    let judged = judge(rt, alloc, topo, book, &sets, tally);
+    drop(sets);
+    judged
+}
+
 /// Twenty changes of one group, and one book.
 fn judge_changes(
     rt: &(impl Threads + Sync),
@@ -278,11 +308,7 @@ fn judge_changes(
 ) -> Result<(), AllocError> {
     let mut book = Book::start(alloc, topo)?;
     for _ in 0..20 {
-        let all = every_entity(alloc, topo)?;
-        let before = thinned(alloc, topo, &all, dice)?;
-        let after = thinned(alloc, topo, &before, dice)?;
-        let sets = Sets { all, before, after };
-        judge(rt, alloc, topo, &mut book, &sets, tally)?;
+        judge_drawn(rt, alloc, topo, &mut book, dice, tally)?;
     }
     Ok(())
 }
