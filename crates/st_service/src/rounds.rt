@@ -60,6 +60,7 @@ impl<J: Naming, L: Ledger, H: Wait + Drop> Service<J, L, H> {
         ensures kept { Kept pass.old pass.new group (round_share part (J.group group) (J.lines group)) }
         ensures log { pass.new.log ≡ pass.old.log }
         ensures told { IfOk result (λ rounded. RoundTold rounded part (J.group group) (J.lines group) pass.old.number (front_at pass.old.fronts group) (mine_at pass.old.mines group) (front_at pass.new.fronts group) (mine_at pass.new.mines group)) }
+        ensures reads { IfOk result (λ _. IsTaught pass.new group) }
     {
         let entities = self.unsettled(rt, pass, group)?;
         match self.turns(rt, alloc, pass, group, part, &entities)? {
@@ -91,6 +92,7 @@ impl<J: Naming, L: Ledger, H: Wait + Drop> Service<J, L, H> {
         ensures kept { Kept pass.old pass.new group (round_share whole (J.group group) (J.lines group)) }
         ensures log { pass.new.log ≡ pass.old.log }
         ensures told { IfOk result (λ rounded. RoundTold rounded whole (J.group group) (J.lines group) pass.old.number (front_at pass.old.fronts group) (mine_at pass.old.mines group) (front_at pass.new.fronts group) (mine_at pass.new.mines group)) }
+        ensures reads { IfOk result (λ _. IsTaught pass.new group) }
     {
         self.round_of(rt, alloc, pass, group as usize, Part::Whole)
     }
@@ -108,6 +110,7 @@ impl<J: Naming, L: Ledger, H: Wait + Drop> Service<J, L, H> {
         ensures kept { Kept pass.old pass.new group (round_share update_half (J.group group) (J.lines group)) }
         ensures log { pass.new.log ≡ pass.old.log }
         ensures told { IfOk result (λ rounded. RoundTold rounded update_half (J.group group) (J.lines group) pass.old.number (front_at pass.old.fronts group) (mine_at pass.old.mines group) (front_at pass.new.fronts group) (mine_at pass.new.mines group)) }
+        ensures reads { IfOk result (λ _. IsTaught pass.new group) }
     {
         self.round_of(rt, alloc, pass, group as usize, Part::Update)
     }
@@ -125,6 +128,7 @@ impl<J: Naming, L: Ledger, H: Wait + Drop> Service<J, L, H> {
         ensures kept { Kept pass.old pass.new group (round_share monitor_half (J.group group) (J.lines group)) }
         ensures log { pass.new.log ≡ pass.old.log }
         ensures told { IfOk result (λ rounded. RoundTold rounded monitor_half (J.group group) (J.lines group) pass.old.number (front_at pass.old.fronts group) (mine_at pass.old.mines group) (front_at pass.new.fronts group) (mine_at pass.new.mines group)) }
+        ensures reads { IfOk result (λ _. IsTaught pass.new group) }
     {
         self.round_of(rt, alloc, pass, group as usize, Part::Monitor)
     }
