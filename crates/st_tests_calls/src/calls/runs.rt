@@ -4,7 +4,7 @@ use super::gates::{Behind, Checked, Halves, Leader, Meeting, Relay};
 use super::{Called, FIRST, HALF, TWO_PATHS, Told, call_at, reply_of, tell};
 use st_crew::{Gate, NoGate};
 use st_doc::DocKind;
-use st_event::{LogSaw, Reply};
+use st_event::{Event, LogSaw, Reply};
 use st_top::Status;
 use std::alloc::{AllocError, Global};
 use std::process::Abort;
@@ -183,6 +183,37 @@ fn as_many_applications_as_there_may_be_read_at_once(rt: HostRuntime) -> Result<
     assert_eq!(&rt; called.outcome.status, Status::Ok);
     assert_eq!(&rt; called.outcome.logs.as_slice().len(), 32);
     drop(called);
+    Ok(())
+}
+
+/// Whether a command of this number was delivered, and whether a report of this number was heard.
+fn brought(called: &Called, number: u32) -> (bool, bool) {
+    let mut brought = (false, false);
+    for journal in called.outcome.journals.as_slice() {
+        for entry in journal.entries.as_slice() {
+            match entry.event {
+                Event::Deliver { command } if command == number => brought.0 = true,
+                Event::Hear { report } if report == number => brought.1 = true,
+                _ => {}
+            }
+        }
+    }
+    brought
+}
+
+#[test]
+fn what_is_lost_never_comes(rt: HostRuntime) -> Result<(), Fail> {
+    let alloc = rt.alloc();
+    let lines = b"drop dc1 command 1\ndrop dc1 report 2\n";
+    let script = b"app up\npropose dc1 a1.firmware=2\nawait dc1\nsettle dc1 3\n";
+    // Whoever makes a turn, the first two commands and reports are made: the first command is lost, and so a second one is sent.
+    for _time in 0..50 {
+        let called = run(&rt, alloc, &[TWO_PATHS, HALF, lines, script], &NoGate)?;
+        assert_eq!(&rt; called.outcome.status, Status::Ok);
+        assert_eq!(&rt; brought(&called, 1), (false, true));
+        assert_eq!(&rt; brought(&called, 2), (true, false));
+        drop(called);
+    }
     Ok(())
 }
 
