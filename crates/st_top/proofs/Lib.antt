@@ -6,3 +6,4 @@ pub mod PrintedRuns
 pub mod ThreadRuns
 pub mod HandedBack
 pub mod Histories
+mod SerialRuns

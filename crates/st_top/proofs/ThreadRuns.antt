@@ -59,12 +59,12 @@ numbered_from n (journal ∷ journals) numbers = (
 )
 
 -- the group of a place, and the legal journal there
-record IsLegalAt (groups : List Group) (k : ℕ) (journal : Journal) : Type 0 where
-  group : Group
-  at : slice_get groups k ≡ Some group
-  legal : IsLegal group (reverse journal.entries)
+pub record IsLegalAt (groups : List Group) (k : ℕ) (journal : Journal) : Type 0 where
+  pub group : Group
+  pub at : slice_get groups k ≡ Some group
+  pub legal : IsLegal group (reverse journal.entries)
 
-legal_here : (groups : List Group) (journals : List Journal) (k : ℕ) (j : Journal) → AreKept groups journals → k < length journals → IsLegalAt groups k (slice_index_or journals k j)
+pub legal_here : (groups : List Group) (journals : List Journal) (k : ℕ) (j : Journal) → AreKept groups journals → k < length journals → IsLegalAt groups k (slice_index_or journals k j)
 legal_here [] [] k j kept low = absurd (omega (arith, low))
 legal_here [] (journal ∷ journals) k j kept low = absurd kept
 legal_here (g ∷ groups) [] k j kept low = absurd kept

@@ -18,7 +18,7 @@ use Rattle.st_replay.specs.Replaying.{app_names, AreLegal, IsFirstIllegal, repla
 use Rattle.st_top.specs.Output.{shown}
 use Rattle.st_serial.specs.Kept.{groups_of}
 use Rattle.st_run.specs.Running.{IsRunOf}
-use Rattle.st_top.specs.Answer.{Results, EndsOnBytes}
+use Rattle.st_top.specs.Answer.{AreOfScripts, Results, EndsOnBytes}
 use Rattle.st_top.specs.Completeness.{CanBeRead}
 
 -- a sound document, and a legal journal of each of its groups in order, asked by its applications
@@ -49,6 +49,11 @@ pub record ReplaysRun (doc : Doc) (journals : List Journal) (text : List ℕ) : 
 -- so it is with the text that is printed of each run, if it is no longer than an input may be
 abbrev pub PrintedRunsAreReplayed : Type 0
 PrintedRunsAreReplayed = (doc : Doc) (journals : List Journal) → IsRun doc journals → length (run_text forms.Replay doc journals) ≤ MAX_BYTES → ReplaysRun doc journals (run_text forms.Replay doc journals)
+
+-- so it is with the journals that the scripts of a sound document make in script order, as far as no journal was full
+abbrev pub SerialRunsAreReplayed : Type 0
+SerialRunsAreReplayed = (doc : Doc) (results : Results) → IsSoundDoc doc → AreOfScripts doc results
+    → length (run_text forms.Replay doc results.journals) ≤ MAX_BYTES → ReplaysRun doc results.journals (run_text forms.Replay doc results.journals)
 
 -- and so it is with what threads made of a sound document
 abbrev pub RunsByThreadsAreReplayed : Type 0

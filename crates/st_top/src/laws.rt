@@ -1,7 +1,7 @@
 //! Laws of the documents of fat trees, and of a run that is printed. A function here does nothing: its contract is the law, for
 //! whoever runs a document and has to say that it comes to its end, or keeps what was printed and replays it later.
 
-ghost use Rattle.st_top.specs.PrintedRuns.{PrintedRunsAreReplayed, RunsByThreadsAreReplayed};
+ghost use Rattle.st_top.specs.PrintedRuns.{PrintedRunsAreReplayed, RunsByThreadsAreReplayed, SerialRunsAreReplayed};
 ghost use Rattle.st_top.specs.Trees.{TreesFit, TreesHaveRoom};
 
 /// The documents of fat trees have so few commands that no event meets a full journal.
@@ -15,6 +15,12 @@ pub fn trees_fit()
 /// its form, without what was read.
 pub fn printed_runs_are_replayed()
     ensures { PrintedRunsAreReplayed }
+{}
+
+/// What `serial` hands back of a sound document, whether or not it met a full journal, is such a run: its text is read as the document
+/// and these journals, and replayed.
+pub fn serial_runs_are_replayed()
+    ensures { SerialRunsAreReplayed }
 {}
 
 /// What threads made of a sound document, whether or not they met a full journal, is such a run: its text is read as the document and
