@@ -1,5 +1,5 @@
 -- What `serial` made of a document is a run that can be printed, and so replayed.
-use Rattle.std.proofs.Common.{◌≡◌, ℕ, zero, suc, ◌+◌, ◌<◌, ◌≤◌, ◌^◌, List, [], ◌∷◌, ◌++◌, length, Bool, true, false, Option, Some, None, refl, ap, sym, ◌∙◌, subst, arith}
+use Rattle.std.proofs.Common.{◌≡◌, ℕ, zero, suc, ◌+◌, ◌<◌, ◌^◌, List, [], ◌∷◌, length, Bool, true, false, Option, Some, None, refl, ap, sym, ◌∙◌, subst, arith}
 use Rattle.std.specs.Prelude.{All, IfSome, map, reverse, slice_get, slice_index_or, nat_lt, ◌==◌, ◌&&◌, if◌then◌else◌, is_some}
 use Rattle.std.specs.List.{cons_option, filter_map, list_any}
 use Rattle.std.proofs.lemmas.Bool.Decides.{nat_tests}
@@ -24,9 +24,8 @@ use Rattle.st_event.specs.declared.reply.Lack.{Lack}
 use Rattle.st_event.specs.declared.journal.Entry.{Entry}
 use Rattle.st_event.specs.declared.journal.Journal.{Journal}
 use Rattle.st_event.specs.declared.journal.TheConstants.{MAX_ENTRIES, MAX_PENDING}
-use Rattle.st_event.specs.History.{History}
 use Rattle.st_event.specs.Judge.{lack_at}
-use Rattle.st_event.specs.Moments.{commands, reports, vals}
+use Rattle.st_event.specs.Moments.{commands, vals}
 use Rattle.st_event.specs.Observed.{is_settled, observed}
 use Rattle.st_event.specs.Proposals.{pending, target}
 use Rattle.st_event.specs.Replies.{blocked_or_sent, governing, row_to, send_reply}
@@ -37,7 +36,7 @@ use Rattle.st_wire.specs.declared.line.WireLine.{WireLine}
 use Rattle.st_wire.specs.declared.line.WireLine.TheVariants.{Drop, Repeat, Hold}
 use Rattle.st_wire.specs.Deliveries.{brought_at, deliveries, is_same_kind, keeps_back, own_delivery}
 use Rattle.st_world.specs.Rounds.{Course, course_from, enter, enter_all, enter_told, follow_ups, follow_ups_of, poll, turn, turns, unsettled, update_turn}
-use Rattle.st_world.specs.Acts.{act_course, all_checked, awaited, checked_while, course_of, failed, failed_vals, group_number, has_one_of, is_none_left, is_something, proposed, rounds_done, with_room}
+use Rattle.st_world.specs.Acts.{checked_while, course_of, failed_vals, group_number, has_one_of, is_none_left, is_something, rounds_done, with_room}
 use Rattle.st_world.proofs.WorldLaws.{few_commands, few_reports}
 use Rattle.st_grammar.specs.declared.doc.Doc.{Doc}
 use Rattle.st_grammar.specs.declared.doc.Script.{Script}
@@ -47,7 +46,7 @@ use Rattle.st_replay.specs.Replaying.{app_names}
 use Rattle.st_serial.specs.declared.schedule.Place.{Place}
 use Rattle.st_serial.specs.Kept.{AreKept, groups_of}
 use Rattle.st_serial.specs.Schedule.{schedule}
-use Rattle.st_serial.specs.Serial.{Checked, GroupState, Run, act_done, act_in, act_of, act_on, all_decided, all_opened, asked_done, changed_at, checks_in, course_in, decided, journals_from, opened, opening_run, place_done, places_done, scripts_done, serial_end, serial_run, state_at, with_checked, with_group}
+use Rattle.st_serial.specs.Serial.{Checked, GroupState, Run, act_in, act_of, act_on, all_decided, all_opened, asked_done, changed_at, checks_in, journals_from, opening_run, place_done, places_done, scripts_done, serial_end, serial_run, state_at, with_checked, with_group}
 use Rattle.st_top.specs.Answer.{AreOfScripts, Results}
 use Rattle.st_top.specs.PrintedRuns.{IsRun, SerialRunsAreReplayed}
 use Rattle.st_top.proofs.PrintedRuns.{printed_runs_are_replayed}
@@ -366,6 +365,7 @@ run_of_serial doc results sound ran =
     let asked : All (λ (journal : Journal). All (IsAsked apps) journal.entries) results.journals =
     subst (All (λ (journal : Journal). All (IsAsked apps) journal.entries)) (sym ran.order) (serial_asked apps doc sound (sym (length-map doc.apps (λ (script : Script). script.name)))) in
     let numbered : AreNumbered 0 results.journals = subst (AreNumbered 0) (sym ran.order) (journals_numbered 0 (serial_end doc).groups) in
+    let number : (k : ℕ) (j : Journal) → k < length results.journals → (slice_index_or results.journals k j).group ≡ k = λ k j low. omega (arith, number_at 0 results.journals k j numbered low) in
     record {
       sound = sound;
       numbered = numbered;
@@ -374,7 +374,7 @@ run_of_serial doc results sound ran =
           let there = legal_here (groups_of doc) results.journals k j ran.kept low in
           record {
             group = there.group;
-            at = ap (slice_get (groups_of doc)) (number_at 0 results.journals k j numbered low) ∙ there.at;
+            at = ap (slice_get (groups_of doc)) (number k j low) ∙ there.at;
             legal = there.legal;
             asked = asked k j low;
           };
