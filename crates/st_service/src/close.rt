@@ -89,23 +89,20 @@ fn shut_all<J: Naming, L: Ledger, H: Wait + Drop>(
 {
     let mut shut = Vec::new(alloc);
     for room in rooms {
-        let room = room.into_inner();
-        if room.group != shut.len() {
-            return Err(AllocError);
-        }
-        let one = shut_one(alloc, room, own)?;
+        let one = shut_one(alloc, room.into_inner(), shut.len(), own)?;
         shut.push(one)?;
     }
     Ok(shut)
 }
 
-/// Ends a room that is not spent, and takes its units back.
+/// Ends the room of this number, which is not spent, and takes its units back.
 fn shut_one<J: Naming, L: Ledger, H: Wait + Drop>(
     alloc: Global,
     locked: Locked<J, L, H>,
+    number: usize,
     own: &mut Share<L>,
 ) -> Result<Shut<J, H>, AllocError>
-    ensures group { IfOk result (λ shut. shut.group ≡ locked.group) }
+    ensures group { IfOk result (λ shut. shut.group ≡ number) }
     ensures parts { OnOk result (own.new.parts ≡ own.old.parts + 1) }
     ensures units { IfOk result (λ shut. own.new.amount + length (flat shut.seen.log) ≡ own.old.amount + 200000) }
 {
@@ -115,7 +112,7 @@ fn shut_one<J: Naming, L: Ledger, H: Wait + Drop>(
         makers,
         lost,
     } = locked;
-    if lost || room.is_spent() {
+    if lost || group != number || room.is_spent() {
         drop((room, makers));
         return Err(AllocError);
     }

@@ -47,17 +47,13 @@ use Rattle.st_serial.specs.declared.schedule.Place.{Place}
 use Rattle.st_serial.specs.Kept.{AreKept, groups_of}
 use Rattle.st_serial.specs.Schedule.{schedule}
 use Rattle.st_serial.specs.Serial.{Checked, GroupState, Run, act_in, act_of, act_on, all_decided, all_opened, asked_done, changed_at, checks_in, journals_from, opening_run, place_done, places_done, scripts_done, serial_end, serial_run, state_at, with_checked, with_group}
+use Rattle.st_serial.proofs.Lists.{by_test}
 use Rattle.st_top.specs.Answer.{AreOfScripts, Results}
 use Rattle.st_top.specs.PrintedRuns.{IsRun, SerialRunsAreReplayed}
 use Rattle.st_top.proofs.PrintedRuns.{printed_runs_are_replayed}
 use Rattle.st_top.proofs.ThreadRuns.{legal_here}
 
--- what holds of both values that a test chooses between holds of the one that it chooses
-by_test : {X : Type 0} (P : X → Type 0) (b : Bool) (x y : X) → P x → P y → P (if b then x else y)
-by_test P true x y first second = first
-by_test P false x y first second = second
-
--- and so where each is only looked at as the test comes out
+-- what holds of both values that a test chooses between, each looked at only as the test comes out, holds of the one that it chooses
 by_case : {X : Type 0} (P : X → Type 0) (b : Bool) (x y : X) → (b ≡ true → P x) → (b ≡ false → P y) → P (if b then x else y)
 by_case P true x y first second = first refl
 by_case P false x y first second = second refl
