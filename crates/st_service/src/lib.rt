@@ -25,5 +25,5 @@ pub use line::JournalLine;
 pub use naming::Naming;
 pub use offlock::OffLock;
 pub use pass::Pass;
-pub use service::{MAX_ROOMS, Service};
+pub use service::Service;
 pub use start::RoomLines;

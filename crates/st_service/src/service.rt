@@ -20,9 +20,6 @@ use std::alloc::{AllocError, Global};
 use std::sync::ledger::{Ledger, Share, Total};
 use std::sync::{Mutex, Wait};
 
-/// The most rooms of a service.
-pub const MAX_ROOMS: usize = 16;
-
 /// The share to which the others come back at the end. It lies behind a lock, since a share is not `Sync`.
 #[derive(Drop)]
 pub struct Own<L: Ledger> {

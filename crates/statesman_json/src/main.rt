@@ -1,5 +1,5 @@
-//! The program once more, for a stored run that is refused: two words, and a status other than 0. `main` is that of `statesman_cli`,
-//! since a program has one stored run.
+//! The program once more, for a stored run that succeeds and has several words. `main` is that of `statesman_cli`, since a program has
+//! one stored run.
 #![tactic(auto)]
 
 use st_io::{StdSink, StdSource};
