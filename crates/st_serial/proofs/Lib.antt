@@ -6,4 +6,6 @@ pub mod Worlds
 pub mod Weights
 pub mod Shares
 pub mod Fitting
+pub mod Waiting
+pub mod Latest
 pub mod Worked

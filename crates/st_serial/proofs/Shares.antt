@@ -124,7 +124,7 @@ module _ (g : Group) (P : Course → Type 0) (keeps : (course : Course) (event :
       let next = turns g lines course es in
       by_test P (is_none_left es) course (rounds_done g lines n next) is (rounds-keep lines n next (turns-keep lines course es is))
 
-  course-keeps : (app : AppId) (act : Act) (lines : List WireLine) (course : Course) → P course → P (course_of app act g lines course)
+  pub course-keeps : (app : AppId) (act : Act) (lines : List WireLine) (course : Course) → P course → P (course_of app act g lines course)
   course-keeps app (Propose n rows) lines course is = keeps (with_room g course) (Submit app rows) (by_test P (length (pending course.past) == MAX_PENDING) (enter g course Check) course (keeps course Check is) is)
   course-keeps app (Await n) lines course is = while-keeps (has_one_of app) MAX_PENDING course is
   course-keeps app (Settle n rounds) lines course is = rounds-keep lines rounds course is

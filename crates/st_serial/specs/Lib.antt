@@ -3,3 +3,4 @@ pub mod Serial
 pub mod Shares
 pub mod Most
 pub mod Kept
+pub mod Decided
