@@ -12,7 +12,7 @@ use Rattle.st_journal.specs.JournalReading.{AreJournalsOf}
 use Rattle.st_journal.specs.Replaying.{IsFirstWrong}
 use Rattle.st_world.specs.World.{WorldView}
 use Rattle.st_serial.specs.Serial.{GroupState, state_of, states_of}
-use Rattle.st_replay.specs.Again.{AreKeptSites, IsKeptHistory, histories, histories_of}
+use Rattle.st_replay.specs.Again.{AreKeptStates, IsKeptHistory, histories, histories_of}
 use Rattle.st_serial.specs.Kept.{AreKept, IsKept}
 use Rattle.st_replay.specs.Replaying.{AreLegal, IsFirstIllegal}
 use Rattle.st_serial.proofs.Worlds.{states_push}
@@ -53,7 +53,7 @@ histories_next (h ∷ groups) g [] d low = absurd (omega (arith, low))
 histories_next (h ∷ groups) g (journal ∷ journals) d low = ap (λ hs. history_by h journal ∷ hs) (histories_next groups g journals d (omega (arith, low)))
 
 -- one group more at the end
-pub kept_more : (ss : List GroupState) (s : GroupState) → AreKeptSites ss → IsKeptHistory s.history → AreKeptSites (ss ++ s ∷ [])
+pub kept_more : (ss : List GroupState) (s : GroupState) → AreKeptStates ss → IsKeptHistory s.history → AreKeptStates (ss ++ s ∷ [])
 kept_more [] s kept here = (here, tt)
 kept_more (first ∷ ss) s kept here = (kept.0, kept_more ss s kept.1 here)
 
@@ -61,10 +61,10 @@ kept_more (first ∷ ss) s kept here = (kept.0, kept_more ss s kept.1 here)
 pub record AreAgain (groups : List Group) (journals : List Journal) (worlds : List WorldView) : Type 0 where
   pub few : length groups ≤ length journals
   pub histories_are : histories worlds ≡ histories_of groups journals
-  pub kept : AreKeptSites (states_of worlds)
+  pub kept : AreKeptStates (states_of worlds)
 
 pub again_none : (journals : List Journal) (worlds : List WorldView) → worlds ≡ [] → AreAgain [] journals worlds
-again_none journals worlds none = record { few = omega arith; histories_are = ap histories none; kept = subst (λ (ws : List WorldView). AreKeptSites (states_of ws)) (sym none) tt }
+again_none journals worlds none = record { few = omega arith; histories_are = ap histories none; kept = subst (λ (ws : List WorldView). AreKeptStates (states_of ws)) (sym none) tt }
 
 pub again_many : (groups : List Group) (journals : List Journal) (worlds : List WorldView) → AreAgain groups journals worlds → length worlds ≡ length groups
 again_many groups journals worlds are = sym (length-map worlds (λ (w : WorldView). w.history)) ∙ ap length are.histories_are ∙ histories_long groups journals are.few
@@ -78,7 +78,7 @@ pub again_next : (groups : List Group) (g : Group) (journals : List Journal) (d 
 again_next groups g journals d worlds more w low are is kept adds = record {
   few = omega (arith, low, length-append groups (g ∷ []));
   histories_are = histories_push worlds more w adds ∙ ap (λ hs. hs ++ w.history ∷ []) are.histories_are ∙ ap (λ h. histories_of groups journals ++ h ∷ []) is ∙ sym (histories_next groups g journals d low);
-  kept = subst AreKeptSites (sym (states_push worlds more w adds)) (kept_more (states_of worlds) (state_of w) are.kept kept);
+  kept = subst AreKeptStates (sym (states_push worlds more w adds)) (kept_more (states_of worlds) (state_of w) are.kept kept);
 }
 
 -- where no group is left these are all
@@ -86,7 +86,7 @@ no_group_left : (rest : List Group) → length rest ≡ 0 → rest ≡ []
 no_group_left [] none = refl
 no_group_left (g ∷ rest) none = absurd (omega (arith, none))
 
-pub again_all : (topos groups rest : List Group) (journals : List Journal) (worlds : List WorldView) → topos ≡ groups ++ rest → length rest ≡ 0 → AreAgain groups journals worlds → (histories worlds ≡ histories_of topos journals) × AreKeptSites (states_of worlds)
+pub again_all : (topos groups rest : List Group) (journals : List Journal) (worlds : List WorldView) → topos ≡ groups ++ rest → length rest ≡ 0 → AreAgain groups journals worlds → (histories worlds ≡ histories_of topos journals) × AreKeptStates (states_of worlds)
 again_all topos groups rest journals worlds all none are =
     let same : groups ≡ topos = sym (append-nil groups) ∙ ap (λ (gs : List Group). groups ++ gs) (sym (no_group_left rest none)) ∙ sym all in
     (are.histories_are ∙ ap (λ (gs : List Group). histories_of gs journals) same, are.kept)
@@ -97,7 +97,7 @@ kept_one g journal w is kept =
     let here : IsKeptHistory (history_by g journal) = subst IsKeptHistory is kept in
     record { sound = here.sound; legal = here.legal; promises = here.promises }
 
-pub again_kept : (groups : List Group) (journals : List Journal) (worlds : List WorldView) → length journals ≡ length groups → histories worlds ≡ histories_of groups journals → AreKeptSites (states_of worlds) → AreKept groups journals
+pub again_kept : (groups : List Group) (journals : List Journal) (worlds : List WorldView) → length journals ≡ length groups → histories worlds ≡ histories_of groups journals → AreKeptStates (states_of worlds) → AreKept groups journals
 again_kept [] [] worlds same are kept = tt
 again_kept [] (journal ∷ journals) worlds same are kept = absurd (omega (arith, same))
 again_kept (g ∷ groups) [] worlds same are kept = absurd (omega (arith, same))
@@ -108,7 +108,7 @@ again_kept (g ∷ groups) (journal ∷ journals) (w ∷ worlds) same are kept =
     (kept_one g journal w first kept.0, again_kept groups journals worlds (omega (arith, same)) rest kept.1)
 
 -- and those of the first groups are legal
-legal_so_far : (groups : List Group) (journals : List Journal) (worlds : List WorldView) → length groups ≤ length journals → histories worlds ≡ histories_of groups journals → AreKeptSites (states_of worlds) → AreLegal groups (take (length groups) journals)
+legal_so_far : (groups : List Group) (journals : List Journal) (worlds : List WorldView) → length groups ≤ length journals → histories worlds ≡ histories_of groups journals → AreKeptStates (states_of worlds) → AreLegal groups (take (length groups) journals)
 legal_so_far [] journals worlds few are kept = tt
 legal_so_far (g ∷ groups) [] worlds few are kept = absurd (omega (arith, few))
 legal_so_far (g ∷ groups) (journal ∷ journals) [] few are kept = absurd (cc)
@@ -118,7 +118,7 @@ legal_so_far (g ∷ groups) (journal ∷ journals) (w ∷ worlds) few are kept =
     ((kept_one g journal w first kept.0).legal, legal_so_far groups journals worlds (omega (arith, few)) rest kept.1)
 
 -- where all went well, all are legal
-pub again_legal : (groups : List Group) (journals : List Journal) (worlds : List WorldView) → length journals ≡ length groups → histories worlds ≡ histories_of groups journals → AreKeptSites (states_of worlds) → AreLegal groups journals
+pub again_legal : (groups : List Group) (journals : List Journal) (worlds : List WorldView) → length journals ≡ length groups → histories worlds ≡ histories_of groups journals → AreKeptStates (states_of worlds) → AreLegal groups journals
 again_legal [] [] worlds same are kept = tt
 again_legal [] (journal ∷ journals) worlds same are kept = absurd (omega (arith, same))
 again_legal (g ∷ groups) [] worlds same are kept = absurd (omega (arith, same))

@@ -27,11 +27,11 @@ pub record IsKeptHistory (h : History) : Type 0 where
   pub legal : IsLegal h.group h.past
   pub promises : AtEach (KeepsPromises h.group) h.past
 
-abbrev pub AreKeptSites : List GroupState → Type 0
-AreKeptSites [] = Unit {0}
-AreKeptSites (s ∷ ss) = IsKeptHistory s.history × AreKeptSites ss
+abbrev pub AreKeptStates : List GroupState → Type 0
+AreKeptStates [] = Unit {0}
+AreKeptStates (s ∷ ss) = IsKeptHistory s.history × AreKeptStates ss
 
 -- what came of the journals of groups: worlds with these journals, each of them kept, or their first entry that is not legal
 abbrev pub IsAgain : List Group → List Journal → Again → Type 0
-IsAgain groups journals (again.Worlds worlds) = (histories worlds.items ≡ histories_of groups journals) × AreKeptSites (states_of worlds.items)
+IsAgain groups journals (again.Worlds worlds) = (histories worlds.items ≡ histories_of groups journals) × AreKeptStates (states_of worlds.items)
 IsAgain groups journals (again.Illegal group entry) = IsFirstIllegal groups journals group entry

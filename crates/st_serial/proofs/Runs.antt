@@ -38,8 +38,8 @@ opened_one (parts ∷ groups) [] i d e low each = absurd (omega (arith, each))
 opened_one (parts ∷ groups) (lines ∷ wires) zero d e low each = refl
 opened_one (parts ∷ groups) (lines ∷ wires) (suc i) d e low each = ap (λ ss. opened parts lines ∷ ss) (opened_one groups wires i d e (omega (arith, low)) (omega (arith, each)))
 
-pub opened_next : (groups : List Parts) (wires : List (List WireLine)) (i : ℕ) (d : Parts) (e : List WireLine) (sites more : List GroupState) (s : GroupState) → i < length groups → length wires ≡ length groups → sites ≡ all_opened (take i groups) (take i wires) → more ≡ sites ++ s ∷ [] → s ≡ opened (slice_index_or groups i d) (slice_index_or wires i e) → more ≡ all_opened (take (i + 1) groups) (take (i + 1) wires)
-opened_next groups wires i d e sites more s low each was adds is =
+pub opened_next : (groups : List Parts) (wires : List (List WireLine)) (i : ℕ) (d : Parts) (e : List WireLine) (states more : List GroupState) (s : GroupState) → i < length groups → length wires ≡ length groups → states ≡ all_opened (take i groups) (take i wires) → more ≡ states ++ s ∷ [] → s ≡ opened (slice_index_or groups i d) (slice_index_or wires i e) → more ≡ all_opened (take (i + 1) groups) (take (i + 1) wires)
+opened_next groups wires i d e states more s low each was adds is =
     let one : i + 1 ≡ suc i = omega arith in
     adds ∙ ap (λ ss. ss ++ s ∷ []) was ∙ ap (λ x. all_opened (take i groups) (take i wires) ++ x ∷ []) is ∙ sym (opened_one groups wires i d e low each)
     ∙ ap (λ n. all_opened (take n groups) (take n wires)) (sym one)

@@ -178,4 +178,4 @@ AllFitIn apps groups = All (λ app. All (λ act. FitsIn act groups) app.acts) ap
 
 -- the groups with their journals, and the logs, that a run has come to
 abbrev pub run_in : Ran → Run
-run_in ran = record { groups = states_of ran.sites.items; logs = ran.logs.items; full = ran.full }
+run_in ran = record { groups = states_of ran.worlds.items; logs = ran.logs.items; full = ran.full }

@@ -52,14 +52,14 @@ pub fn open_worlds(
 ) -> Result<Vec<World>, AllocError>
     requires sound { All IsSoundGroup groups.now }
     requires each { length wires.now ≡ length groups.now }
-    ensures { IfOk result (λ sites. states_of sites.items ≡ all_opened groups.now wires.now) }
+    ensures { IfOk result (λ worlds. states_of worlds.items ≡ all_opened groups.now wires.now) }
 {
-    let mut sites = Vec::new(alloc);
+    let mut worlds = Vec::new(alloc);
     for (i, parts) in groups.iter().enumerate() {
         let losses = losses_of(alloc, wires[i].as_slice())?;
-        sites.push(World::start(alloc, topo_of(alloc, parts)?, losses)?)?;
+        worlds.push(World::start(alloc, topo_of(alloc, parts)?, losses)?)?;
     }
-    Ok(sites)
+    Ok(worlds)
 }
 
 /// An empty log for each application.
@@ -77,7 +77,7 @@ fn empty_logs(alloc: Global, count: usize) -> Result<Vec<LogEntries>, AllocError
 /// stopped, if it did.
 #[derive(Drop)]
 pub struct Ran {
-    pub sites: Vec<World>,
+    pub worlds: Vec<World>,
     pub logs: Vec<LogEntries>,
     pub full: Option<u32>,
 }
@@ -89,32 +89,32 @@ fn scripts_done(alloc: Global, doc: &Doc) -> Result<Ran, AllocError>
 {
     let apps = doc.apps.as_slice();
     let places = schedule(alloc, apps, doc.order.as_slice())?;
-    let mut sites = open_worlds(alloc, doc.groups.as_slice(), doc.wires.as_slice())?;
+    let mut worlds = open_worlds(alloc, doc.groups.as_slice(), doc.wires.as_slice())?;
     let mut logs = empty_logs(alloc, apps.len())?;
     let full = places_done(
-        sites.as_mut_slice(),
+        worlds.as_mut_slice(),
         logs.as_mut_slice(),
         apps,
         places.as_slice(),
     )?;
-    Ok(Ran { sites, logs, full })
+    Ok(Ran { worlds, logs, full })
 }
 
 /// Decides what is still pending in each group, where no journal was met full.
 fn decided(ran: Ran) -> Result<Ran, AllocError>
-    requires { length ran.sites.items < 2 ^ 32 }
+    requires { length ran.worlds.items < 2 ^ 32 }
     ensures { IfOk result (λ end. run_in end ≡ decided_lem (run_in ran)) }
 {
     let Ran {
-        mut sites,
+        mut worlds,
         logs,
         full,
     } = ran;
     let full = match full {
         Some(group) => Some(group),
-        None => decide_all(sites.as_mut_slice())?,
+        None => decide_all(worlds.as_mut_slice())?,
     };
-    Ok(Ran { sites, logs, full })
+    Ok(Ran { worlds, logs, full })
 }
 
 /// Runs the scripts of a document, and decides what is pending in the end, as far as no event meets a full journal.

@@ -14,7 +14,7 @@ use Rattle.st_replay.specs.declared.status.Status.TheVariants as statuses
 use Rattle.st_top.specs.declared.task.Showing.{Showing}
 use Rattle.st_top.specs.declared.task.Task.TheVariants.{Serial}
 use Rattle.st_serial.specs.Serial.{GroupState, Run, groups_in, journals_from, logs_from, serial_end, serial_logs, serial_run}
-use Rattle.st_replay.specs.Again.{histories_of, AreKeptSites, IsKeptHistory}
+use Rattle.st_replay.specs.Again.{histories_of, AreKeptStates, IsKeptHistory}
 use Rattle.st_top.specs.Output.{shown}
 use Rattle.st_serial.specs.Kept.{groups_of, AreKept, IsKept}
 use Rattle.st_top.specs.Answer.{Results, AreOfScripts, EndsOnDoc}
@@ -22,7 +22,7 @@ use Rattle.st_top.specs.Ending.{IsToldOf}
 use Rattle.st_serial.proofs.Runs.{serial_groups}
 
 -- journals of groups that are kept
-kept_all : (n : ℕ) (ss : List GroupState) → AreKeptSites ss → AreKept (groups_in ss) (journals_from n ss)
+kept_all : (n : ℕ) (ss : List GroupState) → AreKeptStates ss → AreKept (groups_in ss) (journals_from n ss)
 kept_all n [] kept = tt
 kept_all n (s ∷ ss) kept =
     let past = s.history.past in
@@ -35,10 +35,10 @@ kept_all n (s ∷ ss) kept =
     (here, kept_all (n + 1) ss kept.1)
 
 -- what a document comes to is what its scripts do
-pub of_scripts : (doc : Doc) (run : Run) (journals : List Journal) (logs : List Log) → IsSoundDoc doc → run ≡ serial_end doc → journals ≡ journals_from 0 run.groups → AreKeptSites run.groups → logs ≡ logs_from 0 run.logs → AreOfScripts doc (record { journals = journals; logs = logs })
+pub of_scripts : (doc : Doc) (run : Run) (journals : List Journal) (logs : List Log) → IsSoundDoc doc → run ≡ serial_end doc → journals ≡ journals_from 0 run.groups → AreKeptStates run.groups → logs ≡ logs_from 0 run.logs → AreOfScripts doc (record { journals = journals; logs = logs })
 of_scripts doc run journals logs sound is journals_are kept logs_are =
     let journals_end : journals ≡ serial_run doc = journals_are ∙ ap (λ (r : Run). journals_from 0 r.groups) is in
-    let kept_end : AreKeptSites (serial_end doc).groups = subst (λ (r : Run). AreKeptSites r.groups) is kept in
+    let kept_end : AreKeptStates (serial_end doc).groups = subst (λ (r : Run). AreKeptStates r.groups) is kept in
     record {
       order = journals_end;
       seen = logs_are ∙ ap (λ (r : Run). logs_from 0 r.logs) is;

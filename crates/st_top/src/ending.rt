@@ -54,18 +54,18 @@ fn ran_text(
     alloc: Global,
     showing: Showing,
     doc: &Doc,
-    sites: &[World],
+    worlds: &[World],
     logs: &[Log],
     full: Option<u32>,
 ) -> Result<(Status, Text), AllocError>
     requires sound { IsSoundDoc doc.now }
-    requires groups { states_of sites.now ≡ (serial_end doc.now).groups }
+    requires groups { states_of worlds.now ≡ (serial_end doc.now).groups }
     requires logs { logs.now ≡ serial_logs doc.now }
     requires full { full ≡ (serial_end doc.now).full }
     ensures { IfOk result (λ told. IsToldOf showing doc.now told.0 told.1) }
 {
     match full {
-        None => Ok((Status::Ok, shown_text(alloc, showing, doc, sites, logs)?)),
+        None => Ok((Status::Ok, shown_text(alloc, showing, doc, worlds, logs)?)),
         Some(group) => {
             let status = Status::JournalFull { group };
             Ok((status, status_line(alloc, doc.groups.as_slice(), status)?))
@@ -78,12 +78,19 @@ fn serial_ending(alloc: Global, showing: Showing, doc: &Doc) -> Result<Ending, A
     requires { IsSoundDoc doc.now }
     ensures { IfOk result (IsEndOnDoc (serial_task showing) doc.now) }
 {
-    let Ran { sites, logs, full } = serial_done(alloc, doc)?;
+    let Ran { worlds, logs, full } = serial_done(alloc, doc)?;
     let logs = logs_of(alloc, logs)?;
-    let (status, text) = ran_text(alloc, showing, doc, sites.as_slice(), logs.as_slice(), full)?;
+    let (status, text) = ran_text(
+        alloc,
+        showing,
+        doc,
+        worlds.as_slice(),
+        logs.as_slice(),
+        full,
+    )?;
     Ok(Ending {
         status,
-        journals: journals_of(alloc, sites)?,
+        journals: journals_of(alloc, worlds)?,
         logs,
         text,
     })

@@ -2,7 +2,7 @@
 
 ghost use Rattle.std.specs.Prelude.{◌≡◌, ◌<◌, ◌^◌, length, IfOk};
 ghost use Rattle.st_serial.specs.Serial.{states_of, journals_from, logs_from};
-ghost use Rattle.st_replay.specs.Again.{AreKeptSites};
+ghost use Rattle.st_replay.specs.Again.{AreKeptStates};
 
 use crate::answer::{Journals, Logs};
 use st_event::{Log, LogEntries};
@@ -11,17 +11,17 @@ use st_world::World;
 use std::alloc::{AllocError, Global};
 
 /// The journals of groups, in order.
-pub fn journals_of(alloc: Global, sites: Vec<World>) -> Result<Journals, AllocError>
-    requires { length sites.items < 2 ^ 32 }
-    ensures journals { IfOk result (λ journals. journals ≡ journals_from 0 (states_of sites.items)) }
-    ensures kept { IfOk result (λ journals. AreKeptSites (states_of sites.items)) }
+pub fn journals_of(alloc: Global, worlds: Vec<World>) -> Result<Journals, AllocError>
+    requires { length worlds.items < 2 ^ 32 }
+    ensures journals { IfOk result (λ journals. journals ≡ journals_from 0 (states_of worlds.items)) }
+    ensures kept { IfOk result (λ journals. AreKeptStates (states_of worlds.items)) }
 {
     let mut journals = Vec::new(alloc);
-    for site in sites {
-        site.is_legal();
-        site.keeps_promises();
+    for world in worlds {
+        world.is_legal();
+        world.keeps_promises();
         let group = journals.len() as u32;
-        journals.push(site.into_journal(group))?;
+        journals.push(world.into_journal(group))?;
     }
     Ok(Journals::new(journals))
 }

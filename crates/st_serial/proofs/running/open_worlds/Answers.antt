@@ -16,4 +16,4 @@ loop-i-preserved c =
     let losses : c.in_ok-losses.losses ≡ lines = c.in_ok-losses.ensures ∙ c.as_slice.ensures ∙ c.index-wires-i.is in
     let world = c.in_ok-start.field-0 in
     let here : state_of world ≡ opened parts lines = ap (λ (h : History). record { history = h; lines = world.lines }) c.in_ok-start.ensures.history ∙ rw (c.in_ok-start.ensures.lines, topo, losses) refl in
-    opened_next c.args.groups.now c.args.wires.now i c.index-groups-i.result c.index-wires-i.result (states_of c.loop-i.sites.items) (states_of c.push.new.self.items) (state_of world) c.loop-i-test.true c.requires.each c.loop-i.invariant (states_push c.loop-i.sites.items c.push.new.self.items world c.in_ok-push.ensures.items) here
+    opened_next c.args.groups.now c.args.wires.now i c.index-groups-i.result c.index-wires-i.result (states_of c.loop-i.worlds.items) (states_of c.push.new.self.items) (state_of world) c.loop-i-test.true c.requires.each c.loop-i.invariant (states_push c.loop-i.worlds.items c.push.new.self.items world c.in_ok-push.ensures.items) here

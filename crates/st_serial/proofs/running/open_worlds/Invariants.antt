@@ -4,4 +4,4 @@ use Rattle.st_serial.proofs.running.open_worlds.Given as goal
 
 -- the groups so far are opened
 abbrev pub invariant-loop-i : goal.invariant-loop-i
-invariant-loop-i l = states_of l.sites.items ≡ all_opened (take l.i l.groups) (take l.i l.wires)
+invariant-loop-i l = states_of l.worlds.items ≡ all_opened (take l.i l.groups) (take l.i l.wires)

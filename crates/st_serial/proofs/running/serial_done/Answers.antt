@@ -7,4 +7,4 @@ use Rattle.st_serial.proofs.running.serial_done.Goals as goal
 pub decided-requires : goal.decided-requires
 decided-requires c =
     let many = ap (λ (r : Run). length r.groups) c.in_ok-scripts_done.ensures in
-    omega (arith, many, states_many c.in_ok-scripts_done.field-0.sites.items, scripts_many c.args.doc.now c.requires, c.requires.few_groups)
+    omega (arith, many, states_many c.in_ok-scripts_done.field-0.worlds.items, scripts_many c.args.doc.now c.requires, c.requires.few_groups)

@@ -8,7 +8,7 @@ use Rattle.st_top.proofs.ending.ran_text.Goals as goal
 pub returns-in_ok-shown_text-in-None : goal.returns-in_ok-shown_text-in-None
 returns-in_ok-shown_text-in-None c =
     let doc = c.args.doc.now in
-    let worlds : histories c.args.sites.now ≡ map (λ (s : GroupState). s.history) (serial_end doc).groups = sym (histories_are c.args.sites.now) ∙ ap (map (λ (s : GroupState). s.history)) c.requires.groups in (
+    let worlds : histories c.args.worlds.now ≡ map (λ (s : GroupState). s.history) (serial_end doc).groups = sym (histories_are c.args.worlds.now) ∙ ap (map (λ (s : GroupState). s.history)) c.requires.groups in (
       sym c.requires.full ∙ c.in-None.is,
       c.in_ok-shown_text-in-None.ensures ∙ ap (λ hs. shown c.args.showing doc hs c.args.logs.now) worlds ∙ ap (shown c.args.showing doc (map (λ (s : GroupState). s.history) (serial_end doc).groups)) c.requires.logs,
     )
