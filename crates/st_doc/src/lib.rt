@@ -2,7 +2,6 @@
 //! first bad line, and printed.
 #![tactic(auto)]
 
-mod commands;
 mod printing;
 mod printing_back;
 mod reader;

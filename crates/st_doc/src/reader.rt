@@ -8,7 +8,7 @@ ghost use Rattle.st_grammar.specs.Draft.{nothing, groups_of, group_names};
 ghost use Rattle.st_grammar.specs.Commands.{group_in};
 ghost use Rattle.st_grammar.specs.Lines.{has_section, is_allowed, declared_by, phased_line, keyword_line, header_line, tokens_line, line_of};
 
-mod adding;
+mod commands;
 mod ending;
 mod sections;
 

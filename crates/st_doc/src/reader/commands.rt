@@ -1,14 +1,16 @@
-//! The acts of applications, and the wire lines: what a line of each word asks for. The reader adds it.
+//! The acts of applications, and the wire lines: what a line of each word asks for, which is added to its application or its
+//! group where there is room.
 
-ghost use Rattle.std.specs.Prelude.{map, All};
+ghost use Rattle.std.specs.Prelude.{◌≡◌, map, OnOk, All};
 ghost use Rattle.st_text.specs.Tokens.{token_in, IsTokenOf};
 ghost use Rattle.st_token.specs.Steps.{Gives};
 ghost use Rattle.st_grammar.specs.Commands.{group_entity_in, propose_of, await_of, settle_of, lock_of, unlock_of, read_of, readat_of, fail_of, poll_of, act_of, drop_of, repeat_of, hold_of, wire_of};
+ghost use Rattle.st_grammar.specs.Lines.{act_added, act_line, wire_count, with_wire_line, wire_line};
 
 use crate::reader::Reader;
 use st_draft::wire_kind_in;
 use st_event::{Act, Rows};
-use st_grammar::{ActWord, MAX_ROUNDS, WireWord};
+use st_grammar::{ActWord, MAX_ACTS, MAX_ROUNDS, MAX_WIRE_LINES, WireWord};
 use st_net::{Entity, MAX_ROWS};
 use st_text::Token;
 use st_token::{
@@ -16,6 +18,7 @@ use st_token::{
     number_in, number_within, one_of, prio_in, rows_in, three_of, two_of, values_in, variable_in,
 };
 use st_wire::WireLine;
+use std::alloc::AllocError;
 
 impl Reader {
     /// The group of a name, with the entity of a name in it.
@@ -158,7 +161,7 @@ impl Reader {
     }
 
     /// What an act asks for.
-    pub fn act_of(&self, word: ActWord, line: &[u8], tokens: &[Token]) -> Result<Act, LineError>
+    fn act_of(&self, word: ActWord, line: &[u8], tokens: &[Token]) -> Result<Act, LineError>
         requires { All (IsTokenOf line.now) tokens.now }
         ensures { Gives (λ act. act) result (act_of self.now word (map (token_in line.now) tokens.now)) }
     {
@@ -173,6 +176,38 @@ impl Reader {
             ActWord::Fail => self.fail_of(line, tokens),
             ActWord::Poll => self.poll_of(line, tokens),
         }
+    }
+
+    /// Adds a command to the application that is begun.
+    #[tactic(auto, unfolding(st_grammar::specs::Lines::act_added))]
+    fn add_act(&mut self, act: Act) -> Result<(), LineError>
+        ensures { Gives (λ _. self.new) result (act_added self.old act) }
+    {
+        match &mut self.app {
+            None => Err(LineError::Bad(FaultKind::Word)),
+            Some(app) => {
+                if app.acts.as_slice().len() >= MAX_ACTS {
+                    return Err(LineError::Bad(FaultKind::Limit));
+                }
+                app.acts.add(act)?;
+                Ok(())
+            }
+        }
+    }
+
+    /// Takes a command.
+    #[tactic(auto, unfolding(st_grammar::specs::Lines::act_line))]
+    pub(crate) fn act(
+        &mut self,
+        word: ActWord,
+        line: &[u8],
+        tokens: &[Token],
+    ) -> Result<(), LineError>
+        requires { All (IsTokenOf line.now) tokens.now }
+        ensures { Gives (λ _. self.new) result (act_line self.old (act_of self.old word (map (token_in line.now) tokens.now))) }
+    {
+        let act = self.act_of(word, line, tokens)?;
+        self.add_act(act)
     }
 
     #[tactic(auto, unfolding(st_grammar::specs::Commands::drop_of))]
@@ -214,7 +249,7 @@ impl Reader {
     }
 
     /// What a wire line says, with the number of its group.
-    pub fn wire_of(
+    fn wire_of(
         &self,
         word: WireWord,
         line: &[u8],
@@ -228,5 +263,52 @@ impl Reader {
             WireWord::Repeat => self.repeat_of(line, tokens),
             WireWord::Hold => self.hold_of(line, tokens),
         }
+    }
+
+    /// How many wire lines the group of a place has.
+    fn wire_count(&self, place: u32) -> usize
+        ensures { result ≡ wire_count self.now place }
+    {
+        let place = place as usize;
+        if place < self.groups.len() {
+            return self.groups[place].wire_count();
+        }
+        match &self.group {
+            Some(group) => group.wire_count(),
+            None => 0,
+        }
+    }
+
+    /// Adds a wire line to the group of a place.
+    fn add_wire(&mut self, place: u32, line: WireLine) -> Result<(), AllocError>
+        ensures { OnOk result (self.new ≡ with_wire_line self.old place line) }
+    {
+        let place = place as usize;
+        if place < self.groups.len() {
+            return self.groups[place].add_wire(line);
+        }
+        match &mut self.group {
+            Some(group) => group.add_wire(line),
+            None => Ok(()),
+        }
+    }
+
+    /// Takes a wire line.
+    #[tactic(auto, unfolding(st_grammar::specs::Lines::wire_line))]
+    pub(crate) fn wire(
+        &mut self,
+        word: WireWord,
+        line: &[u8],
+        tokens: &[Token],
+    ) -> Result<(), LineError>
+        requires { All (IsTokenOf line.now) tokens.now }
+        ensures { Gives (λ _. self.new) result (wire_line self.old (wire_of self.old word (map (token_in line.now) tokens.now))) }
+    {
+        let (place, wire) = self.wire_of(word, line, tokens)?;
+        if self.wire_count(place) >= MAX_WIRE_LINES {
+            return Err(LineError::Bad(FaultKind::Limit));
+        }
+        self.add_wire(place, wire)?;
+        Ok(())
     }
 }
