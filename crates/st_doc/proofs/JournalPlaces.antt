@@ -5,7 +5,7 @@ use Rattle.std.proofs.Math.Seq.{drop-cons}
 use Rattle.std.proofs.lemmas.List.{length-map}
 use Rattle.std.proofs.lemmas.Result.{IfOk-weaker}
 use Rattle.st_text.specs.declared.line_places.Line.{Line}
-use Rattle.st_text.specs.Lines.{lines_of, raw_lines, places_from, line_in, IsLineWithin, AreLinesOf}
+use Rattle.st_text.specs.Lines.{lines_of, line_in, IsLineWithin, AreLinesOf}
 use Rattle.st_grammar.specs.declared.doc.JournalAt.{JournalAt}
 use Rattle.st_grammar.specs.declared.doc.Doc.{Doc}
 use Rattle.st_grammar.specs.declared.doc.DocRead.{DocRead}

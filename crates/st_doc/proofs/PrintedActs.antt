@@ -1,12 +1,12 @@
 -- The lines of commands are taken as what they were printed for.
 use Rattle.std.proofs.Common.{◌≡◌, ℕ, zero, suc, ◌<◌, ◌≤◌, List, [], ◌∷◌, ◌++◌, length, map, ap, sym, ◌∙◌, subst, refl, arith}
-use Rattle.std.specs.Prelude.{true, false, not, ◌&&◌, nat_le, nat_lt, ◌^◌, Some, slice_get, slice_index_or, Ok, codes, decimal}
+use Rattle.std.specs.Prelude.{true, false, ◌&&◌, nat_le, nat_lt, ◌^◌, Some, slice_get, slice_index_or, Ok, codes, decimal}
 use Rattle.std.specs.List.{AllByRecursion}
 use Rattle.std.proofs.lemmas.Bool.{leb-true}
-use Rattle.std.proofs.lemmas.List.{append-nil, append_assoc, length-map, map-append}
+use Rattle.std.proofs.lemmas.List.{length-map, map-append}
 use Rattle.std.proofs.lemmas.List.Elements.{recursion_from_All}
 use Rattle.st_text.specs.Words.{IsWord}
-use Rattle.st_net.proofs.Tests.{both, at_most}
+use Rattle.st_net.proofs.Tests.{at_most}
 use Rattle.st_net.specs.declared.entity.Entity.{Entity}
 use Rattle.st_net.specs.declared.entity.Entity.TheVariants.{Device, Link}
 use Rattle.st_net.specs.declared.entity.Prio.{Prio}
@@ -17,19 +17,17 @@ use Rattle.st_net.specs.declared.parts.DevicePart.{DevicePart}
 use Rattle.st_net.specs.declared.parts.LinkPart.{LinkPart}
 use Rattle.st_net.specs.declared.topo.TheConstants.{MAX_ROWS}
 use Rattle.st_net.specs.Names.{is_name, is_among, place_of}
-use Rattle.st_net.specs.Entities.{is_same_entity, is_same_var, is_var_of, place_of as var_place}
+use Rattle.st_net.specs.Entities.{is_var_of}
 use Rattle.st_net.specs.Groups.{Group, IsEntityOf, name_of, are_new}
-use Rattle.st_net.specs.Ranges.{RowFits, RowsFit, is_health_of, is_in_range, is_free_of, are_apart, IsVariableOf, IsChangeOf, IsOn}
+use Rattle.st_net.specs.Ranges.{RowFits, RowsFit, is_health_of, IsVariableOf, IsChangeOf, IsOn}
 use Rattle.st_net.specs.Faults.{group_of, device_names, link_names, device_opening, link_opening}
 use Rattle.st_event.specs.declared.act.Act.{Act}
 use Rattle.st_event.specs.declared.act.Act.TheVariants.{Propose, Await, Settle, Lock, Unlock, Read, ReadAt, Fail, Poll}
 use Rattle.st_token.specs.ReadingBack.{IsNamed, IsPrintable}
 use Rattle.st_token.proofs.PrintedRows.{IsOwnValue, rows_again, rows_words, values_again, values_words, free_of_none}
 use Rattle.st_token.specs.Spelling.{known_name_in, most_health, is_comment}
-use Rattle.st_token.specs.Variables.{rows_in, values_in}
-use Rattle.st_token.proofs.RowLemmas.{same_flipped, free_last}
-use Rattle.st_token.specs.Words.{prio_word, assignment_word, value_word, variable_word}
-use Rattle.st_token.proofs.PrintedTokens.{each, row_of, name_word, number_is_word, prio_is_word, assignment_is_word, value_is_word, variable_is_word, literal, ranged, known_name_again, entity_again, number_again, within_again, prio_again, new_assignment_again, new_value_again, variable_again}
+use Rattle.st_token.specs.Words.{prio_word, variable_word}
+use Rattle.st_token.proofs.PrintedTokens.{each, name_word, number_is_word, prio_is_word, variable_is_word, literal, known_name_again, entity_again, number_again, within_again, prio_again, variable_again}
 use Rattle.st_grammar.specs.declared.keyword.Keyword.TheVariants as keywords
 use Rattle.st_grammar.specs.declared.keyword.ActWord.{ActWord}
 use Rattle.st_grammar.specs.declared.keyword.ActWord.TheVariants as act_words

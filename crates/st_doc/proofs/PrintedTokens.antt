@@ -1,5 +1,5 @@
 -- The words that documents alone have: each can stand in a line, and is read as what it was printed for.
-use Rattle.std.proofs.Common.{◌≡◌, ℕ, List, [], ◌∷◌, refl, arith}
+use Rattle.std.proofs.Common.{◌≡◌, ℕ, List, refl, arith}
 use Rattle.std.specs.Prelude.{Bool, true, false, ◌==◌, Some, None, Ok, codes}
 use Rattle.std.proofs.lemmas.Bool.Decides.{nat_tests}
 use Rattle.st_text.specs.Words.{IsWord}
