@@ -18,8 +18,8 @@ pub struct JournalAt {
     pub line: u32,
 }
 
-/// A document: its groups, what becomes of each group's messages, its applications, the order in which these begin, and
-/// where its journals stand, if it has some.
+/// A document: its groups, what becomes of each group's messages, its applications, the order in which these do their acts,
+/// and where its journals stand, if it has some.
 #[derive(Drop)]
 pub struct Doc {
     pub groups: DocGroups,

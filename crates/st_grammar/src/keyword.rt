@@ -16,7 +16,7 @@ pub enum Keyword {
     App,
     /// An act of the application that is begun.
     Act(ActWord),
-    /// Applications in the order in which they begin.
+    /// Applications in the order in which each does its next act.
     Order,
 }
 
