@@ -4,6 +4,7 @@ mod ends;
 mod gates;
 mod hostile;
 mod jobs;
+mod limits;
 mod replays;
 mod rounds;
 mod runs;
@@ -23,8 +24,18 @@ use std::test::Fail;
 use std::thread::Threads;
 
 /// Two ToRs that two switches join, without promises and scripts.
-const TWO_PATHS: &[u8] =
-    b"statesman 1\ngroup dc1\ndevice t1 tor\ndevice t2 tor\ndevice a1 switch\ndevice a2 switch\nlink l1 t1 a1 10\nlink l2 t1 a2 10\nlink l3 t2 a1 10\nlink l4 t2 a2 10\n";
+const TWO_PATHS: &[u8] = b"\
+statesman 1
+group dc1
+device t1 tor
+device t2 tor
+device a1 switch
+device a2 switch
+link l1 t1 a1 10
+link l2 t1 a2 10
+link l3 t2 a1 10
+link l4 t2 a2 10
+";
 
 const HALF: &[u8] = b"promise t1 t2 50\n";
 
@@ -38,12 +49,36 @@ const TO_A_SWITCH: &[u8] = b"promise t1 a1 50\n";
 
 const HEADER: &[u8] = b"statesman 1";
 
-const FIRST: &[u8] = b"app up\npropose dc1 a1.firmware=2\n";
+/// One application changes a switch.
+const FIRST: &[u8] = b"\
+app up
+propose dc1 a1.firmware=2
+";
 
+/// And then the other.
 const SECOND: &[u8] = b"propose dc1 a2.firmware=2\n";
 
-const ACCEPTED: &[u8] =
-    b"statesman report 1\ngroup dc1\nversion 1\nentries 2\nreceipt 1 up accepted 1\ntarget a1.firmware=2\nunsettled a1\nwire commands 0 reports 0 stale 0 old 0\npromises 1 start 1 now 1\nend\n";
+/// One application changes a switch and settles it.
+const UPGRADE: &[u8] = b"\
+app up
+propose dc1 a1.firmware=2
+await dc1
+settle dc1 1
+";
+
+/// What comes of `FIRST`, where the promise is of half the capacity.
+const ACCEPTED: &[u8] = b"\
+statesman report 1
+group dc1
+version 1
+entries 2
+receipt 1 up accepted 1
+target a1.firmware=2
+unsettled a1
+wire commands 0 reports 0 stale 0 old 0
+promises 1 start 1 now 1
+end
+";
 
 /// How a call ended, and what it wrote. It has many parts: who has seen enough hands it to `drop`, which takes the checker less than
 /// the end of a function does.
@@ -225,5 +260,3 @@ fn reply_of(called: &Called, n: usize) -> Option<&Reply> {
         None => None,
     }
 }
-
-const UPGRADE: &[u8] = b"app up\npropose dc1 a1.firmware=2\nawait dc1\nsettle dc1 1\n";

@@ -24,11 +24,24 @@ const REPLACED: [(&str, u32, FaultKind); 6] = [
 
 const HEAD: &str = "statesman 1\n";
 
-const GROUP: &str = "statesman 1\ngroup dc1\n";
+const GROUP: &str = "\
+statesman 1
+group dc1
+";
 
-const PAIR: &str = "statesman 1\ngroup dc1\ndevice t1 tor\ndevice a1 switch\n";
+const PAIR: &str = "\
+statesman 1
+group dc1
+device t1 tor
+device a1 switch
+";
 
-const APP: &str = "statesman 1\ngroup dc1\ndevice a1 switch\napp up\n";
+const APP: &str = "\
+statesman 1
+group dc1
+device a1 switch
+app up
+";
 
 /// Documents that pass a limit: how each begins, its further lines, with the number of each in place of `#`, how many these
 /// are, and the line of the document that is one too many.

@@ -10,7 +10,8 @@ use std::alloc::{AllocError, Global};
 use std::test::Fail;
 
 /// Four pods and the seed 7: the firmware is 9, and the last proposal names pod 3.
-const FOUR_PODS: &[u8] = b"statesman 1
+const FOUR_PODS: &[u8] = b"\
+statesman 1
 group dc1
 device p0e0 tor
 device p0e1 tor

@@ -187,7 +187,12 @@ fn what_is_read_is_printed(rt: HostRuntime) -> Result<(), Fail> {
     let given = three_groups(rt.alloc())?;
     is_printed(&rt, &given, ALL, ALL)?;
     is_printed(&rt, &given, OTHER_SPELLING, SECOND_BROKEN)?;
-    is_printed(&rt, &given, "", "journal dc1\njournal dc2\njournal dc3\n")
+    let empty = "\
+journal dc1
+journal dc2
+journal dc3
+";
+    is_printed(&rt, &given, "", empty)
 }
 
 #[test]

@@ -7,7 +7,8 @@ use std::alloc::{AllocError, Global};
 use std::test::Fail;
 
 /// Two ToRs, two switches, and two proposals, of which the second is refused.
-const ONE_AT_A_TIME: &str = "statesman 1
+const ONE_AT_A_TIME: &str = "\
+statesman 1
 group dc1
 device t1 tor
 device t2 tor
@@ -31,7 +32,8 @@ const BEHIND_THREE: &str =
     r#"{"apps":["up"],"groups":[{"devices":[{"name":"t1","tor":1},{"name":"t2","tor":1},{"name":"a1"},{"name":"a2"}],"entries":[{"asked":2,"line":"check : receipt 2 refused broken t1 t2 cutoff need 10 has 0 side t1","on":[3],"pending":0,"refused":{"changes":[3],"far":[1],"gone":[2],"has":0,"kind":"cutoff","left":[],"need":10,"out":[0,1],"part":"side","promise":0,"side":[0]}}],"first":3,"links":[{"capacity":10,"ends":[0,2],"name":"l1"},{"capacity":10,"ends":[0,3],"name":"l2"},{"capacity":10,"ends":[1,2],"name":"l3"},{"capacity":10,"ends":[1,3],"name":"l4"}],"name":"dc1","opening":{"network":{"lost":[]},"of":[0,0,1,0,2,2,2,2],"pending":1,"states":[{"fence":0,"high":null,"is":"up","known":"sure","level":5,"low":null,"real":[1,1,1,1],"seen":[1,1,1,1],"stamp":0,"target":[1,1,1,1],"untold":0,"works":5},{"fence":0,"high":null,"is":"up","known":"waiting","level":5,"low":null,"real":[1,1,1,1],"seen":[1,1,1,1],"stamp":3,"target":[1,2,1,1],"untold":0,"works":5},{"fence":0,"high":null,"is":"up","known":"sure","level":1,"low":null,"open":1,"real":[1,1],"seen":[1,1],"stamp":0,"target":[1,1],"untold":0,"works":1}],"sure":{"lost":[]},"version":1},"promises":[{"ends":[0,1],"need":10,"percent":50,"start":1}],"total":4}],"statesman":1}"#;
 
 /// The same, and then the switch fails that alone counted as up, and reports it.
-const ALONE: &str = "statesman 1
+const ALONE: &str = "\
+statesman 1
 group dc1
 device t1 tor
 device t2 tor
@@ -58,7 +60,8 @@ const ALONE_DATA: &str =
     r#"{"apps":["up"],"groups":[{"devices":[{"name":"t1","tor":1},{"name":"t2","tor":1},{"name":"a1"},{"name":"a2"}],"entries":[{"asked":1,"line":"check : receipt 1 accepted 1","on":[2],"pending":1,"set":[{"entity":2,"known":"waiting","stamp":3,"target":[1,2,1,1]}],"version":1},{"asked":2,"line":"check : receipt 2 refused broken t1 t2 cutoff need 10 has 0 side t1","on":[3],"pending":0,"refused":{"changes":[3],"far":[1],"gone":[2],"has":0,"kind":"cutoff","left":[],"need":10,"out":[0,1],"part":"side","promise":0,"side":[0]}},{"line":"fail a2 0 power=1 firmware=1 config=1 routing=1 : changed","on":[3],"set":[{"entity":3,"is":"failed","untold":1,"works":0},{"entity":5,"open":0},{"entity":7,"open":0}]},{"line":"report a2 : reported 1","on":[3]},{"line":"hear 1 : taken","on":[3],"set":[{"entity":3,"known":"settled","level":0,"untold":0}],"sure":{"lost":[0]}}],"first":2,"links":[{"capacity":10,"ends":[0,2],"name":"l1"},{"capacity":10,"ends":[0,3],"name":"l2"},{"capacity":10,"ends":[1,2],"name":"l3"},{"capacity":10,"ends":[1,3],"name":"l4"}],"name":"dc1","opening":{"network":{"lost":[]},"of":[0,0,0,0,1,1,1,1],"pending":2,"states":[{"fence":0,"high":null,"is":"up","known":"sure","level":5,"low":null,"real":[1,1,1,1],"seen":[1,1,1,1],"stamp":0,"target":[1,1,1,1],"untold":0,"works":5},{"fence":0,"high":null,"is":"up","known":"sure","level":1,"low":null,"open":1,"real":[1,1],"seen":[1,1],"stamp":0,"target":[1,1],"untold":0,"works":1}],"sure":{"lost":[]},"version":0},"promises":[{"ends":[0,1],"need":10,"percent":50,"start":1}],"total":7}],"statesman":1}"#;
 
 /// A switch that fails, and is not told of before its second report is heard.
-const UNTOLD: &str = "statesman 1
+const UNTOLD: &str = "\
+statesman 1
 group g
 device a switch
 journal g
@@ -74,7 +77,8 @@ const UNTOLD_DATA: &str =
     r#"{"apps":[],"groups":[{"devices":[{"name":"a"}],"entries":[{"line":"report a : reported 1","on":[0]},{"line":"fail a 0 power=1 firmware=1 config=1 routing=1 : changed","on":[0],"set":[{"entity":0,"is":"failed","untold":1,"works":0}]},{"line":"hear 1 : taken","on":[0]},{"line":"report a : reported 2","on":[0]},{"line":"hear 2 : taken","on":[0],"set":[{"entity":0,"known":"settled","level":0,"untold":0}]}],"first":0,"links":[],"name":"g","opening":{"network":{"lost":[]},"of":[0],"pending":0,"states":[{"fence":0,"high":null,"is":"up","known":"sure","level":5,"low":null,"real":[1,1,1,1],"seen":[1,1,1,1],"stamp":0,"target":[1,1,1,1],"untold":0,"works":5}],"sure":{"lost":[]},"version":0},"promises":[],"total":5}],"statesman":1}"#;
 
 /// A switch fails untold, so the other may be drained: the promise is lost once that begins, and back with the first switch.
-const LOST: &str = "statesman 1
+const LOST: &str = "\
+statesman 1
 group dc1
 device t1 tor
 device t2 tor
@@ -205,12 +209,14 @@ fn a_document_without_groups_has_an_empty_page(rt: HostRuntime) -> Result<(), Fa
 #[test]
 fn an_entry_with_another_reply_makes_no_page(rt: HostRuntime) -> Result<(), Fail> {
     let status = Status::Illegal { group: 0, entry: 1 };
-    fails(
-        rt.alloc(),
-        "statesman 1\ngroup g\ndevice a switch\njournal g\n1 finish a : done\n",
-        status,
-        "fault illegal g 1\n",
-    )
+    let text = "\
+statesman 1
+group g
+device a switch
+journal g
+1 finish a : done
+";
+    fails(rt.alloc(), text, status, "fault illegal g 1\n")
 }
 
 #[test]

@@ -8,7 +8,8 @@ use std::alloc::{AllocError, Global};
 use std::test::Fail;
 
 /// Every kind of line in the order in which a document is printed.
-static PRINTED: &[u8] = b"statesman 1
+static PRINTED: &[u8] = b"\
+statesman 1
 group dc1
 device t1 tor
 device t2 tor
@@ -49,7 +50,8 @@ order down
 
 /// The same with what is not printed: comments, further blanks, ends with their group, lines that state a default, an order
 /// of several names on a line, and lines of one kind between those of others.
-static WRITTEN: &[u8] = b"# two groups
+static WRITTEN: &[u8] = b"\
+# two groups
 statesman\t1
 group dc1
 device t1 tor
@@ -91,7 +93,8 @@ order down up
 order down";
 
 /// A document of two ToRs that two switches join, and one application.
-const JOINED: &[u8] = b"statesman 1
+const JOINED: &[u8] = b"\
+statesman 1
 group dc1
 device t1 tor
 device t2 tor

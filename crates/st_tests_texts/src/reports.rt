@@ -62,8 +62,10 @@ fn what_is_not_there_has_no_bytes(rt: HostRuntime) -> Result<(), Fail> {
     let mut logs = Vec::new(alloc);
     logs.push(log(alloc, AppId(1), entries.as_slice())?)?;
     let out = printed(alloc, &[], &[], logs.as_slice())?;
-    is(
-        &out,
-        "statesman report 1\nread   .power version 0 value 1\nend\n",
-    )
+    let text = "\
+statesman report 1
+read   .power version 0 value 1
+end
+";
+    is(&out, text)
 }

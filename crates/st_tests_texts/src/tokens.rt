@@ -8,7 +8,8 @@ use std::alloc::Global;
 use std::test::Fail;
 
 /// A group with one device, `a1`.
-const SMALL: &str = "statesman 1
+const SMALL: &str = "\
+statesman 1
 group dc1
 device a1 switch
 ";

@@ -1,17 +1,30 @@
 //! Calls that end with another status than Ok, or at a source or a sink that fails.
 
+use super::gates::Behind;
 use super::*;
+
+/// An application whose switch fails before anything was sent to it, so that it can't settle.
+const FAILING: &[u8] = b"\
+app up
+propose dc1 a1.firmware=2
+await dc1
+fail dc1 a1 0
+poll dc1 a1
+";
+
+/// A script, and behind it as many rounds of the first group as fill the journal of one that can't settle.
+fn filling(alloc: Global, script: &[u8]) -> Result<Vec<u8>, AllocError> {
+    let mut script = script.to_vec(alloc)?;
+    for _line in 0..782 {
+        script.extend_from_slice(b"settle dc1 64\n")?;
+    }
+    Ok(script)
+}
 
 #[test]
 fn a_full_journal_ends_the_run(rt: HostRuntime) -> Result<(), Fail> {
     let alloc = rt.alloc();
-    let mut script = joined(
-        alloc,
-        &[b"app up\npropose dc1 a1.firmware=2\nawait dc1\nfail dc1 a1 0\npoll dc1 a1\n"],
-    )?;
-    for _line in 0..782 {
-        script.extend_from_slice(b"settle dc1 64\n")?;
-    }
+    let script = filling(alloc, FAILING)?;
     let called = call(
         &rt,
         alloc,
@@ -25,28 +38,94 @@ fn a_full_journal_ends_the_run(rt: HostRuntime) -> Result<(), Fail> {
     Ok(())
 }
 
+/// A second group.
+const SMALLER: &[u8] = b"\
+group dc2
+device t1 tor
+device t2 tor
+device a1 switch
+link l1 t1 a1 10
+link l2 t2 a1 10
+";
+
+/// An application of the second group, and one whose switch of the first fails before anything was sent to it. It reads then.
+const FAILING_BESIDE: &[u8] = b"\
+app te
+propose dc2 a1.config=2
+await dc2
+read dc2 a1.config
+app up
+propose dc2 a1.firmware=2
+propose dc1 a1.firmware=2
+await dc1
+fail dc1 a1 0
+poll dc1 a1
+read dc1 a1.firmware
+";
+
+#[test]
+fn a_full_journal_stops_who_meets_it_alone(rt: HostRuntime) -> Result<(), Fail> {
+    let alloc = rt.alloc();
+    let scripts = filling(alloc, FAILING_BESIDE)?;
+    let last = b"read dc2 a1.config\n";
+    let parts = [TWO_PATHS, HALF, SMALLER, scripts.as_slice(), last];
+    // The updater and the monitor come behind the failure.
+    let gate = Behind::halves(1);
+    let called = call_at(&rt, alloc, &["run"], &parts, &gate)?;
+    assert!(&rt; gate.was_kept());
+    assert_eq!(&rt; called.outcome.status, Status::JournalFull { group: 0 });
+    assert_eq!(&rt; called.text.as_slice(), b"fault full dc1\n".as_slice());
+    let journals = called.outcome.journals.as_slice();
+    assert_eq!(&rt; journals.len(), 2);
+    assert_eq!(&rt; journals[0].entries.as_slice().len(), 200_000);
+    // The other application did all of its commands, and nothing is left pending in the other group.
+    assert_eq!(&rt; journals[1].entries.as_slice().len(), 4);
+    let logs = called.outcome.logs.as_slice();
+    assert_eq!(&rt; logs.len(), 2);
+    assert_eq!(&rt; logs[0].entries.as_slice().len(), 1);
+    // And the one that met the full journal did nothing behind it.
+    assert_eq!(&rt; logs[1].entries.as_slice().len(), 1);
+    drop(called);
+    Ok(())
+}
+
 #[test]
 fn bad_input_is_told_by_its_line(rt: HostRuntime) -> Result<(), Fail> {
     let alloc = rt.alloc();
-    let called = call(&rt, alloc, &["serial"], &[])?;
-    let header = Status::BadInput {
+    let cases: [(&[&[u8]], u32, DocKind, &str); 2] = [
+        (&[], 1, DocKind::Header, "fault input line 1 header\n"),
+        (
+            &[TWO_PATHS, TO_A_SWITCH],
+            11,
+            DocKind::Pair,
+            "fault input line 11 pair\n",
+        ),
+    ];
+    for (parts, line, kind, text) in cases {
+        let called = call(&rt, alloc, &["serial"], parts)?;
+        let status = Status::BadInput { line, kind };
+        ends_as(&rt, alloc, called, status, text.as_bytes(), &[])?;
+    }
+    Ok(())
+}
+
+#[test]
+fn a_bad_document_is_not_run(rt: HostRuntime) -> Result<(), Fail> {
+    let alloc = rt.alloc();
+    let run = tell(&rt, alloc, &["run"], &[b"statesman 2\n"])?;
+    let bad = Status::BadInput {
         line: 1,
         kind: DocKind::Header,
     };
-    ends_as(
-        &rt,
-        alloc,
-        called,
-        header,
-        b"fault input line 1 header\n",
-        &[],
-    )?;
-    let called = call(&rt, alloc, &["serial"], &[TWO_PATHS, TO_A_SWITCH])?;
-    let pair = Status::BadInput {
-        line: 11,
-        kind: DocKind::Pair,
-    };
-    ends_as(&rt, alloc, called, pair, b"fault input line 11 pair\n", &[])?;
+    assert_eq!(&rt; run.status, bad);
+    assert_eq!(&rt;
+        run.text.as_slice(),
+        b"fault input line 1 header\n".as_slice()
+    );
+    let long = vec![in alloc; b'#'; 1_048_577]?;
+    let run = tell(&rt, alloc, &["run"], &[long.as_slice()])?;
+    assert_eq!(&rt; run.status, Status::TooLong);
+    assert_eq!(&rt; run.text.as_slice(), b"fault long\n".as_slice());
     Ok(())
 }
 
@@ -77,7 +156,10 @@ fn a_failing_sink_holds_a_prefix(rt: HostRuntime) -> Result<(), Fail> {
         outcome,
         text: sink.bytes().to_vec(alloc)?,
     };
-    let text = b"statesman report 1\ngroup dc1\nver";
+    let text = b"\
+statesman report 1
+group dc1
+ver";
     ends_as(
         &rt,
         alloc,

@@ -1,4 +1,4 @@
-//! What the outside may do: each read and each write that fails, each beginning of a document, each limit, a journal with a line less.
+//! What the outside may do: each read and each write that fails, each beginning of a document, a journal with a line less.
 
 use super::{Called, FIRST, HALF, SECOND, TWO_PATHS, Told, UPGRADE, joined, tell, words_of};
 use st_crew::NoGate;
@@ -107,62 +107,6 @@ fn each_beginning_of_a_document_is_read_as_it_stands(rt: HostRuntime) -> Result<
             !is_document
         );
     }
-    Ok(())
-}
-
-/// A text, and behind it so many lines of a word, a numbered name and an end.
-fn numbered(
-    alloc: Global,
-    opening: &str,
-    word: &str,
-    end: &str,
-    count: u32,
-) -> Result<Vec<u8>, AllocError> {
-    let mut text = opening.as_bytes().to_vec(alloc)?;
-    for number in 0..count {
-        let line = format!(in alloc; "{word} x{number}{end}\n")?;
-        text.extend_from_slice(line.as_bytes())?;
-    }
-    Ok(text)
-}
-
-/// A document of these parts has its first bad line there.
-fn is_bad<R: Abort + Threads + Wait + Sync>(
-    rt: &R,
-    alloc: Global,
-    parts: &[&[u8]],
-    line: u32,
-    kind: DocKind,
-) -> Result<(), AllocError> {
-    let check = tell(rt, alloc, &["check"], parts)?;
-    assert_eq!(rt; check.status, Status::BadInput { line, kind });
-    Ok(())
-}
-
-#[test]
-fn one_more_than_there_may_be_is_a_fault(rt: HostRuntime) -> Result<(), Fail> {
-    let alloc = rt.alloc();
-    let group = "statesman 1\ngroup dc1\n";
-    for (opening, word, end, most, line) in [
-        (group, "device", " switch", 512, 515),
-        (group, "device", " tor", 64, 67),
-        ("statesman 1\n", "group", "", 16, 18),
-        ("statesman 1\n", "app", "", 32, 34),
-    ] {
-        let whole = numbered(alloc, opening, word, end, most)?;
-        let check = tell(&rt, alloc, &["check"], &[whole.as_slice()])?;
-        assert_eq!(&rt; check.status, Status::Ok);
-        let over = numbered(alloc, opening, word, end, most + 1)?;
-        is_bad(&rt, alloc, &[over.as_slice()], line, DocKind::Limit)?;
-    }
-    let rows =
-        b"app up\npropose dc1 t1.power=1 t1.firmware=2 t1.config=3 t1.routing=1 t2.power=1 t2.firmware=2 t2.config=3 t2.routing=1 a1.power=1 a1.firmware=2 a1.config=3 a1.routing=1 a2.power=1 a2.firmware=2 a2.config=3 a2.routing=1 l1.power=1\n";
-    is_bad(&rt, alloc, &[TWO_PATHS, HALF, rows], 13, DocKind::Limit)?;
-    let rounds = b"app up\nsettle dc1 65\n";
-    is_bad(&rt, alloc, &[TWO_PATHS, HALF, rounds], 13, DocKind::Number)?;
-    let link =
-        b"statesman 1\ngroup dc1\ndevice t1 tor\ndevice t2 tor\ndevice a1 switch\ndevice a2 switch\nlink l1 t1 a1 0\n";
-    is_bad(&rt, alloc, &[link], 7, DocKind::Number)?;
     Ok(())
 }
 

@@ -9,16 +9,46 @@ use std::test::Fail;
 use std::thread::Threads;
 
 /// The document of the two paths with two proposals, as it is printed.
-pub const PRINTED: &str =
-    "statesman 1\ngroup dc1\ndevice t1 tor\ndevice t2 tor\ndevice a1 switch\ndevice a2 switch\nlink l1 t1 a1 10\nlink l2 t1 a2 10\nlink l3 t2 a1 10\nlink l4 t2 a2 10\npromise t1 t2 50\napp up\npropose dc1 a1.firmware=2\npropose dc1 a2.firmware=2\n";
+pub const PRINTED: &str = "\
+statesman 1
+group dc1
+device t1 tor
+device t2 tor
+device a1 switch
+device a2 switch
+link l1 t1 a1 10
+link l2 t1 a2 10
+link l3 t2 a1 10
+link l4 t2 a2 10
+promise t1 t2 50
+app up
+propose dc1 a1.firmware=2
+propose dc1 a2.firmware=2
+";
 
 /// The journal that comes of it.
-pub const JOURNAL: &str =
-    "journal dc1\n1 submit up a1.firmware=2 : queued 1\n2 submit up a2.firmware=2 : queued 2\n3 check : receipt 1 accepted 1\n4 check : receipt 2 refused broken t1 t2 cutoff need 10 has 0 side t1\n";
+pub const JOURNAL: &str = "\
+journal dc1
+1 submit up a1.firmware=2 : queued 1
+2 submit up a2.firmware=2 : queued 2
+3 check : receipt 1 accepted 1
+4 check : receipt 2 refused broken t1 t2 cutoff need 10 has 0 side t1
+";
 
 /// The report of both.
-pub const REPORT: &str =
-    "statesman report 1\ngroup dc1\nversion 1\nentries 4\nreceipt 1 up accepted 1\nreceipt 2 up refused broken t1 t2 cutoff need 10 has 0 side t1\ntarget a1.firmware=2\nunsettled a1\nwire commands 0 reports 0 stale 0 old 0\npromises 1 start 1 now 1\nend\n";
+pub const REPORT: &str = "\
+statesman report 1
+group dc1
+version 1
+entries 4
+receipt 1 up accepted 1
+receipt 2 up refused broken t1 t2 cutoff need 10 has 0 side t1
+target a1.firmware=2
+unsettled a1
+wire commands 0 reports 0 stale 0 old 0
+promises 1 start 1 now 1
+end
+";
 
 /// How a call on words ends, over a document: whether they ask for something that is done.
 fn is_taken<R: Abort + Threads + Wait + Sync>(
@@ -124,7 +154,8 @@ fn a_report_is_one_line_of_json(rt: HostRuntime) -> Result<(), Fail> {
         &[TWO_PATHS, HALF, FIRST],
     )?;
     let line =
-        b"{\"groups\":[{\"entries\":2,\"locks\":[],\"lost\":[],\"name\":\"dc1\",\"now\":1,\"promises\":1,\"receipts\":[\"1 up accepted 1\"],\"start\":1,\"targets\":[\"a1.firmware=2\"],\"unsettled\":[\"a1\"],\"version\":1,\"wire\":{\"commands\":0,\"old\":0,\"reports\":0,\"stale\":0}}],\"reads\":[],\"statesman\":1}\n";
+        br#"{"groups":[{"entries":2,"locks":[],"lost":[],"name":"dc1","now":1,"promises":1,"receipts":["1 up accepted 1"],"start":1,"targets":["a1.firmware=2"],"unsettled":["a1"],"version":1,"wire":{"commands":0,"old":0,"reports":0,"stale":0}}],"reads":[],"statesman":1}
+"#;
     assert_eq!(&rt; called.text.as_slice(), line.as_slice());
     Ok(())
 }
@@ -147,8 +178,14 @@ fn a_run_is_printed_for_replay(rt: HostRuntime) -> Result<(), Fail> {
 fn a_fat_tree_is_run_and_summed_up(rt: HostRuntime) -> Result<(), Fail> {
     let alloc = rt.alloc();
     let called = tell(&rt, alloc, &["demo", "--pods", "4", "--seed", "0"], &[])?;
-    let text =
-        b"demo pods 4 seed 0\ndevices 20 links 32 promises 28\nentries 48 version 2 accepted 2 refused 1\ncommands 8 reports 8 unsettled 0\nstart 28 now 28\nend\n";
+    let text = b"\
+demo pods 4 seed 0
+devices 20 links 32 promises 28
+entries 48 version 2 accepted 2 refused 1
+commands 8 reports 8 unsettled 0
+start 28 now 28
+end
+";
     assert_eq!(&rt; called.text.as_slice(), text.as_slice());
     Ok(())
 }

@@ -5,7 +5,7 @@ use super::{
     Called, FIRST, HALF, SECOND, TWO_PATHS, call, ends_as, entry_count, joined, tell, words_of,
 };
 use st_crew::NoGate;
-use st_doc::DocKind;
+use st_doc::DocKind::{self, Byte, Count, Number, Twice, Unknown, Value, Word};
 use st_io::{MemorySink, SureSource};
 use st_top::{Status, statesman};
 use std::alloc::{AllocError, Global};
@@ -23,8 +23,14 @@ const ENTRIES: [&str; 4] = [
 ];
 
 /// Two groups of one switch each, and an application.
-const TWO_GROUPS: &str =
-    "statesman 1\ngroup g\ndevice a switch\ngroup h\ndevice a switch\napp up\n";
+const TWO_GROUPS: &str = "\
+statesman 1
+group g
+device a switch
+group h
+device a switch
+app up
+";
 
 /// The printed run with another line in the place of that of an entry.
 fn altered(alloc: Global, entry: u32, line: &str) -> Result<Vec<u8>, AllocError> {
@@ -57,7 +63,8 @@ fn a_printed_run_is_replayed_in_each_form(rt: HostRuntime) -> Result<(), Fail> {
     let alloc = rt.alloc();
     let printed = joined(alloc, &[PRINTED.as_bytes(), JOURNAL.as_bytes()])?;
     let json =
-        "{\"groups\":[{\"entries\":4,\"locks\":[],\"lost\":[],\"name\":\"dc1\",\"now\":1,\"promises\":1,\"receipts\":[\"1 up accepted 1\",\"2 up refused broken t1 t2 cutoff need 10 has 0 side t1\"],\"start\":1,\"targets\":[\"a1.firmware=2\"],\"unsettled\":[\"a1\"],\"version\":1,\"wire\":{\"commands\":0,\"old\":0,\"reports\":0,\"stale\":0}}],\"reads\":[],\"statesman\":1}\n";
+        r#"{"groups":[{"entries":4,"locks":[],"lost":[],"name":"dc1","now":1,"promises":1,"receipts":["1 up accepted 1","2 up refused broken t1 t2 cutoff need 10 has 0 side t1"],"start":1,"targets":["a1.firmware=2"],"unsettled":["a1"],"version":1,"wire":{"commands":0,"old":0,"reports":0,"stale":0}}],"reads":[],"statesman":1}
+"#;
     let cases: [(&[&str], &[u8]); 4] = [
         (&["replay"], REPORT.as_bytes()),
         (&["--form", "text", "replay"], REPORT.as_bytes()),
@@ -76,11 +83,19 @@ fn a_printed_run_is_replayed_in_each_form(rt: HostRuntime) -> Result<(), Fail> {
 #[test]
 fn what_was_read_is_not_replayed(rt: HostRuntime) -> Result<(), Fail> {
     let alloc = rt.alloc();
-    let script = b"await dc1\nread dc1 a1.firmware\nreadat dc1 0 a1.firmware\n";
+    let script = b"\
+await dc1
+read dc1 a1.firmware
+readat dc1 0 a1.firmware
+";
     let parts: [&[u8]; 5] = [TWO_PATHS, HALF, FIRST, SECOND, script];
     let run = tell(&rt, alloc, &["serial"], &parts)?;
-    let ends =
-        "promises 1 start 1 now 1\nread up dc1 a1.firmware version 1 value 2\nread up dc1 a1.firmware at 0 value 1\nend\n";
+    let ends = "\
+promises 1 start 1 now 1
+read up dc1 a1.firmware version 1 value 2
+read up dc1 a1.firmware at 0 value 1
+end
+";
     assert!(&rt; run.text.as_slice().ends_with(ends.as_bytes()));
     let printed = tell(&rt, alloc, &["serial", "--form", "replay"], &parts)?;
     let again = tell(&rt, alloc, &["replay"], &[printed.text.as_slice()])?;
@@ -91,8 +106,27 @@ fn what_was_read_is_not_replayed(rt: HostRuntime) -> Result<(), Fail> {
 #[test]
 fn a_fat_tree_is_run_and_replayed(rt: HostRuntime) -> Result<(), Fail> {
     let alloc = rt.alloc();
-    let report =
-        "statesman report 1\ngroup dc1\nversion 2\nentries 48\nlock te c0 high granted\nunlock te c0 high released\nreceipt 1 up accepted 1\nreceipt 2 up accepted 2\nreceipt 3 up refused broken p0e0 p0e1 cutoff need 10 has 0 side p0e0\ntarget p0a0.firmware=2\ntarget p0a1.firmware=2\ntarget p1a0.firmware=2\ntarget p1a1.firmware=2\ntarget p2a0.firmware=2\ntarget p2a1.firmware=2\ntarget p3a0.firmware=2\ntarget p3a1.firmware=2\nwire commands 8 reports 8 stale 0 old 0\npromises 28 start 28 now 28\n";
+    let report = "\
+statesman report 1
+group dc1
+version 2
+entries 48
+lock te c0 high granted
+unlock te c0 high released
+receipt 1 up accepted 1
+receipt 2 up accepted 2
+receipt 3 up refused broken p0e0 p0e1 cutoff need 10 has 0 side p0e0
+target p0a0.firmware=2
+target p0a1.firmware=2
+target p1a0.firmware=2
+target p1a1.firmware=2
+target p2a0.firmware=2
+target p2a1.firmware=2
+target p3a0.firmware=2
+target p3a1.firmware=2
+wire commands 8 reports 8 stale 0 old 0
+promises 28 start 28 now 28
+";
     let made = tell(&rt, alloc, &["gen", "--seed", "0"], &[])?;
     let document = made.text.as_slice();
     let run = tell(&rt, alloc, &["serial"], &[document])?;
@@ -109,11 +143,31 @@ fn a_fat_tree_is_run_and_replayed(rt: HostRuntime) -> Result<(), Fail> {
 #[test]
 fn an_untold_failure_is_replayed(rt: HostRuntime) -> Result<(), Fail> {
     let alloc = rt.alloc();
-    let journal =
-        b"app up\njournal dc1\n1 fail a2 0 power=1 firmware=1 config=1 routing=1 : changed\n2 submit up a1.routing=0 : queued 1\n3 check : receipt 1 accepted 1\n4 send a1 : sent 1\n5 deliver 1 : begun\n6 finish a1 : done\n7 report a1 : reported 1\n8 hear 1 : taken\n";
+    let journal = b"\
+app up
+journal dc1
+1 fail a2 0 power=1 firmware=1 config=1 routing=1 : changed
+2 submit up a1.routing=0 : queued 1
+3 check : receipt 1 accepted 1
+4 send a1 : sent 1
+5 deliver 1 : begun
+6 finish a1 : done
+7 report a1 : reported 1
+8 hear 1 : taken
+";
     let replay = tell(&rt, alloc, &["replay"], &[TWO_PATHS, HALF, journal])?;
-    let text =
-        b"statesman report 1\ngroup dc1\nversion 1\nentries 8\nreceipt 1 up accepted 1\ntarget a1.routing=0\nwire commands 1 reports 1 stale 0 old 0\npromises 1 start 1 now 0\nlost t1 t2\nend\n";
+    let text = b"\
+statesman report 1
+group dc1
+version 1
+entries 8
+receipt 1 up accepted 1
+target a1.routing=0
+wire commands 1 reports 1 stale 0 old 0
+promises 1 start 1 now 0
+lost t1 t2
+end
+";
     assert_eq!(&rt; replay.text.as_slice(), text.as_slice());
     Ok(())
 }
@@ -172,7 +226,13 @@ fn an_altered_reply_is_found(rt: HostRuntime) -> Result<(), Fail> {
 #[test]
 fn the_first_group_that_is_not_legal_is_named(rt: HostRuntime) -> Result<(), Fail> {
     let alloc = rt.alloc();
-    let text = "journal g\n1 check : idle\njournal h\n1 check : idle\n2 finish a : done\n";
+    let text = "\
+journal g
+1 check : idle
+journal h
+1 check : idle
+2 finish a : done
+";
     let status = Status::Illegal { group: 1, entry: 2 };
     refused(
         &rt,
@@ -181,7 +241,12 @@ fn the_first_group_that_is_not_legal_is_named(rt: HostRuntime) -> Result<(), Fai
         status,
         "fault illegal h 2\n",
     )?;
-    let text = "journal g\n1 finish a : done\njournal h\n1 finish a : done\n";
+    let text = "\
+journal g
+1 finish a : done
+journal h
+1 finish a : done
+";
     let status = Status::Illegal { group: 0, entry: 1 };
     refused(
         &rt,
@@ -190,7 +255,10 @@ fn the_first_group_that_is_not_legal_is_named(rt: HostRuntime) -> Result<(), Fai
         status,
         "fault illegal g 1\n",
     )?;
-    let text = "journal h\n1 send a : settled\n";
+    let text = "\
+journal h
+1 send a : settled
+";
     let called = call(
         &rt,
         alloc,
@@ -207,76 +275,28 @@ fn the_first_group_that_is_not_legal_is_named(rt: HostRuntime) -> Result<(), Fai
 fn a_bad_line_of_a_journal_is_told(rt: HostRuntime) -> Result<(), Fail> {
     let alloc = rt.alloc();
     let cases = [
-        (
-            "1 check : idle\n",
-            7,
-            DocKind::Word,
-            "fault input line 7 word\n",
-        ),
-        (
-            "journal g\ndevice b switch\n",
-            8,
-            DocKind::Word,
-            "fault input line 8 word\n",
-        ),
-        (
-            "journals g\n",
-            7,
-            DocKind::Word,
-            "fault input line 7 word\n",
-        ),
-        (
-            "journal g\n1 check idle\n",
-            8,
-            DocKind::Count,
-            "fault input line 8 count\n",
-        ),
-        (
-            "journal g\n2 check : idle\n",
-            8,
-            DocKind::Number,
-            "fault input line 8 number\n",
-        ),
-        (
-            "journal g\n1 check : changed\n",
-            8,
-            DocKind::Value,
-            "fault input line 8 value\n",
-        ),
-        (
-            "journal g\n1 send b : settled\n",
-            8,
-            DocKind::Unknown,
-            "fault input line 8 unknown\n",
-        ),
-        (
-            "journal i\n",
-            7,
-            DocKind::Unknown,
-            "fault input line 7 unknown\n",
-        ),
-        (
-            "journal h\njournal g\n",
-            8,
-            DocKind::Twice,
-            "fault input line 8 twice\n",
-        ),
-        (
-            "journal g\njournal g\n",
-            8,
-            DocKind::Twice,
-            "fault input line 8 twice\n",
-        ),
-        (
-            "journal g\n1 check : idl\u{1}\n",
-            8,
-            DocKind::Byte,
-            "fault input line 8 byte\n",
-        ),
+        ("1 check : idle\n", 7, Word, "word"),
+        ("journal g\ndevice b switch\n", 8, Word, "word"),
+        ("journals g\n", 7, Word, "word"),
+        ("journal g\n1 check idle\n", 8, Count, "count"),
+        ("journal g\n2 check : idle\n", 8, Number, "number"),
+        ("journal g\n1 check : changed\n", 8, Value, "value"),
+        ("journal g\n1 send b : settled\n", 8, Unknown, "unknown"),
+        ("journal i\n", 7, Unknown, "unknown"),
+        ("journal h\njournal g\n", 8, Twice, "twice"),
+        ("journal g\njournal g\n", 8, Twice, "twice"),
+        ("journal g\n1 check : idl\u{1}\n", 8, Byte, "byte"),
     ];
-    for (journal, line, kind, told) in cases {
+    for (journal, line, kind, word) in cases {
         let parts: [&[u8]; 2] = [TWO_GROUPS.as_bytes(), journal.as_bytes()];
-        refused(&rt, alloc, &parts, Status::BadInput { line, kind }, told)?;
+        let told = format!(in alloc; "fault input line {line} {word}\n")?;
+        refused(
+            &rt,
+            alloc,
+            &parts,
+            Status::BadInput { line, kind },
+            told.as_str(),
+        )?;
     }
     Ok(())
 }

@@ -3,7 +3,6 @@
 use super::gates::{Behind, Checked, Halves, Leader, Meeting, Relay};
 use super::{Called, FIRST, HALF, TWO_PATHS, Told, call_at, reply_of, tell};
 use st_crew::{Gate, NoGate};
-use st_doc::DocKind;
 use st_event::{Event, LogSaw, Reply};
 use st_top::Status;
 use std::alloc::{AllocError, Global};
@@ -35,10 +34,24 @@ fn tell_run<R: Threads + Wait + Sync, G: Gate + Sync>(
 #[test]
 fn what_was_accepted_is_read(rt: HostRuntime) -> Result<(), Fail> {
     let alloc = rt.alloc();
-    let script = b"await dc1\nread dc1 a1.firmware\n";
+    let script = b"\
+await dc1
+read dc1 a1.firmware
+";
     let run = tell_run(&rt, alloc, &[TWO_PATHS, HALF, FIRST, script], &NoGate)?;
-    let text =
-        b"statesman report 1\ngroup dc1\nversion 1\nentries 2\nreceipt 1 up accepted 1\ntarget a1.firmware=2\nunsettled a1\nwire commands 0 reports 0 stale 0 old 0\npromises 1 start 1 now 1\nread up dc1 a1.firmware version 1 value 2\nend\n";
+    let text = b"\
+statesman report 1
+group dc1
+version 1
+entries 2
+receipt 1 up accepted 1
+target a1.firmware=2
+unsettled a1
+wire commands 0 reports 0 stale 0 old 0
+promises 1 start 1 now 1
+read up dc1 a1.firmware version 1 value 2
+end
+";
     assert_eq!(&rt; run.status, Status::Ok);
     assert_eq!(&rt; run.text.as_slice(), text.as_slice());
     Ok(())
@@ -47,11 +60,25 @@ fn what_was_accepted_is_read(rt: HostRuntime) -> Result<(), Fail> {
 #[test]
 fn two_applications_work_at_once(rt: HostRuntime) -> Result<(), Fail> {
     let alloc = rt.alloc();
-    let scripts = b"app up\nread dc1 a1.firmware\napp te\nread dc1 a1.firmware\n";
+    let scripts = b"\
+app up
+read dc1 a1.firmware
+app te
+read dc1 a1.firmware
+";
     let gate = Meeting::of(2);
     let run = tell_run(&rt, alloc, &[TWO_PATHS, HALF, scripts], &gate)?;
-    let text =
-        b"statesman report 1\ngroup dc1\nversion 0\nentries 0\nwire commands 0 reports 0 stale 0 old 0\npromises 1 start 1 now 1\nread up dc1 a1.firmware version 0 value 1\nread te dc1 a1.firmware version 0 value 1\nend\n";
+    let text = b"\
+statesman report 1
+group dc1
+version 0
+entries 0
+wire commands 0 reports 0 stale 0 old 0
+promises 1 start 1 now 1
+read up dc1 a1.firmware version 0 value 1
+read te dc1 a1.firmware version 0 value 1
+end
+";
     assert!(&rt; gate.was_kept());
     assert_eq!(&rt; run.text.as_slice(), text.as_slice());
     Ok(())
@@ -60,8 +87,13 @@ fn two_applications_work_at_once(rt: HostRuntime) -> Result<(), Fail> {
 #[test]
 fn a_reader_sees_what_it_was_not_told(rt: HostRuntime) -> Result<(), Fail> {
     let alloc = rt.alloc();
-    let scripts =
-        b"await dc1\nread dc1 a1.firmware\napp te\nread dc1 a1.firmware\nread dc1 a1.firmware\n";
+    let scripts = b"\
+await dc1
+read dc1 a1.firmware
+app te
+read dc1 a1.firmware
+read dc1 a1.firmware
+";
     let gate = Leader::of(0, 1);
     let called = run(&rt, alloc, &[TWO_PATHS, HALF, FIRST, scripts], &gate)?;
     assert!(&rt; gate.was_kept(2));
@@ -81,13 +113,33 @@ fn a_reader_sees_what_it_was_not_told(rt: HostRuntime) -> Result<(), Fail> {
 }
 
 /// An application that proposes and awaits, and one that locks a link and reads.
-const WAITS: &[u8] = b"app up\npropose dc1 a1.firmware=2\nawait dc1\n";
+const WAITS: &[u8] = b"\
+app up
+propose dc1 a1.firmware=2
+await dc1
+";
 
-const LOCKS: &[u8] = b"app te\nlock dc1 l1 low\nread dc1 a1.firmware\n";
+const LOCKS: &[u8] = b"\
+app te
+lock dc1 l1 low
+read dc1 a1.firmware
+";
 
 /// What they come to, where the read went ahead of the judgement.
-const JUDGED: &[u8] =
-    b"statesman report 1\ngroup dc1\nversion 1\nentries 3\nlock te l1 low granted\nreceipt 1 up accepted 1\ntarget a1.firmware=2\nunsettled a1\nwire commands 0 reports 0 stale 0 old 0\npromises 1 start 1 now 1\nread te dc1 a1.firmware version 0 value 1\nend\n";
+const JUDGED: &[u8] = b"\
+statesman report 1
+group dc1
+version 1
+entries 3
+lock te l1 low granted
+receipt 1 up accepted 1
+target a1.firmware=2
+unsettled a1
+wire commands 0 reports 0 stale 0 old 0
+promises 1 start 1 now 1
+read te dc1 a1.firmware version 0 value 1
+end
+";
 
 #[test]
 fn a_proposal_is_judged_while_others_hold_the_lock(rt: HostRuntime) -> Result<(), Fail> {
@@ -139,12 +191,29 @@ fn a_checker_judges_what_nobody_awaits(rt: HostRuntime) -> Result<(), Fail> {
 #[test]
 fn an_updater_and_a_monitor_settle_what_was_accepted(rt: HostRuntime) -> Result<(), Fail> {
     let alloc = rt.alloc();
-    let script =
-        b"app up\npropose dc1 a1.firmware=2 a2.firmware=2\nawait dc1\nread dc1 a1.firmware\nsettle dc1 1\nsettle dc1 1\n";
+    let script = b"\
+app up
+propose dc1 a1.firmware=2 a2.firmware=2
+await dc1
+read dc1 a1.firmware
+settle dc1 1
+settle dc1 1
+";
     let gate = Relay::new();
     let called = run(&rt, alloc, &[TWO_PATHS, script], &gate)?;
-    let text =
-        b"statesman report 1\ngroup dc1\nversion 1\nentries 12\nreceipt 1 up accepted 1\ntarget a1.firmware=2\ntarget a2.firmware=2\nwire commands 2 reports 2 stale 0 old 0\npromises 0 start 0 now 0\nread up dc1 a1.firmware version 1 value 2\nend\n";
+    let text = b"\
+statesman report 1
+group dc1
+version 1
+entries 12
+receipt 1 up accepted 1
+target a1.firmware=2
+target a2.firmware=2
+wire commands 2 reports 2 stale 0 old 0
+promises 0 start 0 now 0
+read up dc1 a1.firmware version 1 value 2
+end
+";
     assert!(&rt; gate.was_kept());
     assert_eq!(&rt; called.text.as_slice(), text.as_slice());
     // The updater's half is of both switches, and then the monitor's: a round would have a report behind each command.
@@ -157,11 +226,23 @@ fn an_updater_and_a_monitor_settle_what_was_accepted(rt: HostRuntime) -> Result<
 #[test]
 fn an_updater_and_a_monitor_work_beside_a_reader(rt: HostRuntime) -> Result<(), Fail> {
     let alloc = rt.alloc();
-    let script = b"app te\nread dc1 a1.firmware\nsettle dc1 1\n";
+    let script = b"\
+app te
+read dc1 a1.firmware
+settle dc1 1
+";
     let gate = Halves::of(0);
     let run = tell_run(&rt, alloc, &[TWO_PATHS, HALF, script], &gate)?;
-    let text =
-        b"statesman report 1\ngroup dc1\nversion 0\nentries 0\nwire commands 0 reports 0 stale 0 old 0\npromises 1 start 1 now 1\nread te dc1 a1.firmware version 0 value 1\nend\n";
+    let text = b"\
+statesman report 1
+group dc1
+version 0
+entries 0
+wire commands 0 reports 0 stale 0 old 0
+promises 1 start 1 now 1
+read te dc1 a1.firmware version 0 value 1
+end
+";
     assert!(&rt; gate.was_kept(1));
     assert_eq!(&rt; run.text.as_slice(), text.as_slice());
     Ok(())
@@ -204,8 +285,16 @@ fn brought(called: &Called, number: u32) -> (bool, bool) {
 #[test]
 fn what_is_lost_never_comes(rt: HostRuntime) -> Result<(), Fail> {
     let alloc = rt.alloc();
-    let lines = b"drop dc1 command 1\ndrop dc1 report 2\n";
-    let script = b"app up\npropose dc1 a1.firmware=2\nawait dc1\nsettle dc1 3\n";
+    let lines = b"\
+drop dc1 command 1
+drop dc1 report 2
+";
+    let script = b"\
+app up
+propose dc1 a1.firmware=2
+await dc1
+settle dc1 3
+";
     // Whoever makes a turn, the first two commands and reports are made: the first command is lost, and so a second one is sent.
     for _time in 0..50 {
         let called = run(&rt, alloc, &[TWO_PATHS, HALF, lines, script], &NoGate)?;
@@ -219,8 +308,37 @@ fn what_is_lost_never_comes(rt: HostRuntime) -> Result<(), Fail> {
 
 /// A second group, and four applications that change a group each, of which two share one. Each group has a checker, an updater and a
 /// monitor beside them.
-const FOUR: &[u8] =
-    b"group dc2\ndevice t1 tor\ndevice t2 tor\ndevice a1 switch\nlink l1 t1 a1 10\nlink l2 t2 a1 10\npromise t1 t2 0\napp up\nread dc1 a1.config\npropose dc1 a1.config=2\nawait dc1\nread dc1 a1.config\napp te\nread dc1 a1.config\npropose dc1 a1.config=3\nawait dc1\nread dc1 a1.config\nsettle dc1 2\napp third\nread dc2 a1.config\npropose dc2 a1.config=2\nawait dc2\nread dc2 a1.config\napp fourth\nread dc2 a1.config\npropose dc2 a1.config=3\nawait dc2\nread dc2 a1.config\nsettle dc2 2\n";
+const FOUR: &[u8] = b"\
+group dc2
+device t1 tor
+device t2 tor
+device a1 switch
+link l1 t1 a1 10
+link l2 t2 a1 10
+promise t1 t2 0
+app up
+read dc1 a1.config
+propose dc1 a1.config=2
+await dc1
+read dc1 a1.config
+app te
+read dc1 a1.config
+propose dc1 a1.config=3
+await dc1
+read dc1 a1.config
+settle dc1 2
+app third
+read dc2 a1.config
+propose dc2 a1.config=2
+await dc2
+read dc2 a1.config
+app fourth
+read dc2 a1.config
+propose dc2 a1.config=3
+await dc2
+read dc2 a1.config
+settle dc2 2
+";
 
 /// Runs the four applications with this gate, prints the run, and lets it be replayed. Gives what was printed.
 fn printed_and_replayed<R: Abort + Threads + Wait + Sync, G: Gate + Sync>(
@@ -254,68 +372,5 @@ fn several_orders_are_replayed(rt: HostRuntime) -> Result<(), Fail> {
     for _time in 0..196 {
         let _free = printed_and_replayed(&rt, alloc, &NoGate)?;
     }
-    Ok(())
-}
-
-#[test]
-fn a_bad_document_is_not_run(rt: HostRuntime) -> Result<(), Fail> {
-    let alloc = rt.alloc();
-    let run = tell_run(&rt, alloc, &[b"statesman 2\n"], &NoGate)?;
-    let bad = Status::BadInput {
-        line: 1,
-        kind: DocKind::Header,
-    };
-    assert_eq!(&rt; run.status, bad);
-    assert_eq!(&rt;
-        run.text.as_slice(),
-        b"fault input line 1 header\n".as_slice()
-    );
-    let long = vec![in alloc; b'#'; 1_048_577]?;
-    let run = tell_run(&rt, alloc, &[long.as_slice()], &NoGate)?;
-    assert_eq!(&rt; run.status, Status::TooLong);
-    assert_eq!(&rt; run.text.as_slice(), b"fault long\n".as_slice());
-    Ok(())
-}
-
-/// A second group.
-const SECOND: &[u8] =
-    b"group dc2\ndevice t1 tor\ndevice t2 tor\ndevice a1 switch\nlink l1 t1 a1 10\nlink l2 t2 a1 10\n";
-
-/// An application of the second group, and one that fills the journal of the first with a switch that failed before anything was sent to
-/// it, so that it can't settle. It reads then.
-const FILLING: &[u8] =
-    b"app te\npropose dc2 a1.config=2\nawait dc2\nread dc2 a1.config\napp up\npropose dc2 a1.firmware=2\npropose dc1 a1.firmware=2\nawait dc1\nfail dc1 a1 0\npoll dc1 a1\nread dc1 a1.firmware\n";
-
-fn filling_scripts(alloc: Global) -> Result<Vec<u8>, AllocError> {
-    let mut scripts = FILLING.to_vec(alloc)?;
-    for _line in 0..782 {
-        scripts.extend_from_slice(b"settle dc1 64\n")?;
-    }
-    scripts.extend_from_slice(b"read dc2 a1.config\n")?;
-    Ok(scripts)
-}
-
-#[test]
-fn a_full_journal_stops_who_meets_it_alone(rt: HostRuntime) -> Result<(), Fail> {
-    let alloc = rt.alloc();
-    let scripts = filling_scripts(alloc)?;
-    let parts = [TWO_PATHS, HALF, SECOND, scripts.as_slice()];
-    // The updater and the monitor come behind the failure.
-    let gate = Behind::halves(1);
-    let called = run(&rt, alloc, &parts, &gate)?;
-    assert!(&rt; gate.was_kept());
-    assert_eq!(&rt; called.outcome.status, Status::JournalFull { group: 0 });
-    assert_eq!(&rt; called.text.as_slice(), b"fault full dc1\n".as_slice());
-    let journals = called.outcome.journals.as_slice();
-    assert_eq!(&rt; journals.len(), 2);
-    assert_eq!(&rt; journals[0].entries.as_slice().len(), 200_000);
-    // The other application did all of its commands, and nothing is left pending in the other group.
-    assert_eq!(&rt; journals[1].entries.as_slice().len(), 4);
-    let logs = called.outcome.logs.as_slice();
-    assert_eq!(&rt; logs.len(), 2);
-    assert_eq!(&rt; logs[0].entries.as_slice().len(), 1);
-    // And the one that met the full journal did nothing behind it.
-    assert_eq!(&rt; logs[1].entries.as_slice().len(), 1);
-    drop(called);
     Ok(())
 }

@@ -1,7 +1,6 @@
-//! Words of the texts in tables, a row for each: the kinds of a bad line, the replies of locks, the exit statuses. And what stands
-//! exactly at a limit.
+//! Words of the texts in tables, a row for each: the kinds of a bad line, the replies of locks, the exit statuses.
 
-use super::{ACCEPTED, FIRST, HALF, TWO_PATHS, call, ends_as, joined, tell, words_of, writes};
+use super::{TWO_PATHS, tell, words_of, writes};
 use st_doc::DocKind;
 use st_io::{SureSink, SureSource};
 use st_top::{Status, run_program};
@@ -9,13 +8,34 @@ use std::process::ExitCode;
 use std::test::Fail;
 
 /// A group of two devices; the next line has number 5.
-const SMALL: &str = "statesman 1\ngroup g\ndevice t tor\ndevice a switch\n";
+const SMALL: &str = "\
+statesman 1
+group g
+device t tor
+device a switch
+";
 
 #[test]
 fn each_kind_of_bad_line_has_its_word(rt: HostRuntime) -> Result<(), Fail> {
     let alloc = rt.alloc();
-    let sixteen =
-        "group b\ngroup c\ngroup d\ngroup e\ngroup f\ngroup h\ngroup i\ngroup j\ngroup k\ngroup l\ngroup m\ngroup n\ngroup o\ngroup p\ngroup q\ngroup r\n";
+    let sixteen = "\
+group b
+group c
+group d
+group e
+group f
+group h
+group i
+group j
+group k
+group l
+group m
+group n
+group o
+group p
+group q
+group r
+";
     let cases = [
         ("", "statesman 2\n", "fault input line 1 header\n"),
         (SMALL, "device b \u{1}\n", "fault input line 5 byte\n"),
@@ -41,10 +61,30 @@ fn each_kind_of_bad_line_has_its_word(rt: HostRuntime) -> Result<(), Fail> {
 
 #[test]
 fn each_reply_of_a_lock_has_its_word(rt: HostRuntime) -> Result<(), Fail> {
-    let script =
-        b"app te\nlock dc1 a1 low\nunlock dc1 a1 low\napp up\nlock dc1 a1 low\nunlock dc1 a1 low\nunlock dc1 a1 low\norder te up up te up\n";
-    let text =
-        b"statesman report 1\ngroup dc1\nversion 0\nentries 5\nlock te a1 low granted\nlock up a1 low held te\nunlock up a1 low notyours te\nunlock te a1 low released\nunlock up a1 low notyours -\nwire commands 0 reports 0 stale 0 old 0\npromises 0 start 0 now 0\nend\n";
+    let script = b"\
+app te
+lock dc1 a1 low
+unlock dc1 a1 low
+app up
+lock dc1 a1 low
+unlock dc1 a1 low
+unlock dc1 a1 low
+order te up up te up
+";
+    let text = b"\
+statesman report 1
+group dc1
+version 0
+entries 5
+lock te a1 low granted
+lock up a1 low held te
+unlock up a1 low notyours te
+unlock te a1 low released
+unlock up a1 low notyours -
+wire commands 0 reports 0 stale 0 old 0
+promises 0 start 0 now 0
+end
+";
     writes(&rt, rt.alloc(), &[TWO_PATHS, script], text)?;
     Ok(())
 }
@@ -99,55 +139,5 @@ fn the_program_ends_with_the_exit_status_of_its_call(rt: HostRuntime) -> Result<
         assert_eq!(&rt; code, ExitCode::from(exit));
         assert_eq!(&rt; sink.bytes(), text.as_bytes());
     }
-    Ok(())
-}
-
-#[test]
-fn an_input_of_the_most_bytes_is_read(rt: HostRuntime) -> Result<(), Fail> {
-    let alloc = rt.alloc();
-    let mut bytes = joined(alloc, &[TWO_PATHS, HALF, FIRST])?;
-    for _ in bytes.len()..1_048_576 {
-        bytes.push(b'\n')?;
-    }
-    let called = call(&rt, alloc, &["serial"], &[bytes.as_slice()])?;
-    ends_as(
-        &rt,
-        alloc,
-        called,
-        Status::Ok,
-        ACCEPTED,
-        &["queued", "accepted"],
-    )?;
-    let called = call(&rt, alloc, &["serial"], &[bytes.as_slice(), b"\n"])?;
-    ends_as(&rt, alloc, called, Status::TooLong, b"fault long\n", &[])?;
-    Ok(())
-}
-
-#[test]
-fn a_proposal_has_at_most_sixteen_rows(rt: HostRuntime) -> Result<(), Fail> {
-    let alloc = rt.alloc();
-    let rows =
-        b"app up\npropose dc1 t1.power=1 t1.firmware=2 t1.config=3 t1.routing=1 t2.power=1 t2.firmware=2 t2.config=3 t2.routing=1 a1.power=1 a1.firmware=2 a1.config=3 a1.routing=1 a2.power=1 a2.firmware=2 a2.config=3 a2.routing=1";
-    let text =
-        b"statesman report 1\ngroup dc1\nversion 1\nentries 2\nreceipt 1 up accepted 1\ntarget t1.firmware=2\ntarget t1.config=3\ntarget t2.firmware=2\ntarget t2.config=3\ntarget a1.firmware=2\ntarget a1.config=3\ntarget a2.firmware=2\ntarget a2.config=3\nunsettled t1\nunsettled t2\nunsettled a1\nunsettled a2\nwire commands 0 reports 0 stale 0 old 0\npromises 0 start 0 now 0\nend\n";
-    writes(&rt, alloc, &[TWO_PATHS, rows, b"\n"], text)?;
-    let called = call(
-        &rt,
-        alloc,
-        &["serial"],
-        &[TWO_PATHS, rows, b" l1.power=1\n"],
-    )?;
-    let limit = Status::BadInput {
-        line: 12,
-        kind: DocKind::Limit,
-    };
-    ends_as(
-        &rt,
-        alloc,
-        called,
-        limit,
-        b"fault input line 12 limit\n",
-        &[],
-    )?;
     Ok(())
 }

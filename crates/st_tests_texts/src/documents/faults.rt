@@ -2,7 +2,8 @@
 //! `:`, the text, with `;` in place of LF.
 
 /// Two ToRs that two switches join, in 11 lines.
-pub const PLAIN: &str = "statesman 1
+pub const PLAIN: &str = "\
+statesman 1
 group dc1
 device t1 tor
 device t2 tor

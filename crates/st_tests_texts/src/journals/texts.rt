@@ -1,7 +1,8 @@
 //! Journals, printed: one with each event and each reply, and two that are legal, with replies that are not.
 
 /// A journal with each event, each reply, each verdict and each cause, and one of another group.
-pub const ALL: &str = "journal dc1
+pub const ALL: &str = "\
+journal dc1
 1 submit up a1.firmware=2 l1.iface=0 : queued 1
 2 submit te t1.power=0 : full 64
 3 check : receipt 1 accepted 1
@@ -36,7 +37,8 @@ journal dc3
 ";
 
 /// A proposal on 16 variables, in a journal.
-pub const SIXTEEN: &str = "journal dc1
+pub const SIXTEEN: &str = "\
+journal dc1
 1 submit up t1.power=1 t1.firmware=1 t1.config=1 t1.routing=1 t2.power=1 t2.firmware=1 t2.config=1 t2.routing=1 \
 a1.power=1 a1.firmware=1 a1.config=1 a1.routing=1 a2.power=1 a2.firmware=1 a2.config=1 a2.routing=1 ";
 
@@ -48,7 +50,8 @@ journals:: queued 1
 2 Twice:l1.power=1 a1.power=0 : queued x";
 
 /// Two proposals, of which the second would cut off t1.
-pub const SECOND_BROKEN: &str = "journal dc1
+pub const SECOND_BROKEN: &str = "\
+journal dc1
 1 submit up a1.firmware=2 : queued 1
 2 submit up a2.firmware=2 : queued 2
 3 check : receipt 1 accepted 1
@@ -58,7 +61,8 @@ journal dc3
 ";
 
 /// The same journal with comments, blank lines, tabs, and no line for journals without entries.
-pub const OTHER_SPELLING: &str = "# a run
+pub const OTHER_SPELLING: &str = "\
+# a run
 journal\tdc1
 
 1  submit up\ta1.firmware=2 : queued 1
@@ -83,7 +87,8 @@ pub const ALTERED: &str = "\
 4 check : receipt 2 refused locked a2 te high";
 
 /// A failure that no report has told, and a proposal that is accepted and carried out.
-pub const UNTOLD_FAILURE: &str = "journal dc1
+pub const UNTOLD_FAILURE: &str = "\
+journal dc1
 1 fail a2 0 power=1 firmware=1 config=1 routing=1 : changed
 2 submit up a1.routing=0 : queued 1
 3 check : receipt 1 accepted 1
@@ -104,7 +109,8 @@ pub const ALTERED_REPORTS: &str = "\
 8 hear 1 : old 1";
 
 /// A command that comes again behind a later one.
-pub const STALE_COMMAND: &str = "journal dc1
+pub const STALE_COMMAND: &str = "\
+journal dc1
 1 submit up a1.firmware=2 : queued 1
 2 check : receipt 1 accepted 1
 3 send a1 : sent 1
@@ -123,7 +129,8 @@ pub const STALE_COMMAND: &str = "journal dc1
 ";
 
 /// A report that comes again.
-pub const OLD_REPORT: &str = "journal dc1
+pub const OLD_REPORT: &str = "\
+journal dc1
 1 submit up a1.firmware=2 : queued 1
 2 check : receipt 1 accepted 1
 3 send a1 : sent 1
@@ -135,7 +142,8 @@ pub const OLD_REPORT: &str = "journal dc1
 ";
 
 /// A switch that lost its firmware of itself, and is set back.
-pub const RENEWED: &str = "journal dc1
+pub const RENEWED: &str = "\
+journal dc1
 1 fail a1 5 power=1 firmware=9 config=1 routing=1 : changed
 2 report a1 : reported 1
 3 hear 1 : taken
