@@ -4,7 +4,7 @@ use super::gates::Behind;
 use super::*;
 
 /// An application whose switch fails before anything was sent to it, so that it can't settle.
-const FAILING: &[u8] = b"\
+pub const FAILING: &[u8] = b"\
 app up
 propose dc1 a1.firmware=2
 await dc1
@@ -13,7 +13,7 @@ poll dc1 a1
 ";
 
 /// A script, and behind it as many rounds of the first group as fill the journal of one that can't settle.
-fn filling(alloc: Global, script: &[u8]) -> Result<Vec<u8>, AllocError> {
+pub fn filling(alloc: Global, script: &[u8]) -> Result<Vec<u8>, AllocError> {
     let mut script = script.to_vec(alloc)?;
     for _line in 0..782 {
         script.extend_from_slice(b"settle dc1 64\n")?;
@@ -49,7 +49,7 @@ link l2 t2 a1 10
 ";
 
 /// An application of the second group, and one whose switch of the first fails before anything was sent to it. It reads then.
-const FAILING_BESIDE: &[u8] = b"\
+pub const FAILING_BESIDE: &[u8] = b"\
 app te
 propose dc2 a1.config=2
 await dc2
