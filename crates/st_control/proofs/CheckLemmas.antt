@@ -1,5 +1,5 @@
 -- What the verdict and the check of a proposal come to, over what a checker keeps.
-use Rattle.std.proofs.Common.{◌≡◌, ℕ, List, refl, sym, ◌∙◌, ap}
+use Rattle.std.proofs.Common.{◌≡◌, ℕ, ◌+◌, List, length, refl, sym, ◌∙◌, ap, subst}
 use Rattle.std.specs.Prelude.{Bool, true, false, not, ◌&&◌, nat_le, Option, Some, None, option_map, if◌then◌else◌}
 use Rattle.st_net.specs.declared.entity.Entity.{Entity}
 use Rattle.st_net.specs.declared.entity.Var.{Var}
@@ -14,17 +14,23 @@ use Rattle.st_event.specs.declared.event.Proposal.{Proposal}
 use Rattle.st_event.specs.declared.event.Event.TheVariants.{Check}
 use Rattle.st_event.specs.declared.reply.Cause.{Cause}
 use Rattle.st_event.specs.declared.reply.Cause.TheVariants.{Broken as broken_cause}
+use Rattle.st_event.specs.declared.reply.Receipt.{Receipt}
+use Rattle.st_event.specs.declared.reply.Reply.{Reply}
+use Rattle.st_event.specs.declared.reply.Reply.TheVariants.{Decided}
+use Rattle.st_event.specs.declared.reply.Verdict.{Verdict}
 use Rattle.st_event.specs.declared.reply.Verdict.TheVariants.{Accepted, Refused}
 use Rattle.st_event.specs.Judge.{cause_or, refusal_or_version, first_lack, first_locked}
 use Rattle.st_event.specs.Standing.{sure_in}
 use Rattle.st_overlay.specs.Values.{value_in}
+use Rattle.st_control.specs.declared.control.Decision.{Decision}
 use Rattle.st_control.specs.declared.control.Weighed.{Weighed}
 use Rattle.st_event.specs.Proposals.{first_rows}
 use Rattle.st_store.specs.Changes.{value_at}
-use Rattle.st_store.specs.Store.{StoreView, Decides}
+use Rattle.st_store.specs.declared.pending.Pending.{Pending}
+use Rattle.st_store.specs.Store.{StoreView, IsOldest, Decides, proposal_of}
 use Rattle.st_net.specs.InOrder.{stamp_in}
-use Rattle.st_control.specs.Control.{ControlView, standing_in, Moves}
-use Rattle.st_control.specs.Verdict.{IsFirst, IsLatest, verdict_in, row_refusal, sure_without, first_broken_without, AreJudgedIn, IsJudgedIn, decided_as}
+use Rattle.st_control.specs.Control.{ControlView, standing_in, with_runs, Moves}
+use Rattle.st_control.specs.Verdict.{IsDue, IsLatest, verdict_in, row_refusal, sure_without, first_broken_without, AreJudgedIn, IsJudgedIn}
 use Rattle.st_control.proofs.StampLaws.{stamped_is}
 
 -- the first broken promise, of sets that are these
@@ -73,25 +79,55 @@ judged_by k p rows cause are none is = record {
   altered = are.altered;
 }
 
+-- the receipt that is due by what stands against the oldest proposal, whatever the count of runs
+pub due_as : (k new : ControlView) (n entry version : ℕ) (p : Pending) (judged : Weighed) (verdict : Verdict) → new ≡ with_runs k n → IsOldest k.store p → IsJudgedIn k (proposal_of p) judged → version ≡ k.store.version → verdict ≡ refusal_or_version judged.refusal version → IsDue new (record { receipt = record { ticket = p.ticket; entry = entry; verdict = verdict }; changed = judged.changed })
+due_as k new n entry version p judged verdict same oldest is last answer =
+    let by_version : verdict ≡ verdict_in k.group (standing_in k) p.app p.rows = answer ∙ ap (refusal_or_version judged.refusal) last ∙ is.decision in
+    rw same (record {
+      oldest = proposal_of p;
+      first = oldest.first;
+      receipt = rw (oldest.ticket, by_version) refl;
+      marks = is.marks;
+      altered = is.altered;
+    })
+
+-- the first proposal's receipt
+abbrev decided_as : ControlView → ℕ → Verdict → Reply
+decided_as k n verdict = Decided (record { ticket = length k.store.decided + 1; entry = n; verdict = verdict })
+
+-- what waits first, by how it is to be decided
+abbrev verdict_due : (k : ControlView) (d : Decision) → IsDue k d → Verdict
+verdict_due k d due = verdict_in k.group (standing_in k) due.oldest.app due.oldest.rows
+
+verdict_is : (k : ControlView) (d : Decision) (due : IsDue k d) (verdict : Verdict) → d.receipt.verdict ≡ verdict → verdict_due k d due ≡ verdict
+verdict_is k d due verdict is = sym (ap (λ (r : Receipt). r.verdict) due.receipt) ∙ is
+
+reply_due : (k : ControlView) (d : Decision) (due : IsDue k d) (verdict : Verdict) → d.receipt.verdict ≡ verdict → Decided d.receipt ≡ decided_as k d.receipt.entry verdict
+reply_due k d due verdict is = ap Decided due.receipt ∙ ap (decided_as k d.receipt.entry) (verdict_is k d due verdict is)
+
 -- deciding the oldest proposal moves the checker: where it is refused
-pub refused_moves : (k : ControlView) (new : StoreView) (p : Proposal) (n : ℕ) (cause : Cause) (judged : Weighed) → IsFirst k.store p → IsJudgedIn k p judged → judged.refusal ≡ Some cause → Decides k.store new n false → Moves k (record k { store = new }) n Check (decided_as k n (Refused cause))
-refused_moves k new p n cause judged first is some decides =
-    let decision : verdict_in k.group (standing_in k) p.app p.rows ≡ Refused cause = sym is.decision ∙ ap (λ (c : Option Cause). refusal_or_version c k.store.version) some in
-    record {
+pub refused_moves : (k : ControlView) (new : StoreView) (d : Decision) (cause : Cause) → IsDue k d → d.receipt.verdict ≡ Refused cause → Decides k.store new d.receipt.entry false → Moves k (record k { store = new }) d.receipt.entry Check (Decided d.receipt)
+refused_moves k new d cause due is decides =
+    let decision = verdict_is k d due (Refused cause) is in
+    let first = due.first in
+    let moves : Moves k (record k { store = new }) d.receipt.entry Check (decided_as k d.receipt.entry (Refused cause)) = record {
       reply = λ w. rw (first, decision) refl;
       standing = λ w. rw (decides.pending, decides.tickets, decides.decided, decides.version, decides.target, decides.observed, first) refl;
       group = refl;
       versions = decides.versions;
-    }
+    } in
+    subst (λ (reply : Reply). Moves k (record k { store = new }) d.receipt.entry Check reply) (sym (reply_due k d due (Refused cause) is)) moves
 
 -- and where it is accepted
-pub accepted_moves : (k : ControlView) (new : StoreView) (stamps : List ℕ) (p : Proposal) (n version : ℕ) (judged : Weighed) → IsFirst k.store p → IsJudgedIn k p judged → judged.refusal ≡ None → IsLatest k.store → Decides k.store new n true → version ≡ new.version → stamp_in k.group stamps ≡ (λ e. if is_in judged.changed e then n else stamp_in k.group k.stamps e) → Moves k (record k { store = new; stamps = stamps }) n Check (decided_as k n (Accepted version))
-accepted_moves k new stamps p n version judged first is none latest decides counted stamped =
-    let decision : verdict_in k.group (standing_in k) p.app p.rows ≡ Accepted version = sym is.decision ∙ ap (λ (c : Option Cause). refusal_or_version c k.store.version) none ∙ ap Accepted (sym (counted ∙ decides.version)) in
-    let altered = stamped_is k.group judged.changed (value_in k.store.target) p.rows n k.stamps stamps is.altered stamped in
-    record {
+pub accepted_moves : (k : ControlView) (new : StoreView) (stamps : List ℕ) (d : Decision) (version : ℕ) → IsDue k d → d.receipt.verdict ≡ Accepted version → IsLatest k.store → Decides k.store new d.receipt.entry true → stamp_in k.group stamps ≡ (λ e. if is_in d.changed e then d.receipt.entry else stamp_in k.group k.stamps e) → Moves k (record k { store = new; stamps = stamps }) d.receipt.entry Check (Decided d.receipt)
+accepted_moves k new stamps d version due is latest decides stamped =
+    let decision = verdict_is k d due (Accepted version) is in
+    let first = due.first in
+    let altered = stamped_is k.group d.changed (value_in k.store.target) due.oldest.rows d.receipt.entry k.stamps stamps due.altered stamped in
+    let moves : Moves k (record k { store = new; stamps = stamps }) d.receipt.entry Check (decided_as k d.receipt.entry (Accepted version)) = record {
       reply = λ w. rw (first, decision) refl;
       standing = λ w. rw (decides.pending, decides.tickets, decides.decided, decides.version, decides.target, decides.observed, altered, first) refl;
       group = refl;
       versions = decides.versions ∙ ap (λ (last : Entity → Var → ℕ). λ (v : ℕ). if nat_le v k.store.version then value_at k.store.versions v else target_with last (first_rows k.store.pending)) latest;
-    }
+    } in
+    subst (λ (reply : Reply). Moves k (record k { store = new; stamps = stamps }) d.receipt.entry Check reply) (sym (reply_due k d due (Accepted version) is)) moves

@@ -13,16 +13,15 @@ use Rattle.st_store.specs.declared.pending.Put.TheVariants.{Ticket, Full}
 use Rattle.st_store.specs.Store.{StoreView, put_answer, store_put}
 use Rattle.st_event.specs.declared.event.Proposal.{Proposal}
 use Rattle.st_event.specs.declared.reply.Reply.{Reply}
-use Rattle.st_control.specs.declared.control.Weighed.{Weighed}
 use Rattle.st_control.specs.Control.{ControlView, Moves, with_runs, reply_of_put}
 use Rattle.st_control.specs.Inside.{FitsGroup}
-use Rattle.st_control.specs.Verdict.{IsJudgedIn}
 
-pub judged_with : (k : ControlView) (n : ℕ) (p : Proposal) (w : Weighed) → IsJudgedIn k p w → IsJudgedIn (with_runs k n) p w
-judged_with k n p w judged = record { decision = judged.decision; marks = judged.marks; altered = judged.altered }
-
-pub moves_from : (k : ControlView) (n : ℕ) (new : ControlView) (entry : ℕ) (event : Event) (answer : Reply) → Moves (with_runs k n) new entry event answer → Moves k new entry event answer
+moves_from : (k : ControlView) (n : ℕ) (new : ControlView) (entry : ℕ) (event : Event) (answer : Reply) → Moves (with_runs k n) new entry event answer → Moves k new entry event answer
 moves_from k n new entry event answer moves = record { reply = moves.reply; standing = moves.standing; group = moves.group; versions = moves.versions }
+
+-- what was done from such a checker, as the entry of an equal number
+pub moves_as : (k judged new : ControlView) (n given entry : ℕ) (event : Event) (answer : Reply) → judged ≡ with_runs k n → given ≡ entry → Moves judged new given event answer → Moves k new entry event answer
+moves_as k judged new n given entry event answer same number moves = moves_from k n new entry event answer (rw (← same, ← number) moves)
 
 -- the first of proposals that fit fits
 pub first_fits : (g : Group) (pending : List Proposal) (p : Proposal) (rest : List Proposal) → All (FitsGroup g) pending → pending ≡ p ∷ rest → RowsFit g p.rows

@@ -1,5 +1,5 @@
 -- The verdict on a proposal by what a checker keeps, in the steps in which it is judged.
-use Rattle.std.specs.Prelude.{◌≡◌, ℕ, ◌+◌, Bool, not, ◌&&◌, List, ◌∷◌, length, drop, Option}
+use Rattle.std.specs.Prelude.{◌≡◌, Bool, not, ◌&&◌, List, ◌∷◌, drop, Option}
 use Rattle.st_net.specs.declared.entity.AppId.{AppId}
 use Rattle.st_net.specs.declared.entity.Entity.{Entity}
 use Rattle.st_net.specs.declared.entity.Row.{Row}
@@ -10,14 +10,13 @@ use Rattle.st_net.specs.Demands.{first_broken_of}
 use Rattle.st_net.specs.Sets.{Marks, MarksOf, is_in}
 use Rattle.st_event.specs.declared.event.Proposal.{Proposal}
 use Rattle.st_event.specs.declared.reply.Cause.{Cause}
-use Rattle.st_event.specs.declared.reply.Reply.{Reply}
-use Rattle.st_event.specs.declared.reply.Reply.TheVariants.{Decided}
 use Rattle.st_event.specs.declared.reply.Verdict.{Verdict}
 use Rattle.st_event.specs.Judge.{judge, cause_or, refusal_or_version, first_lack, first_locked}
-use Rattle.st_event.specs.Standing.{Standing, sure_in}
+use Rattle.st_event.specs.Standing.{Standing, sure_in, receipt_in}
 use Rattle.st_overlay.specs.Values.{value_in}
 use Rattle.st_store.specs.Changes.{value_at}
 use Rattle.st_store.specs.Store.{StoreView}
+use Rattle.st_control.specs.declared.control.Decision.{Decision}
 use Rattle.st_control.specs.declared.control.Weighed.{Weighed}
 use Rattle.st_control.specs.Control.{ControlView, standing_in}
 
@@ -48,14 +47,14 @@ pub record IsJudgedIn (k : ControlView) (p : Proposal) (judged : Weighed) : Type
   pub marks : MarksOf k.group judged.changed
   pub altered : is_in judged.changed ≡ alters k.group (value_in k.store.target) p.rows
 
--- a proposal that waits first
-abbrev pub IsFirst : StoreView → Proposal → Type 0
-IsFirst s p = s.pending ≡ p ∷ drop 1 s.pending
-
 -- the target has the values of the last version
 abbrev pub IsLatest : StoreView → Type 0
 IsLatest s = value_at s.versions s.version ≡ value_in s.target
 
--- the first proposal's receipt
-abbrev pub decided_as : ControlView → ℕ → Verdict → Reply
-decided_as k n verdict = Decided (record { ticket = length k.store.decided + 1; entry = n; verdict = verdict })
+-- some proposal waits first, the receipt is the one that is called for, and these are the entities that its rows alter
+pub record IsDue (k : ControlView) (decision : Decision) : Type 0 where
+  pub oldest : Proposal
+  pub first : k.store.pending ≡ oldest ∷ drop 1 k.store.pending
+  pub receipt : decision.receipt ≡ receipt_in k.group (standing_in k) decision.receipt.entry oldest
+  pub marks : MarksOf k.group decision.changed
+  pub altered : is_in decision.changed ≡ alters k.group (value_in k.store.target) oldest.rows

@@ -1,6 +1,6 @@
 //! The checker of one group. What it keeps is enough to answer an event as the group's whole journal calls for.
 
-ghost use Rattle.std.specs.Prelude.{◌≡◌, ◌↔◌, option_map, ℕ, ◌<◌, ◌≤◌, ◌^◌, ◌+◌, length, map, IfOk, IfSome, IsTrue, OnErr};
+ghost use Rattle.std.specs.Prelude.{◌≡◌, ◌↔◌, option_map, ℕ, ◌<◌, ◌≤◌, ◌^◌, ◌+◌, length, map, IfOk, IfSome, IsTrue, OnErr, OnOk};
 ghost use Rattle.std.specs.Arc.{arc_value};
 ghost use Rattle.st_net.specs.declared.entity.Entity.{Entity};
 ghost use Rattle.st_net.specs.Groups.{IsEntityOf, promise_of};
@@ -10,13 +10,14 @@ ghost use Rattle.st_net.specs.Ranges.{RowsFit};
 ghost use Rattle.st_net.specs.Sets.{is_in, MarksOf};
 ghost use Rattle.st_event.specs.declared.event.Event.TheVariants.{Submit, Check as check_event, Lock, Unlock};
 ghost use Rattle.st_event.specs.declared.event.Proposal.{Proposal};
+ghost use Rattle.st_event.specs.Judge.{refusal_or_version};
 ghost use Rattle.st_event.specs.declared.reply.Cause.TheVariants.{Broken as broken_cause};
 ghost use Rattle.st_event.specs.declared.reply.Reply.TheVariants.{Decided as decided_reply};
 ghost use Rattle.st_event.specs.Standing.{sure_in, settled_in};
 ghost use Rattle.st_locks.specs.LockRows.{LocksOf, holder_in};
 ghost use Rattle.st_store.specs.Store.{IsStart as is_start_store, IsStoreOf, proposal_of};
 ghost use Rattle.st_control.specs.Control.{IsSameButRuns, Moves, Sends, Hears, OldChangesNothing, IsStart, standing_in, reply_of_put, reply_of_check, reply_of_grant, reply_of_release};
-ghost use Rattle.st_control.specs.Verdict.{IsFirst, IsLatest, first_broken_without, sure_without, AreJudgedIn, IsJudgedIn, decided_as};
+ghost use Rattle.st_control.specs.Verdict.{IsDue, IsLatest, first_broken_without, sure_without, AreJudgedIn, IsJudgedIn};
 ghost use Rattle.st_promise.specs.Book.{AreKept, IsBookOf};
 ghost use Rattle.st_control.specs.Commits.{Begins, MayCommit, Commits};
 ghost use Rattle.st_net.specs.InOrder.{entity_count, stamp_in};
@@ -74,6 +75,13 @@ struct Weighed {
     changed: EntitySet,
 }
 
+/// What is to be decided of the oldest proposal: the receipt that it is to get, and the entities that its rows alter.
+#[derive(Drop)]
+struct Decision {
+    receipt: Receipt,
+    changed: EntitySet,
+}
+
 /// The sure entities, and those that are left of them while some change.
 #[derive(Drop)]
 struct SureSets {
@@ -113,6 +121,19 @@ fn cause_of(alloc: Global, first: &Option<Broken>) -> Result<Option<Cause>, Allo
     match first {
         Some(broken) => Ok(Some(Cause::Broken(broken.copy(alloc)?))),
         None => Ok(None),
+    }
+}
+
+/// The verdict by what stands against a proposal, where the target has this version.
+fn verdict_of(refusal: Option<Cause>, version: u32) -> Verdict
+    requires { version + 1 < 2 ^ 32 }
+    ensures { result ≡ refusal_or_version refusal version }
+{
+    match refusal {
+        Some(cause) => Verdict::Refused(cause),
+        None => Verdict::Accepted {
+            version: version + 1,
+        },
     }
 }
 
@@ -383,41 +404,75 @@ impl Control {
         }
     }
 
-    /// Decides the oldest proposal, of which this was judged, as entry number `entry`. At `Err` nothing has changed.
-    fn decide(&mut self, entry: u32, judged: Weighed) -> Result<Twice<Verdict>, AllocError>
-        requires pending { 0 < length self.old.store.pending }
-        requires marks { MarksOf self.old.group judged.changed }
+    /// What is to be decided of the oldest proposal as entry number `entry`, by how the checker stands now. What was judged away from it
+    /// spares flows, and changes no verdict. Nothing changes but the count of runs.
+    fn judge_oldest(&mut self, entry: u32, judged: Option<&Judged>) -> Result<Decision, AllocError>
+        requires { 0 < length self.old.store.pending }
+        ensures due { IfOk result (IsDue self.new) }
+        ensures ticket { IfOk result (λ decision. decision.receipt.ticket ≡ length self.old.store.decided + 1) }
+        ensures entry { IfOk result (λ decision. decision.receipt.entry ≡ entry) }
+        ensures latest { IsLatest self.new.store }
+        ensures same { IsSameButRuns self.old self.new }
+        ensures runs { self.old.flows_run ≤ self.new.flows_run }
+    {
+        let version = self.store.version();
+        let Some(oldest) = self.store.oldest() else {
+            unreachable!()
+        };
+        let ticket = oldest.ticket;
+        let rows = self.weigh_rows(oldest)?;
+        let Weighed { refusal, changed } = self.weigh(rows, judged)?;
+        let receipt = Receipt {
+            ticket,
+            entry,
+            verdict: verdict_of(refusal, version),
+        };
+        Ok(Decision { receipt, changed })
+    }
+
+    /// Decides the oldest proposal as it is due. At `Err` nothing has changed.
+    fn decide(&mut self, decision: &Decision) -> Result<(), AllocError>
+        requires due { IsDue self.old decision.now }
         requires latest { IsLatest self.old.store }
-        ensures ok { (p : Proposal) → IsFirst self.old.store p → IsJudgedIn self.old p judged → IfOk result (λ verdicts. Moves self.old self.new entry check_event (decided_as self.old entry verdicts.told)) }
-        ensures kept { IfOk result (λ verdicts. verdicts.kept ≡ verdicts.told) }
+        ensures ok { OnOk result (Moves self.old self.new decision.now.receipt.entry check_event (decided_reply decision.now.receipt)) }
         ensures err { OnErr result (self.new ≡ self.old) }
         ensures runs { self.new.flows_run ≡ self.old.flows_run }
     {
-        let Weighed { refusal, changed } = judged;
-        match refusal {
-            Some(cause) => {
-                let kept = cause.copy(self.alloc)?;
+        let entry = decision.receipt.entry;
+        match &decision.receipt.verdict {
+            Verdict::Refused(_) => {
                 let _version = self.store.decide(entry, false)?;
-                Ok(Twice {
-                    told: Verdict::Refused(cause),
-                    kept: Verdict::Refused(kept),
-                })
+                Ok(())
             }
-            None => {
-                let version = self.store.decide(entry, true)?;
+            Verdict::Accepted { .. } => {
+                let _version = self.store.decide(entry, true)?;
                 // What follows cannot fail.
-                stamp_all(&self.topo, self.stamps.as_mut_slice(), &changed, entry);
-                Ok(Twice {
-                    told: Verdict::Accepted { version },
-                    kept: Verdict::Accepted { version },
-                })
+                stamp_all(
+                    &self.topo,
+                    self.stamps.as_mut_slice(),
+                    &decision.changed,
+                    entry,
+                );
+                Ok(())
             }
         }
     }
 
-    /// Decides the oldest proposal that waits, as entry number `entry`, by how the checker stands now. What was judged away from it spares
-    /// flows, and changes no verdict. At `Err` nothing has changed but the count of runs.
-    fn decide_oldest(
+    /// Judges and decides the oldest proposal that waits, as entry number `entry`. At `Err` nothing has changed but the count of runs.
+    fn decide_oldest(&mut self, entry: u32, judged: Option<&Judged>) -> Result<Receipt, AllocError>
+        requires { 0 < length self.old.store.pending }
+        ensures ok { IfOk result (λ receipt. Moves self.old self.new entry check_event (decided_reply receipt)) }
+        ensures ticket { IfOk result (λ receipt. receipt.ticket ≡ length self.old.store.decided + 1) }
+        ensures err { OnErr result (IsSameButRuns self.old self.new) }
+        ensures runs { self.old.flows_run ≤ self.new.flows_run }
+    {
+        let decision = self.judge_oldest(entry, judged)?;
+        self.decide(&decision)?;
+        Ok(decision.receipt)
+    }
+
+    /// The same, with the receipt twice: a journal keeps one.
+    fn decide_oldest_twice(
         &mut self,
         entry: u32,
         judged: Option<&Judged>,
@@ -429,29 +484,30 @@ impl Control {
         ensures err { OnErr result (IsSameButRuns self.old self.new) }
         ensures runs { self.old.flows_run ≤ self.new.flows_run }
     {
-        let Some(oldest) = self.store.oldest() else {
-            unreachable!()
-        };
-        let ticket = oldest.ticket;
-        let rows = self.weigh_rows(oldest)?;
-        let weighed = self.weigh(rows, judged)?;
-        let Twice { told, kept } = self.decide(entry, weighed)?;
+        let decision = self.judge_oldest(entry, judged)?;
+        // Copied first: it can fail, and once the proposal is decided it is too late.
+        let kept = decision.receipt.copy(self.alloc)?;
+        self.decide(&decision)?;
         Ok(Twice {
-            told: Receipt {
-                ticket,
-                entry,
-                verdict: told,
-            },
-            kept: Receipt {
-                ticket,
-                entry,
-                verdict: kept,
-            },
+            told: decision.receipt,
+            kept,
         })
     }
 
-    /// Decides the oldest proposal that waits, as entry number `entry`, and gives the answer twice: a journal keeps one, and to copy
-    /// it once the proposal is decided could fail. At `Err` nothing has changed but the count of runs.
+    /// Decides the oldest proposal that waits, as entry number `entry`. At `Err` nothing has changed but the count of runs.
+    pub fn check(&mut self, entry: u32) -> Result<Check, AllocError>
+        ensures ok { IfOk result (λ check. Moves self.old self.new entry check_event (reply_of_check check)) }
+        ensures err { OnErr result (IsSameButRuns self.old self.new) }
+        ensures runs { self.old.flows_run ≤ self.new.flows_run }
+    {
+        if self.store.oldest().is_none() {
+            return Ok(Check::Idle);
+        }
+        Ok(Check::Decided(self.decide_oldest(entry, None)?))
+    }
+
+    /// Does what `check` does, and gives the answer twice: one to hand out and one to enter in a journal. The second is copied before the
+    /// proposal is decided, since a copy can be refused memory. At `Err` nothing has changed but the count of runs.
     pub fn check_twice(&mut self, entry: u32) -> Result<Twice<Check>, AllocError>
         ensures ok { IfOk result (λ checks. Moves self.old self.new entry check_event (reply_of_check checks.told)) }
         ensures kept { IfOk result (λ checks. checks.kept ≡ checks.told) }
@@ -464,20 +520,11 @@ impl Control {
                 kept: Check::Idle,
             });
         }
-        let Twice { told, kept } = self.decide_oldest(entry, None)?;
+        let Twice { told, kept } = self.decide_oldest_twice(entry, None)?;
         Ok(Twice {
             told: Check::Decided(told),
             kept: Check::Decided(kept),
         })
-    }
-
-    /// Decides the oldest proposal that waits, as entry number `entry`. At `Err` nothing has changed but the count of runs.
-    pub fn check(&mut self, entry: u32) -> Result<Check, AllocError>
-        ensures ok { IfOk result (λ check. Moves self.old self.new entry check_event (reply_of_check check)) }
-        ensures err { OnErr result (IsSameButRuns self.old self.new) }
-        ensures runs { self.old.flows_run ≤ self.new.flows_run }
-    {
-        Ok(self.check_twice(entry)?.told)
     }
 
     /// What the oldest proposal that waits is judged on, in copies but for the group, which is shared, so that it can be judged while the
@@ -530,7 +577,7 @@ impl Control {
         ensures runs { self.old.flows_run ≤ self.new.flows_run }
     {
         let _version = self.store.version();
-        self.decide_oldest(entry, Some(judged))
+        self.decide_oldest_twice(entry, Some(judged))
     }
 
     /// Decides a proposal that was judged away from the checker, as entry number `entry`. It was given a ticket here, and each lower ticket
@@ -545,7 +592,9 @@ impl Control {
         if let Some(entry) = self.store.decided(judged.ticket()) {
             return Ok(Commit::Gone { entry });
         }
-        Ok(Commit::Decided(self.commit_twice(entry, judged)?.told))
+        let _version = self.store.version();
+        let receipt = self.decide_oldest(entry, Some(judged))?;
+        Ok(Commit::Decided(receipt))
     }
 
     /// What an entity is to be sent, so that it becomes as the target has it. `Settled` comes exactly where it is settled. Else the

@@ -1,9 +1,10 @@
 -- Steps of a world as the course of their events, and what is left of a course from where a world stands.
-use Rattle.std.proofs.Common.{◌≡◌, ℕ, ◌+◌, ◌^◌, ◌<◌, List, ◌∷◌, length, map, drop, get_or, refl, ap, sym, ◌∙◌, subst, add-one, drop-cons, arith}
-use Rattle.std.specs.Prelude.{false, not, nat_lt, All, Result, Ok, Err, OnErr}
+use Rattle.std.proofs.Common.{◌≡◌, ℕ, ◌+◌, ◌-◌, ◌^◌, ◌<◌, List, [], ◌∷◌, length, map, drop, get_or, refl, ap, sym, ◌∙◌, subst, add-one, drop-cons, arith}
+use Rattle.std.specs.Prelude.{false, not, All, Some, slice_get, reverse, Result, Ok, Err, OnErr}
 use Rattle.std.specs.List.{filter}
-use Rattle.std.proofs.lemmas.Bool.Decides.{nat_tests}
 use Rattle.std.proofs.lemmas.Result.{on_err_weaker}
+use Rattle.std.proofs.lemmas.List.{get_or-reverse, length-reverse}
+use Rattle.std.proofs.lemmas.Option.{slice_get_within, get_or_from_slice_get}
 use Rattle.std.proofs.lemmas.List.Sums.{length-filter, count_by-le-length}
 use Rattle.st_net.specs.declared.entity.Entity.{Entity}
 use Rattle.st_net.specs.declared.entity.Entity.TheVariants.{Device}
@@ -31,12 +32,11 @@ use Rattle.st_overlay.specs.Values.{Values, IsTableOf, value_in}
 use Rattle.st_store.specs.Store.{StoreView, IsStoreOf}
 use Rattle.st_plan.specs.Unsettled.{unsettled_in}
 use Rattle.st_control.specs.Control.{ControlView, standing_in}
-use Rattle.st_world.specs.declared.world.Stepped.{Stepped}
-use Rattle.st_world.specs.declared.world.Stepped.TheVariants.{Did, JournalFull}
+use Rattle.st_world.specs.declared.world.Stepped.TheVariants.{Did}
 use Rattle.st_world.specs.declared.world.rounds.Going.{Going}
 use Rattle.st_world.specs.declared.world.rounds.Going.TheVariants.{On, Full}
 use Rattle.st_world.specs.World.{WorldView, IsBeginning, Steps}
-use Rattle.st_world.specs.Rounds.{Course, course_from, course_with, enter, enter_all, enter_told, follow_ups_of, follow_ups, poll, turn, turns, round, unsettled, HasSamePlant, IsPartOf, SettlesSent}
+use Rattle.st_world.specs.Rounds.{Course, course_from, course_with, enter, enter_all, follow_ups_of, follow_ups, poll, turn, turns, round, unsettled, HasSamePlant, IsPartOf, SettlesSent}
 use Rattle.st_world.proofs.RunLaws.{entered, beginning-self, beginning-more, enter-grows, enter_all-grows, turn-grows, turns-grows, enter_all-stopped, turns-stopped, unsettled_fit}
 use Rattle.st_world.proofs.SettleLaws.{round_made}
 
@@ -91,44 +91,34 @@ none_entered r old new course grows same =
     let stands : old.history.past ≡ new.history.past = ap (λ (h : History). h.past) (sym same) in
     err_of r (record { began = subst (λ (past : List Entry). IsBeginning old.history.past past) stands (beginning-self old.history.past); part = subst (λ (past : List Entry). IsBeginning past course.past) stands grows })
 
--- one step
+-- one event
 
--- where there is room, a step enters the event with the reply that is called for
-enters_next : (old new : History) (event : Event) (answer : Reply) → Steps old new event (Did answer) → course_from new.past ≡ enter old.group (course_from old.past) event
+-- where there is room, it is entered with the reply that is called for
+pub enters_next : (old new : History) (event : Event) (answer : Reply) → Steps old new event (Did answer) → course_from new.past ≡ enter old.group (course_from old.past) event
 enters_next old new event answer steps =
     ap (λ (h : History). course_from h.past) steps.1
     ∙ ap (λ (a : Reply). course_from (entry_of event a ∷ old.past)) steps.0.answer
     ∙ sym (ap (entered (course_from old.past) (entry_after old.group old.past event) false) (less (length old.past) MAX_ENTRIES steps.0.room))
 
--- a number is not less than an equal one
-not_less_self : (n m : ℕ) → n ≡ m → nat_lt n m ≡ false
-not_less_self n m is = grind (arith, nat_tests)
-
--- where there is none, the course stops
-stops_full : (old new : WorldView) (event : Event) (entries : ℕ) → Steps old.history new.history event (JournalFull entries) → course_with Full new ≡ enter old.history.group (course_from old.history.past) event
-stops_full old new event entries steps =
-    ap (λ (h : History). entered (course_from h.past) (entry_after old.history.group old.history.past event) false false) steps.2
-    ∙ sym (ap (entered (course_from old.history.past) (entry_after old.history.group old.history.past event) false) (not_less_self (length old.history.past) MAX_ENTRIES steps.0))
-
 -- what follows the newest entry
-abbrev with_newest : Group → List WireLine → Course → Course
+abbrev pub with_newest : Group → List WireLine → Course → Course
 with_newest g lines course = enter_all g course (follow_ups g lines course.past)
 
--- an event was entered, and what follows its entry is left
-pub told_way : (old now : WorldView) (event : Event) (stepped : Stepped) (answer : Reply) → Steps old.history now.history event stepped → stepped ≡ Did answer → now.lines ≡ old.lines → IsOnWay old now (enter_told old.history.group old.lines (course_from old.history.past) event) (enter_all now.history.group (course_from now.history.past) (follow_ups_of now.history.group now.lines now.history.past answer))
-told_way old now event stepped answer steps is lines =
-    let did : Steps old.history now.history event (Did answer) = subst (λ (s : Stepped). Steps old.history now.history event s) is steps in
-    let plant : HasSamePlant old now = record { group = ap (λ (h : History). h.group) did.1; lines = lines } in
-    let way = way_from with_newest old now (enter old.history.group (course_from old.history.past) event) On (enter-grows old.history.group (course_from old.history.past) event) (enters_next old.history now.history event answer did) refl plant in
-    let newest : follow_ups now.history.group now.lines now.history.past ≡ follow_ups_of now.history.group now.lines now.history.past answer = subst (λ (h : History). follow_ups now.history.group now.lines h.past ≡ follow_ups_of now.history.group now.lines h.past answer) (sym did.1) refl in
-    record { began = way.began; plant = way.plant; ends = ap (enter_all now.history.group (course_from now.history.past)) (sym newest) ∙ way.ends }
+first_is : (entries : List Entry) (entry : Entry) → 0 < length entries → get_or entries 0 entry ≡ entry → entries ≡ entry ∷ drop 1 entries
+first_is [] entry some is = absurd (omega arith)
+first_is (e ∷ es) entry some is = ap (λ (x : Entry). x ∷ es) is
 
--- an event with what follows it met a full journal
-pub told_stops : (old now : WorldView) (event : Event) (stepped : Stepped) (entries : ℕ) → Steps old.history now.history event stepped → stepped ≡ JournalFull entries → course_with Full now ≡ enter_told old.history.group old.lines (course_from old.history.past) event
-told_stops old now event stepped entries steps is =
-    let full = stops_full old now event entries (subst (λ (s : Stepped). Steps old.history now.history event s) is steps) in
-    sym (enter_all-stopped old.history.group (course_with Full now) (follow_ups old.history.group old.lines now.history.past) refl)
-    ∙ ap (with_newest old.history.group old.lines) full
+-- the last of the entries as the code keeps them is the newest
+newest_is : (items : List Entry) (newest : Entry) → slice_get items (length items - 1) ≡ Some newest → reverse items ≡ newest ∷ drop 1 (reverse items)
+newest_is items newest last =
+    let within = slice_get_within items (length items - 1) newest last in
+    let low : 0 < length items = omega (arith, within) in
+    let place : length items - 1 - 0 ≡ length items - 1 = omega arith in
+    let found = get_or-reverse items 0 newest low ∙ ap (λ (i : ℕ). get_or items i newest) place ∙ get_or_from_slice_get items (length items - 1) newest newest last in
+    first_is (reverse items) newest (omega (arith, low, length-reverse items)) found
+
+pub follow_newest : (g : Group) (lines : List WireLine) (items : List Entry) (newest : Entry) → slice_get items (length items - 1) ≡ Some newest → follow_ups g lines (reverse items) ≡ follow_ups_of g lines (newest ∷ drop 1 (reverse items)) newest.reply
+follow_newest g lines items newest last = ap (follow_ups g lines) (newest_is items newest last)
 
 -- one part after another. `first` is the next of the parts that are left, and `rest` are those behind it
 

@@ -1,5 +1,5 @@
 -- What a round does: each entity that is not settled is sent its command, finishes, and reports.
-use Rattle.std.specs.Prelude.{◌≡◌, Bool, true, false, not, ◌&&◌, ◌⊎◌, nat_lt, List, [], ◌∷◌, ◌++◌, length, map, if◌then◌else◌}
+use Rattle.std.specs.Prelude.{◌≡◌, ℕ, Option, Some, None, Bool, true, false, not, ◌&&◌, ◌⊎◌, nat_lt, List, [], ◌∷◌, ◌++◌, length, map, if◌then◌else◌}
 use Rattle.std.specs.List.{filter}
 use Rattle.st_net.specs.declared.entity.Entity.{Entity}
 use Rattle.st_net.specs.Entities.{is_same_entity}
@@ -14,12 +14,14 @@ use Rattle.st_event.specs.declared.journal.TheConstants.{MAX_ENTRIES}
 use Rattle.st_event.specs.Moments.{is_sent, is_fail_of}
 use Rattle.st_event.specs.Observed.{is_settled}
 use Rattle.st_event.specs.Services.{entry_after}
+use Rattle.st_wire.specs.declared.line.WireKind.{WireKind}
 use Rattle.st_wire.specs.declared.line.WireKind.TheVariants.{Command as command_kind, Report as report_kind}
 use Rattle.st_wire.specs.declared.line.WireLine.{WireLine}
 use Rattle.st_wire.specs.Deliveries.{deliveries}
 use Rattle.st_world.specs.World.{WorldView, IsBeginning}
 use Rattle.st_world.specs.declared.world.rounds.Going.{Going}
 use Rattle.st_world.specs.declared.world.rounds.Going.TheVariants.{On, Full}
+use Rattle.st_world.specs.declared.world.rounds.Message.{Message}
 use Rattle.st_world.specs.declared.world.rounds.Rounded.{Rounded}
 use Rattle.st_world.specs.declared.world.rounds.Rounded.TheVariants.{Did, JournalFull}
 
@@ -67,6 +69,15 @@ follow_ups_of g lines past Changed = []
 abbrev pub follow_ups : Group → List WireLine → List Entry → List Event
 follow_ups g lines [] = []
 follow_ups g lines (entry ∷ past) = follow_ups_of g lines (entry ∷ past) entry.reply
+
+-- a message of this kind arrives, by its number; and the arrivals of a message's turn, if there is one
+abbrev pub arrival : WireKind → ℕ → Event
+arrival command_kind = Deliver
+arrival report_kind = Hear
+
+abbrev pub arrivals_of : List WireLine → Option Message → List Event
+arrivals_of lines None = []
+arrivals_of lines (Some message) = map (arrival message.kind) (deliveries lines message.kind message.number)
 
 -- an event, and then what follows its entry
 abbrev pub enter_told : Group → List WireLine → Course → Event → Course

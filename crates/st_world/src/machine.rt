@@ -1,13 +1,13 @@
 //! A group without its journal: the checker, an agent for each entity, and all messages. It answers each event, and the world enters
 //! the event with that reply.
 
-ghost use Rattle.std.specs.Prelude.{◌≡◌, ℕ, ◌<◌, ◌≤◌, ◌+◌, ◌^◌, length, IfOk, IsOk, IsTrue, OnOk, OnErr};
+ghost use Rattle.std.specs.Prelude.{◌≡◌, ℕ, ◌<◌, ◌≤◌, ◌+◌, ◌^◌, false, length, IfOk, IsOk, IsTrue, OnOk, OnErr};
 ghost use Rattle.st_net.specs.Groups.{IsEntityOf};
 ghost use Rattle.st_net.specs.Ranges.{RowsFit};
 ghost use Rattle.st_event.specs.declared.event.Event.TheVariants.{Submit, Check as check_event, Lock, Unlock, Send, Deliver, Finish as finish_event, Report as report_event, Hear, Fail};
 ghost use Rattle.st_event.specs.declared.reply.Reply.TheVariants.{Decided as decided_reply};
 ghost use Rattle.st_event.specs.declared.journal.TheConstants.{MAX_ENTRIES};
-ghost use Rattle.st_event.specs.Events.{is_without_side};
+ghost use Rattle.st_event.specs.Events.{is_check, is_without_side};
 ghost use Rattle.st_event.specs.Legal.{Fits};
 ghost use Rattle.st_world.specs.Plant.{IsPlantOf, agent_in};
 ghost use Rattle.st_world.specs.Machine.{Answers, HasSameMachine, IsBelow, IsOpening, is_without_memory};
@@ -116,7 +116,16 @@ impl Machine {
     }
 
     /// The oldest proposal is decided. At `Err` nothing has changed but the checker's count of runs.
-    fn check(&mut self, entry: u32) -> Result<Twice<Reply>, AllocError>
+    fn check(&mut self, entry: u32) -> Result<Reply, AllocError>
+        ensures ok { IfOk result (Answers self.old self.new entry check_event) }
+        ensures err { OnErr result (HasSameMachine self.old self.new) }
+        ensures room { self.new.messages ≡ self.old.messages }
+    {
+        Ok(check_reply(self.control.check(entry)?))
+    }
+
+    /// The same, with the reply twice.
+    fn check_twice(&mut self, entry: u32) -> Result<Twice<Reply>, AllocError>
         ensures ok { IfOk result (λ answered. Answers self.old self.new entry check_event answered.told) }
         ensures kept { IfOk result (λ answered. answered.kept ≡ answered.told) }
         ensures err { OnErr result (HasSameMachine self.old self.new) }
@@ -255,14 +264,14 @@ impl Machine {
         Reply::Changed
     }
 
-    /// Answers an event as entry number `entry`. At `Err` nothing has changed but the checker's count of runs. Where there is room, only proposals and decisions take
-    /// memory.
-    pub fn answer(&mut self, entry: u32, event: &Event) -> Result<Twice<Reply>, AllocError>
+    /// Answers an event as entry number `entry`. At `Err` nothing has changed but the checker's count of runs. Where there is room, only
+    /// proposals and decisions take memory.
+    pub fn answer(&mut self, entry: u32, event: &Event) -> Result<Reply, AllocError>
         requires fits { Fits self.old.checker.group event.now }
         requires below { IsBelow entry self.old }
         requires few { entry ≤ MAX_ENTRIES }
-        ensures ok { IfOk result (λ answered. Answers self.old self.new entry event.now answered.told) }
-        ensures kept { IfOk result (λ answered. answered.kept ≡ answered.told) }
+        ensures ok { IfOk result (Answers self.old self.new entry event.now) }
+        ensures plain { is_check event.now ≡ false → IfOk result (λ reply. IsTrue (is_without_side reply)) }
         ensures err { OnErr result (HasSameMachine self.old self.new) }
         ensures without_memory { 0 < self.old.messages.room → IsTrue (is_without_memory event.now) → IsOk result }
         ensures room { self.old.messages.room ≤ self.new.messages.room + 1 }
@@ -270,7 +279,7 @@ impl Machine {
     {
         let reply = match event {
             Event::Submit { app, rows } => self.submit(*app, rows)?,
-            Event::Check => return self.check(entry),
+            Event::Check => self.check(entry)?,
             Event::Lock { app, entity, prio } => self.lock(*app, *entity, *prio),
             Event::Unlock { app, entity, prio } => self.unlock(*app, *entity, *prio),
             Event::Send { entity } => self.send(*entity)?,
@@ -284,6 +293,28 @@ impl Machine {
                 health,
             } => self.fail(*entity, *vals, *health),
         };
-        Ok(told_twice(self.alloc, reply))
+        Ok(reply)
+    }
+
+    /// Answers an event as `answer` does, and gives the reply twice: one to hand out and one to enter in a journal. To copy the reply to a
+    /// check once it is given could be refused memory; no other reply needs any.
+    pub fn answer_twice(&mut self, entry: u32, event: &Event) -> Result<Twice<Reply>, AllocError>
+        requires fits { Fits self.old.checker.group event.now }
+        requires below { IsBelow entry self.old }
+        requires few { entry ≤ MAX_ENTRIES }
+        ensures ok { IfOk result (λ answered. Answers self.old self.new entry event.now answered.told) }
+        ensures kept { IfOk result (λ answered. answered.kept ≡ answered.told) }
+        ensures err { OnErr result (HasSameMachine self.old self.new) }
+        ensures without_memory { 0 < self.old.messages.room → IsTrue (is_without_memory event.now) → IsOk result }
+        ensures room { self.old.messages.room ≤ self.new.messages.room + 1 }
+        ensures spent { OnErr result (self.old.messages.room ≤ self.new.messages.room) }
+    {
+        match event {
+            Event::Check => self.check_twice(entry),
+            _ => {
+                let told = self.answer(entry, event)?;
+                Ok(told_twice(self.alloc, told))
+            }
+        }
     }
 }

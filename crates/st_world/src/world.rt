@@ -1,10 +1,11 @@
-//! One group's world: every event goes through `World::step`, which asks the group's machine for the reply and enters both in the
-//! journal. Scripts and services drive it, and reports are read from it.
+//! One group's world: every event goes through `World::step`, or through `World::enter` where nobody reads the reply, which ask the
+//! group's machine for the reply and enter both in the journal. Scripts and services drive it, and reports are read from it.
 
-ghost use Rattle.std.specs.Prelude.{◌≡◌, List, [], ◌∷◌, ◌++◌, ◌<◌, ◌≤◌, ◌+◌, IfOk, IsOk, IsTrue, MatchResult, OnOk, OnErr, length, drop, reverse};
+ghost use Rattle.std.specs.Prelude.{◌≡◌, List, [], ◌∷◌, ◌++◌, ◌<◌, ◌≤◌, ◌+◌, IfOk, IfSome, IsNone, IsOk, IsSome, IsTrue, MatchResult, OnOk, OnErr, length, drop, reverse};
 ghost use Rattle.std.specs.Vec.{vec_len, vec_capacity};
 ghost use Rattle.st_net.specs.Groups.{IsSound, IsEntityOf};
 ghost use Rattle.st_event.specs.declared.journal.Entry.{Entry as entry};
+ghost use Rattle.st_event.specs.declared.journal.TheConstants.{MAX_ENTRIES};
 ghost use Rattle.st_event.specs.Agents.{agent_of};
 ghost use Rattle.st_event.specs.Facts.{AgentsAgree};
 ghost use Rattle.st_event.specs.Legal.{Fits, IsLegal, AtEach};
@@ -14,6 +15,7 @@ ghost use Rattle.st_event.specs.Standing.{standing_of};
 ghost use Rattle.st_event.specs.Versions.{value_at};
 ghost use Rattle.st_control.specs.Control.{standing_in, versions_in};
 ghost use Rattle.st_world.specs.Machine.{is_without_memory};
+ghost use Rattle.st_world.specs.Rounds.{enter as enter_lem, course_from, Goes, IsPartOf, HasSamePlant};
 ghost use Rattle.st_world.specs.World.{StepSpends, Steps};
 
 pub mod acts;
@@ -23,6 +25,7 @@ pub mod rounds;
 pub mod ups;
 
 use crate::machine::Machine;
+use crate::world::rounds::Going;
 use st_agent::Agent;
 use st_control::{Control, Twice};
 use st_event::{Entries, Entry, Event, Journal, MAX_ENTRIES, Reply};
@@ -73,6 +76,24 @@ fn enter_last(journal: &mut Vec<Entry>, event: Event, reply: Reply)
     }
 }
 
+/// Makes room in a journal for one more entry, and gives that one's number. None comes where it has as many entries as it may have.
+fn next_entry(journal: &mut Vec<Entry>) -> Result<Option<u32>, AllocError>
+    ensures number { IfOk result (λ next. IfSome next (λ n. n ≡ length journal.old.items + 1)) }
+    ensures few { IfOk result (λ next. IfSome next (λ n. n ≤ MAX_ENTRIES)) }
+    ensures full { IfOk result (λ next. IsNone next → MAX_ENTRIES ≤ length journal.old.items) }
+    ensures place { IfOk result (λ next. IsSome next → vec_len journal.new < vec_capacity journal.new) }
+    ensures without_memory { vec_len journal.old < vec_capacity journal.old → IsOk result }
+    ensures items { journal.new.items ≡ journal.old.items }
+    ensures len { vec_len journal.new ≡ vec_len journal.old }
+    ensures room { vec_capacity journal.old ≤ vec_capacity journal.new }
+{
+    if journal.len() >= MAX_ENTRIES {
+        return Ok(None);
+    }
+    journal.reserve(1)?;
+    Ok(Some(journal.len() as u32 + 1))
+}
+
 impl World {
     /// A group at its opening, with a plan by which its messages are lost, come again or come late.
     pub fn start(alloc: Global, topo: GroupTopo, losses: LossPlan) -> Result<World, AllocError>
@@ -101,17 +122,33 @@ impl World {
         ensures room { self.old.room ≤ self.new.room + 1 }
         ensures spent { MatchResult result (StepSpends self.old.room self.new.room) (λ _. self.old.room ≤ self.new.room) }
     {
-        if self.journal.len() >= MAX_ENTRIES {
+        // Room first: once the machine has answered, the entry has to follow.
+        let Some(entry) = next_entry(&mut self.journal)? else {
             return Ok(Stepped::JournalFull {
                 entries: MAX_ENTRIES as u32,
             });
-        }
-        let entry = self.journal.len() as u32 + 1;
-        // Room first: once the machine has answered, the entry has to follow.
-        self.journal.reserve(1)?;
-        let Twice { told, kept } = self.machine.answer(entry, &event)?;
+        };
+        let Twice { told, kept } = self.machine.answer_twice(entry, &event)?;
         enter_last(&mut self.journal, event, kept);
         Ok(Stepped::Did(told))
+    }
+
+    /// Does what `step` does, and hands no reply out, so that the reply is made once. As in all courses of events, at `Full` and at `Err`
+    /// what was entered is a part of the course, from its start.
+    pub(crate) fn enter(&mut self, event: Event) -> Result<Going, AllocError>
+        requires { Fits self.old.history.group event }
+        ensures ok { IfOk result (Goes self.new (enter_lem self.old.history.group (course_from self.old.history.past) event)) }
+        ensures err { OnErr result (IsPartOf self.old self.new (enter_lem self.old.history.group (course_from self.old.history.past) event)) }
+        ensures none { OnErr result (self.new.history ≡ self.old.history) }
+        ensures plant { HasSamePlant self.old self.new }
+    {
+        // Room first, as there.
+        let Some(entry) = next_entry(&mut self.journal)? else {
+            return Ok(Going::Full);
+        };
+        let reply = self.machine.answer(entry, &event)?;
+        enter_last(&mut self.journal, event, reply);
+        Ok(Going::On)
     }
 
     /// Makes room for `n` entries: the next `n` steps of Lock, Unlock, Send, Deliver, Finish, Report, Hear and Fail take no memory,

@@ -3,7 +3,7 @@
 ghost use Rattle.std.specs.Prelude.{◌≡◌, ◌↔◌, ◌≤◌, IfOk, MatchResult, IsTrue, OnErr};
 ghost use Rattle.st_world.specs.Commits.{Begins, MayCommit, Commits, SpendsRoom};
 
-use crate::world::{World, enter_last};
+use crate::world::{World, enter_last, next_entry};
 use st_control::{Begin, Judged, Twice};
 use st_event::{Event, MAX_ENTRIES, Receipt, Reply};
 use std::alloc::AllocError;
@@ -49,14 +49,12 @@ impl World {
         if let Some(entry) = self.machine.control().store().decided(judged.ticket()) {
             return Ok(Committed::Gone { entry });
         }
-        if self.journal.len() >= MAX_ENTRIES {
+        // Room first: once the machine has decided, the entry has to follow.
+        let Some(entry) = next_entry(&mut self.journal)? else {
             return Ok(Committed::JournalFull {
                 entries: MAX_ENTRIES as u32,
             });
-        }
-        let entry = self.journal.len() as u32 + 1;
-        // Room first: once the machine has decided, the entry has to follow.
-        self.journal.reserve(1)?;
+        };
         let Twice { told, kept } = self.machine.commit(entry, judged)?;
         enter_last(&mut self.journal, Event::Check, Reply::Decided(kept));
         Ok(Committed::Did(told))

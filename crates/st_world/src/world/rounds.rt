@@ -1,13 +1,15 @@
 //! Rounds of a world: each entity that is not settled is sent its command, carries it out and reports, as far as the loss plan lets
 //! messages through.
 
-ghost use Rattle.std.specs.Prelude.{◌≡◌, All, IfOk, OnErr, map};
-ghost use Rattle.st_net.specs.Groups.{IsEntityOf};
+ghost use Rattle.std.specs.Prelude.{◌≡◌, List, All, IfOk, OnErr, map};
+ghost use Rattle.st_net.specs.Groups.{Group, IsEntityOf};
 ghost use Rattle.st_event.specs.declared.event.Event.TheVariants.{Deliver, Hear};
+ghost use Rattle.st_event.specs.declared.journal.Entry.{Entry};
 ghost use Rattle.st_event.specs.Legal.{Fits};
-ghost use Rattle.st_world.specs.Rounds.{follow_ups_of, enter as enter_lem, enter_all, enter_told, update_turn as update_turn_lem, poll as poll_lem, turn as turn_lem, turns as turns_lem, round as round_lem, course_from, unsettled as unsettled_lem, Goes, Rounds, IsPartOf, HasSamePlant, DidSettle};
+ghost use Rattle.st_wire.specs.declared.line.WireLine.{WireLine};
+ghost use Rattle.st_world.specs.Rounds.{arrivals_of, follow_ups, follow_ups_of, enter_all, enter_told, update_turn as update_turn_lem, poll as poll_lem, turn as turn_lem, turns as turns_lem, round as round_lem, course_from, unsettled as unsettled_lem, Goes, Rounds, IsPartOf, HasSamePlant, DidSettle};
 
-use crate::world::{Stepped, World};
+use crate::world::World;
 use st_event::{Event, MAX_ENTRIES, Reply};
 use st_net::Entity;
 use st_plan::plan;
@@ -30,6 +32,47 @@ pub enum Going {
     Full,
 }
 
+/// A message, by its number among those of its kind.
+#[derive(Clone, Copy)]
+struct Message {
+    kind: WireKind,
+    number: u32,
+}
+
+/// The message that was sent or made, where this is the reply to the event.
+fn message_of(reply: &Reply) -> Option<Message>
+    ensures { (g : Group) (lines : List WireLine) (past : List Entry) → follow_ups_of g lines past reply.now ≡ arrivals_of lines result }
+{
+    match reply {
+        Reply::Sent { command } => Some(Message {
+            kind: WireKind::Command,
+            number: *command,
+        }),
+        Reply::Reported { report } => Some(Message {
+            kind: WireKind::Report,
+            number: *report,
+        }),
+        Reply::Queued { .. }
+        | Reply::Full { .. }
+        | Reply::Decided(_)
+        | Reply::Idle
+        | Reply::Granted
+        | Reply::Held { .. }
+        | Reply::Released
+        | Reply::NotYours { .. }
+        | Reply::Settled
+        | Reply::Blocked { .. }
+        | Reply::Begun
+        | Reply::Stale { .. }
+        | Reply::NoSuch { .. }
+        | Reply::Done
+        | Reply::NotBusy
+        | Reply::Taken
+        | Reply::Old { .. }
+        | Reply::Changed => None,
+    }
+}
+
 impl World {
     /// The entities that are not settled, in order.
     pub fn unsettled(&self) -> Result<Vec<Entity>, AllocError>
@@ -45,20 +88,6 @@ impl World {
             store.target(),
             control.stamps(),
         )
-    }
-
-    /// Enters an event. As in all of these courses, at `Full` and at `Err` what was entered is a part of the course, from its start.
-    pub(crate) fn enter(&mut self, event: Event) -> Result<Going, AllocError>
-        requires { Fits self.old.history.group event }
-        ensures ok { IfOk result (Goes self.new (enter_lem self.old.history.group (course_from self.old.history.past) event)) }
-        ensures err { OnErr result (IsPartOf self.old self.new (enter_lem self.old.history.group (course_from self.old.history.past) event)) }
-        ensures none { OnErr result (self.new.history ≡ self.old.history) }
-        ensures plant { HasSamePlant self.old self.new }
-    {
-        match self.step(event)? {
-            Stepped::Did(_) => Ok(Going::On),
-            Stepped::JournalFull { .. } => Ok(Going::Full),
-        }
     }
 
     /// Delivers these commands, one after another.
@@ -91,39 +120,27 @@ impl World {
         Ok(Going::On)
     }
 
-    /// Enters what follows the newest entry, which has this reply: the arrivals of the turn of the message that was sent or made.
-    fn enter_follow_ups(&mut self, reply: Reply) -> Result<Going, AllocError>
-        ensures ok { IfOk result (Goes self.new (enter_all self.old.history.group (course_from self.old.history.past) (follow_ups_of self.old.history.group self.old.lines self.old.history.past reply))) }
-        ensures err { OnErr result (IsPartOf self.old self.new (enter_all self.old.history.group (course_from self.old.history.past) (follow_ups_of self.old.history.group self.old.lines self.old.history.past reply))) }
+    /// The message that the newest entry sent or made.
+    fn newest_message(&self) -> Option<Message>
+        ensures { follow_ups self.now.history.group self.now.lines self.now.history.past ≡ arrivals_of self.now.lines result }
+    {
+        let newest = self.journal.as_slice().last()?;
+        message_of(&newest.reply)
+    }
+
+    /// Enters what follows the newest entry: the arrivals of the turn of the message that was sent or made.
+    fn enter_follow_ups(&mut self) -> Result<Going, AllocError>
+        ensures ok { IfOk result (Goes self.new (enter_all self.old.history.group (course_from self.old.history.past) (follow_ups self.old.history.group self.old.lines self.old.history.past))) }
+        ensures err { OnErr result (IsPartOf self.old self.new (enter_all self.old.history.group (course_from self.old.history.past) (follow_ups self.old.history.group self.old.lines self.old.history.past))) }
         ensures plant { HasSamePlant self.old self.new }
     {
-        match reply {
-            Reply::Sent { command } => {
-                let commands = self.plan().deliveries(WireKind::Command, command)?;
-                self.deliver_all(commands.as_slice())
-            }
-            Reply::Reported { report } => {
-                let reports = self.plan().deliveries(WireKind::Report, report)?;
-                self.hear_all(reports.as_slice())
-            }
-            Reply::Queued { .. }
-            | Reply::Full { .. }
-            | Reply::Decided(_)
-            | Reply::Idle
-            | Reply::Granted
-            | Reply::Held { .. }
-            | Reply::Released
-            | Reply::NotYours { .. }
-            | Reply::Settled
-            | Reply::Blocked { .. }
-            | Reply::Begun
-            | Reply::Stale { .. }
-            | Reply::NoSuch { .. }
-            | Reply::Done
-            | Reply::NotBusy
-            | Reply::Taken
-            | Reply::Old { .. }
-            | Reply::Changed => Ok(Going::On),
+        let Some(message) = self.newest_message() else {
+            return Ok(Going::On);
+        };
+        let numbers = self.plan().deliveries(message.kind, message.number)?;
+        match message.kind {
+            WireKind::Command => self.deliver_all(numbers.as_slice()),
+            WireKind::Report => self.hear_all(numbers.as_slice()),
         }
     }
 
@@ -134,9 +151,9 @@ impl World {
         ensures err { OnErr result (IsPartOf self.old self.new (enter_told self.old.history.group self.old.lines (course_from self.old.history.past) event)) }
         ensures plant { HasSamePlant self.old self.new }
     {
-        match self.step(event)? {
-            Stepped::Did(reply) => self.enter_follow_ups(reply),
-            Stepped::JournalFull { .. } => Ok(Going::Full),
+        match self.enter(event)? {
+            Going::On => self.enter_follow_ups(),
+            Going::Full => Ok(Going::Full),
         }
     }
 

@@ -3,4 +3,4 @@ use Rattle.st_world.proofs.MachineLaws.{checker_answers}
 use Rattle.st_world.proofs.machine.Machine.check.Goals as goal
 
 pub returns-clause-ok : goal.returns-clause-ok
-returns-clause-ok c = rw (← c.self.view_is, c.check_reply.ensures) (checker_answers c.self.inside.control c.check_twice.new.self c.self.inside.plant c.self.inside.wire c.args.entry _ _ refl c.in_ok-checks.ensures.ok)
+returns-clause-ok c = rw (← c.self.view_is, c.check_reply.ensures) (checker_answers c.self.inside.control c.check.new.self c.self.inside.plant c.self.inside.wire c.args.entry _ _ refl c.in_ok-check.ensures.ok)
