@@ -1,10 +1,9 @@
--- What stands in a text after one printing and a part of the next, and after some turns of a loop.
+-- What stands in a text after one printing and the next, and after some turns of a loop.
 use Rattle.std.proofs.Common.{◌≡◌, ℕ, zero, suc, ◌+◌, ◌<◌, ◌≤◌, List, [], ◌∷◌, ◌++◌, length, map, get_or, take, refl, sym, ◌∙◌, ap, append_assoc, add-one, inl, inr, arith}
-use Rattle.std.specs.Prelude.{flat_map, min, ◌⊎◌}
+use Rattle.std.specs.Prelude.{min, ◌⊎◌}
 use Rattle.std.proofs.lemmas.List.{append-nil}
 use Rattle.st_text.specs.Words.{ended, line_text, text_of, spaced}
-use Rattle.st_text.specs.Printed.{HoldsPart}
-use Rattle.st_text.proofs.PrintLemmas.{part_none, part_first, part_next, part_along, both_added, IsByElement, line_bytes}
+use Rattle.st_text.proofs.PrintLemmas.{both_added, line_bytes}
 use Rattle.st_net.specs.declared.parts.Parts.{Parts}
 use Rattle.st_wire.specs.declared.line.WireLine.{WireLine}
 use Rattle.st_doc.specs.Printed.{Words, wire_words, wires_lines}
@@ -14,21 +13,8 @@ pub text_append : (a b : List Words) → text_of (a ++ b) ≡ text_of a ++ text_
 text_append [] b = refl
 text_append (w ∷ a) b = ap (λ t. ended (line_text w) ++ t) (text_append a b) ∙ sym (append_assoc (ended (line_text w)) (text_of a) (text_of b))
 
-pub first_lines : (old new : List ℕ) (a b : List Words) → HoldsPart old new (text_of a) → HoldsPart old new (text_of (a ++ b))
-first_lines old new a b part = part_along old new (text_of (a ++ b)) (text_of a ++ text_of b) (text_append a b) (part_first old new (text_of a) (text_of b) part)
-
-pub next_lines : (old mid new : List ℕ) (a b : List Words) → mid ≡ old ++ text_of a → HoldsPart mid new (text_of b) → HoldsPart old new (text_of (a ++ b))
-next_lines old mid new a b whole part = part_along old new (text_of (a ++ b)) (text_of a ++ text_of b) (text_append a b) (part_next old mid new (text_of a) (text_of b) whole part)
-
 pub both_lines : (old mid new : List ℕ) (a b : List Words) → mid ≡ old ++ text_of a → new ≡ mid ++ text_of b → new ≡ old ++ text_of (a ++ b)
 both_lines old mid new a b first second = both_added old mid new (text_of a) (text_of b) first second ∙ ap (λ t. old ++ t) (sym (text_append a b))
-
--- lines, one or more of each element
-pub lines_by : {X : Type 0} (words : X → Words) → IsByElement (λ xs. text_of (map words xs)) (λ x. text_of (words x ∷ []))
-lines_by words = record { none = refl; more = λ x xs. text_append (words x ∷ []) (map words xs) }
-
-pub sections_by : {X : Type 0} (lines : X → List Words) → IsByElement (λ xs. text_of (flat_map lines xs)) (λ x. text_of (lines x))
-sections_by lines = record { none = refl; more = λ x xs. text_append (lines x) (flat_map lines xs) }
 
 -- words behind words
 spaced_append : (a b : Words) → spaced (a ++ b) ≡ spaced a ++ spaced b
@@ -40,22 +26,8 @@ two_parts w a b =
     line_bytes w (a ++ b) ∙ ap (λ t. (w ++ t) ++ 10 ∷ []) (spaced_append a b)
     ∙ (ap (λ t. t ++ 10 ∷ []) (sym (append_assoc w (spaced a) (spaced b))) ∙ append_assoc (w ++ spaced a) (spaced b) (10 ∷ []))
 
--- a line that was begun, and then more of its words, and its end
-pub line_first : (old new w : List ℕ) (a b : Words) → HoldsPart old new (w ++ spaced a) → HoldsPart old new (text_of ((w ∷ (a ++ b)) ∷ []))
-line_first old new w a b part = part_along old new _ _ (two_parts w a b) (part_first old new (w ++ spaced a) (spaced b ++ 10 ∷ []) part)
-
-pub line_next : (old mid new w : List ℕ) (a b : Words) → mid ≡ old ++ (w ++ spaced a) → HoldsPart mid new (spaced b) → HoldsPart old new (text_of ((w ∷ (a ++ b)) ∷ []))
-line_next old mid new w a b before part = part_along old new _ _ (two_parts w a b) (part_next old mid new (w ++ spaced a) (spaced b ++ 10 ∷ []) before (part_first mid new (spaced b) (10 ∷ []) part))
-
-pub line_unended : (old mid next new w : List ℕ) (a b : Words) → mid ≡ old ++ (w ++ spaced a) → next ≡ mid ++ spaced b → new ≡ next → HoldsPart old new (text_of ((w ∷ (a ++ b)) ∷ []))
-line_unended old mid next new w a b before more same = part_along old new _ _ (two_parts w a b) (part_next old mid new (w ++ spaced a) (spaced b ++ 10 ∷ []) before (part_next mid next new (spaced b) (10 ∷ []) more (part_none next new (10 ∷ []) same)))
-
 pub line_ended : (old mid next new w : List ℕ) (a b : Words) → mid ≡ old ++ (w ++ spaced a) → next ≡ mid ++ spaced b → new ≡ next ++ 10 ∷ [] → new ≡ old ++ text_of ((w ∷ (a ++ b)) ∷ [])
 line_ended old mid next new w a b before more end = both_added old mid new (w ++ spaced a) (spaced b ++ 10 ∷ []) before (both_added mid next new (spaced b) (10 ∷ []) more end) ∙ ap (λ t. old ++ t) (sym (two_parts w a b))
-
--- lines behind which nothing follows
-pub last_lines : (old new : List ℕ) (a : List Words) → new ≡ old ++ text_of a → new ≡ old ++ text_of (a ++ [])
-last_lines old new a is = is ∙ ap (λ (lines : List Words). old ++ text_of lines) (sym (append-nil a))
 
 -- the wire lines of the first groups, and those of one more
 pub wires_more : (gs : List Parts) (ws : List (List WireLine)) (n : ℕ) (g : Parts) (lines : List WireLine) → n < length gs → n < length ws → g ≡ get_or gs n g → lines ≡ get_or ws n lines
@@ -70,27 +42,10 @@ wires_more gs ws n g lines low few is are = rw add-one (by gs ws n low few is ar
         ap (λ (ls : List Words). map (wire_words x.name) w ++ ls) (by gs ws n (omega arith) (omega arith) is are)
         ∙ sym (append_assoc (map (wire_words x.name) w) (wires_lines (take n gs) (take n ws)) (map (wire_words g.name) lines))
 
--- and what stands behind them
-pub wires_rest : (gs : List Parts) (ws : List (List WireLine)) (n : ℕ) → (rest : List Words) × (wires_lines gs ws ≡ wires_lines (take n gs) (take n ws) ++ rest)
-wires_rest gs ws zero = (wires_lines gs ws, refl)
-wires_rest [] ws (suc n) = ([], refl)
-wires_rest (x ∷ gs) [] (suc n) = ([], refl)
-wires_rest (x ∷ gs) (w ∷ ws) (suc n) =
-    let rest = wires_rest gs ws n in
-    (rest.0, ap (λ (ls : List Words). map (wire_words x.name) w ++ ls) rest.1 ∙ sym (append_assoc (map (wire_words x.name) w) (wires_lines (take n gs) (take n ws)) rest.0))
-
 pub wires_next : (gs : List Parts) (ws : List (List WireLine)) (n : ℕ) (g : Parts) (lines : List WireLine) (old mid new : List ℕ) → n < length gs → n < length ws → g ≡ get_or gs n g → lines ≡ get_or ws n lines
     → mid ≡ old ++ text_of (wires_lines (take n gs) (take n ws)) → new ≡ mid ++ text_of (map (wire_words g.name) lines) → new ≡ old ++ text_of (wires_lines (take (n + 1) gs) (take (n + 1) ws))
 wires_next gs ws n g lines old mid new low few is are before added =
     both_lines old mid new (wires_lines (take n gs) (take n ws)) (map (wire_words g.name) lines) before added ∙ ap (λ (ls : List Words). old ++ text_of ls) (sym (wires_more gs ws n g lines low few is are))
-
-pub wires_part : (gs : List Parts) (ws : List (List WireLine)) (n : ℕ) (g : Parts) (lines : List WireLine) (old mid new : List ℕ) → n < length gs → n < length ws → g ≡ get_or gs n g → lines ≡ get_or ws n lines
-    → mid ≡ old ++ text_of (wires_lines (take n gs) (take n ws)) → HoldsPart mid new (text_of (map (wire_words g.name) lines)) → HoldsPart old new (text_of (wires_lines gs ws))
-wires_part gs ws n g lines old mid new low few is are before part =
-    let more : wires_lines (take (n + 1) gs) (take (n + 1) ws) ≡ wires_lines (take n gs) (take n ws) ++ map (wire_words g.name) lines = wires_more gs ws n g lines low few is are in
-    let rest = wires_rest gs ws (n + 1) in
-    let whole : wires_lines gs ws ≡ (wires_lines (take n gs) (take n ws) ++ map (wire_words g.name) lines) ++ rest.0 = rest.1 ∙ ap (λ (ls : List Words). ls ++ rest.0) more in
-    part_along old new _ _ (ap text_of whole) (first_lines old new (wires_lines (take n gs) (take n ws) ++ map (wire_words g.name) lines) rest.0 (next_lines old mid new (wires_lines (take n gs) (take n ws)) (map (wire_words g.name) lines) before part))
 
 wires_all : (gs : List Parts) (ws : List (List WireLine)) (n : ℕ) → (length gs ≤ n) ⊎ (length ws ≤ n) → wires_lines (take n gs) (take n ws) ≡ wires_lines gs ws
 wires_all [] ws zero past = refl

@@ -2,7 +2,6 @@
 
 ghost use Rattle.std.specs.Prelude.{◌≡◌, ◌++◌, ◌∷◌, [], OnOk, OnErr, Ok, flat_map, map};
 ghost use Rattle.st_text.specs.Words.{text_of};
-ghost use Rattle.st_text.specs.Printed.{HoldsPart};
 ghost use Rattle.st_grammar.specs.Reading.{document_of};
 ghost use Rattle.st_grammar.specs.Sound.{IsSoundDoc};
 ghost use Rattle.st_doc.specs.Printed.{group_lines, app_name_at, app_lines, order_words, doc_lines, printed_doc, without_journals};
@@ -23,10 +22,9 @@ use std::alloc::AllocError;
 use wires::print_wires;
 use words::print_line;
 
-/// Adds the section of a group. After `Err` the text holds a part of it.
+/// Adds the section of a group.
 fn print_group(group: &Parts, out: &mut Text) -> Result<(), AllocError>
-    ensures ok { OnOk result (out.new ≡ out.old ++ text_of (group_lines group.now)) }
-    ensures err { OnErr result (HoldsPart out.old out.new (text_of (group_lines group.now))) }
+    ensures { OnOk result (out.new ≡ out.old ++ text_of (group_lines group.now)) }
 {
     print_line(b"group", &[Word::Plain(group.name.bytes())], out)?;
     print_devices(group.devices.as_slice(), out)?;
@@ -36,10 +34,9 @@ fn print_group(group: &Parts, out: &mut Text) -> Result<(), AllocError>
     print_healths(group, out)
 }
 
-/// Adds the sections of groups. After `Err` the text holds a part of them.
+/// Adds the sections of groups.
 fn print_groups(groups: &[Parts], out: &mut Text) -> Result<(), AllocError>
-    ensures ok { OnOk result (out.new ≡ out.old ++ text_of (flat_map group_lines groups.now)) }
-    ensures err { OnErr result (HoldsPart out.old out.new (text_of (flat_map group_lines groups.now))) }
+    ensures { OnOk result (out.new ≡ out.old ++ text_of (flat_map group_lines groups.now)) }
 {
     for group in groups {
         print_group(group, out)?;
@@ -47,19 +44,17 @@ fn print_groups(groups: &[Parts], out: &mut Text) -> Result<(), AllocError>
     Ok(())
 }
 
-/// Adds an application with its acts. After `Err` the text holds a part of them.
+/// Adds an application with its acts.
 fn print_app(groups: &[Parts], app: &Script, out: &mut Text) -> Result<(), AllocError>
-    ensures ok { OnOk result (out.new ≡ out.old ++ text_of (app_lines groups.now app.now)) }
-    ensures err { OnErr result (HoldsPart out.old out.new (text_of (app_lines groups.now app.now))) }
+    ensures { OnOk result (out.new ≡ out.old ++ text_of (app_lines groups.now app.now)) }
 {
     print_line(b"app", &[Word::Plain(app.name.bytes())], out)?;
     print_acts(groups, app.acts.as_slice(), out)
 }
 
-/// Adds applications with their acts. After `Err` the text holds a part of them.
+/// Adds applications with their acts.
 fn print_apps(groups: &[Parts], apps: &[Script], out: &mut Text) -> Result<(), AllocError>
-    ensures ok { OnOk result (out.new ≡ out.old ++ text_of (flat_map (app_lines groups.now) apps.now)) }
-    ensures err { OnErr result (HoldsPart out.old out.new (text_of (flat_map (app_lines groups.now) apps.now))) }
+    ensures { OnOk result (out.new ≡ out.old ++ text_of (flat_map (app_lines groups.now) apps.now)) }
 {
     for app in apps {
         print_app(groups, app, out)?;
@@ -77,10 +72,9 @@ fn app_name(apps: &[Script], app: u32) -> &[u8]
     }
 }
 
-/// Adds a line for each application of an order. After `Err` the text holds a part of them.
+/// Adds a line for each application of an order.
 fn print_order(apps: &[Script], order: &[u32], out: &mut Text) -> Result<(), AllocError>
-    ensures ok { OnOk result (out.new ≡ out.old ++ text_of (map (order_words apps.now) order.now)) }
-    ensures err { OnErr result (HoldsPart out.old out.new (text_of (map (order_words apps.now) order.now))) }
+    ensures { OnOk result (out.new ≡ out.old ++ text_of (map (order_words apps.now) order.now)) }
 {
     for app in order {
         print_line(b"order", &[Word::Plain(app_name(apps, *app))], out)?;
@@ -88,10 +82,9 @@ fn print_order(apps: &[Script], order: &[u32], out: &mut Text) -> Result<(), All
     Ok(())
 }
 
-/// Adds all lines of a document. After `Err` the text holds a part of them.
+/// Adds all lines of a document.
 fn print_lines(doc: &Doc, out: &mut Text) -> Result<(), AllocError>
-    ensures ok { OnOk result (out.new ≡ out.old ++ text_of (doc_lines doc.now)) }
-    ensures err { OnErr result (HoldsPart out.old out.new (text_of (doc_lines doc.now))) }
+    ensures { OnOk result (out.new ≡ out.old ++ text_of (doc_lines doc.now)) }
 {
     let groups = doc.groups.as_slice();
     let apps = doc.apps.as_slice();
@@ -104,14 +97,16 @@ fn print_lines(doc: &Doc, out: &mut Text) -> Result<(), AllocError>
 
 /// Prints a sound document without the place of its journals: adds the header, the sections of groups, their wire lines, the
 /// applications with their acts and a line for each item of the order, with one space between tokens and LF ends.
-/// Opening values and healths that are the default have no lines. Takes time in the bytes that are printed. After `Err`,
-/// which is for want of memory alone, the text holds a part of these lines behind what it held.
+/// Opening values and healths that are the default have no lines. Takes time in the bytes that are printed. `Err` is for
+/// want of memory alone, and leaves the text as it was.
 pub fn print_doc(doc: &Doc, out: &mut Text) -> Result<(), AllocError>
     requires sound { IsSoundDoc doc.now }
     ensures ok { OnOk result (out.new ≡ out.old ++ printed_doc doc.now) }
-    ensures err { OnErr result (HoldsPart out.old out.new (printed_doc doc.now)) }
+    ensures err { OnErr result (out.new ≡ out.old) }
     // What is printed is read as the document.
     ensures reads_back { document_of (printed_doc doc.now) ≡ Ok (without_journals doc.now) }
 {
-    print_lines(doc, out)
+    let mut text = Text::new(doc.groups.alloc());
+    print_lines(doc, &mut text)?;
+    out.word(text.bytes())
 }

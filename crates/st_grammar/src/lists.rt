@@ -112,6 +112,11 @@ impl DocGroups {
     {
         self.groups.as_slice()
     }
+
+    /// The memory that the list takes from.
+    pub fn alloc(&self) -> Global {
+        *self.groups.allocator()
+    }
 }
 
 impl WireLines {

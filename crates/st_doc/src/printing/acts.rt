@@ -1,8 +1,7 @@
 //! The lines of commands.
 
-ghost use Rattle.std.specs.Prelude.{◌≡◌, ◌++◌, ◌∷◌, [], OnOk, OnErr, map, codes, decimal};
+ghost use Rattle.std.specs.Prelude.{◌≡◌, ◌++◌, ◌∷◌, [], OnOk, map, codes, decimal};
 ghost use Rattle.st_text.specs.Words.{text_of, spaced};
-ghost use Rattle.st_text.specs.Printed.{HoldsPart};
 ghost use Rattle.st_net.specs.Groups.{name_of};
 ghost use Rattle.st_net.specs.Faults.{group_of};
 ghost use Rattle.st_token.specs.Words.{prio_word as prio_word_lem, variable_word};
@@ -51,15 +50,14 @@ fn entity_name(groups: &[Parts], group: u32, entity: Entity) -> &[u8]
     }
 }
 
-/// Adds the assignments of a proposal to a group, each behind a space. After `Err` the text holds a part of them.
+/// Adds the assignments of a proposal to a group, each behind a space.
 fn print_assignments(
     groups: &[Parts],
     group: u32,
     rows: &[Row],
     out: &mut Text,
 ) -> Result<(), AllocError>
-    ensures ok { OnOk result (out.new ≡ out.old ++ spaced (assignment_words groups.now group rows.now)) }
-    ensures err { OnErr result (HoldsPart out.old out.new (spaced (assignment_words groups.now group rows.now))) }
+    ensures { OnOk result (out.new ≡ out.old ++ spaced (assignment_words groups.now group rows.now)) }
 {
     for row in rows {
         let word = Word::Assignment {
@@ -72,10 +70,9 @@ fn print_assignments(
     Ok(())
 }
 
-/// Adds the values of a failure, each behind a space. After `Err` the text holds a part of them.
+/// Adds the values of a failure, each behind a space.
 fn print_values(rows: &[Row], out: &mut Text) -> Result<(), AllocError>
-    ensures ok { OnOk result (out.new ≡ out.old ++ spaced (value_words rows.now)) }
-    ensures err { OnErr result (HoldsPart out.old out.new (spaced (value_words rows.now))) }
+    ensures { OnOk result (out.new ≡ out.old ++ spaced (value_words rows.now)) }
 {
     for row in rows {
         print_word(
@@ -89,22 +86,21 @@ fn print_values(rows: &[Row], out: &mut Text) -> Result<(), AllocError>
     Ok(())
 }
 
-/// Adds the line of a proposal. After `Err` the text holds a part of it.
+/// Adds the line of a proposal.
 fn print_propose(
     groups: &[Parts],
     group: u32,
     rows: &[Row],
     out: &mut Text,
 ) -> Result<(), AllocError>
-    ensures ok { OnOk result (out.new ≡ out.old ++ text_of ((codes "propose" ∷ (group_at groups.now group).name ∷ assignment_words groups.now group rows.now) ∷ [])) }
-    ensures err { OnErr result (HoldsPart out.old out.new (text_of ((codes "propose" ∷ (group_at groups.now group).name ∷ assignment_words groups.now group rows.now) ∷ []))) }
+    ensures { OnOk result (out.new ≡ out.old ++ text_of ((codes "propose" ∷ (group_at groups.now group).name ∷ assignment_words groups.now group rows.now) ∷ [])) }
 {
     begin_line(b"propose", &[Word::Plain(group_name(groups, group))], out)?;
     print_assignments(groups, group, rows, out)?;
     out.word(b"\n")
 }
 
-/// Adds the line of a failure. After `Err` the text holds a part of it.
+/// Adds the line of a failure.
 fn print_fail(
     groups: &[Parts],
     group: u32,
@@ -113,8 +109,7 @@ fn print_fail(
     rows: &[Row],
     out: &mut Text,
 ) -> Result<(), AllocError>
-    ensures ok { OnOk result (out.new ≡ out.old ++ text_of ((codes "fail" ∷ (group_at groups.now group).name ∷ entity_word groups.now group entity ∷ decimal health ∷ value_words rows.now) ∷ [])) }
-    ensures err { OnErr result (HoldsPart out.old out.new (text_of ((codes "fail" ∷ (group_at groups.now group).name ∷ entity_word groups.now group entity ∷ decimal health ∷ value_words rows.now) ∷ []))) }
+    ensures { OnOk result (out.new ≡ out.old ++ text_of ((codes "fail" ∷ (group_at groups.now group).name ∷ entity_word groups.now group entity ∷ decimal health ∷ value_words rows.now) ∷ [])) }
 {
     let words = [
         Word::Plain(group_name(groups, group)),
@@ -126,7 +121,7 @@ fn print_fail(
     out.word(b"\n")
 }
 
-/// Adds the line of a lock that is asked for or given back, by its first word. After `Err` the text holds a part of it.
+/// Adds the line of a lock that is asked for or given back, by its first word.
 fn print_lock(
     head: &[u8],
     groups: &[Parts],
@@ -135,8 +130,7 @@ fn print_lock(
     prio: Prio,
     out: &mut Text,
 ) -> Result<(), AllocError>
-    ensures ok { OnOk result (out.new ≡ out.old ++ text_of ((head.now ∷ (group_at groups.now group).name ∷ entity_word groups.now group entity ∷ prio_word_lem prio ∷ []) ∷ [])) }
-    ensures err { OnErr result (HoldsPart out.old out.new (text_of ((head.now ∷ (group_at groups.now group).name ∷ entity_word groups.now group entity ∷ prio_word_lem prio ∷ []) ∷ []))) }
+    ensures { OnOk result (out.new ≡ out.old ++ text_of ((head.now ∷ (group_at groups.now group).name ∷ entity_word groups.now group entity ∷ prio_word_lem prio ∷ []) ∷ [])) }
 {
     let words = [
         Word::Plain(group_name(groups, group)),
@@ -146,7 +140,7 @@ fn print_lock(
     print_line(head, &words, out)
 }
 
-/// Adds the line of a look at a variable. After `Err` the text holds a part of it.
+/// Adds the line of a look at a variable.
 fn print_read(
     groups: &[Parts],
     group: u32,
@@ -154,8 +148,7 @@ fn print_read(
     var: Var,
     out: &mut Text,
 ) -> Result<(), AllocError>
-    ensures ok { OnOk result (out.new ≡ out.old ++ text_of ((codes "read" ∷ (group_at groups.now group).name ∷ variable_word (entity_word groups.now group entity) var ∷ []) ∷ [])) }
-    ensures err { OnErr result (HoldsPart out.old out.new (text_of ((codes "read" ∷ (group_at groups.now group).name ∷ variable_word (entity_word groups.now group entity) var ∷ []) ∷ []))) }
+    ensures { OnOk result (out.new ≡ out.old ++ text_of ((codes "read" ∷ (group_at groups.now group).name ∷ variable_word (entity_word groups.now group entity) var ∷ []) ∷ [])) }
 {
     let name = entity_name(groups, group, entity);
     let words = [
@@ -168,7 +161,7 @@ fn print_read(
     print_line(b"read", &words, out)
 }
 
-/// Adds the line of a look at a variable at a version. After `Err` the text holds a part of it.
+/// Adds the line of a look at a variable at a version.
 fn print_readat(
     groups: &[Parts],
     group: u32,
@@ -177,8 +170,7 @@ fn print_readat(
     var: Var,
     out: &mut Text,
 ) -> Result<(), AllocError>
-    ensures ok { OnOk result (out.new ≡ out.old ++ text_of ((codes "readat" ∷ (group_at groups.now group).name ∷ decimal version ∷ variable_word (entity_word groups.now group entity) var ∷ []) ∷ [])) }
-    ensures err { OnErr result (HoldsPart out.old out.new (text_of ((codes "readat" ∷ (group_at groups.now group).name ∷ decimal version ∷ variable_word (entity_word groups.now group entity) var ∷ []) ∷ []))) }
+    ensures { OnOk result (out.new ≡ out.old ++ text_of ((codes "readat" ∷ (group_at groups.now group).name ∷ decimal version ∷ variable_word (entity_word groups.now group entity) var ∷ []) ∷ [])) }
 {
     let name = entity_name(groups, group, entity);
     let words = [
@@ -192,10 +184,9 @@ fn print_readat(
     print_line(b"readat", &words, out)
 }
 
-/// Adds the line of rounds. After `Err` the text holds a part of it.
+/// Adds the line of rounds.
 fn print_settle(groups: &[Parts], group: u32, rounds: u32, out: &mut Text) -> Result<(), AllocError>
-    ensures ok { OnOk result (out.new ≡ out.old ++ text_of ((codes "settle" ∷ (group_at groups.now group).name ∷ decimal rounds ∷ []) ∷ [])) }
-    ensures err { OnErr result (HoldsPart out.old out.new (text_of ((codes "settle" ∷ (group_at groups.now group).name ∷ decimal rounds ∷ []) ∷ []))) }
+    ensures { OnOk result (out.new ≡ out.old ++ text_of ((codes "settle" ∷ (group_at groups.now group).name ∷ decimal rounds ∷ []) ∷ [])) }
 {
     let words = [
         Word::Plain(group_name(groups, group)),
@@ -204,15 +195,14 @@ fn print_settle(groups: &[Parts], group: u32, rounds: u32, out: &mut Text) -> Re
     print_line(b"settle", &words, out)
 }
 
-/// Adds the line of a poll. After `Err` the text holds a part of it.
+/// Adds the line of a poll.
 fn print_poll(
     groups: &[Parts],
     group: u32,
     entity: Entity,
     out: &mut Text,
 ) -> Result<(), AllocError>
-    ensures ok { OnOk result (out.new ≡ out.old ++ text_of ((codes "poll" ∷ (group_at groups.now group).name ∷ entity_word groups.now group entity ∷ []) ∷ [])) }
-    ensures err { OnErr result (HoldsPart out.old out.new (text_of ((codes "poll" ∷ (group_at groups.now group).name ∷ entity_word groups.now group entity ∷ []) ∷ []))) }
+    ensures { OnOk result (out.new ≡ out.old ++ text_of ((codes "poll" ∷ (group_at groups.now group).name ∷ entity_word groups.now group entity ∷ []) ∷ [])) }
 {
     let words = [
         Word::Plain(group_name(groups, group)),
@@ -221,10 +211,9 @@ fn print_poll(
     print_line(b"poll", &words, out)
 }
 
-/// Adds the line of a command. After `Err` the text holds a part of it.
+/// Adds the line of a command.
 fn print_act(groups: &[Parts], act: &Act, out: &mut Text) -> Result<(), AllocError>
-    ensures ok { OnOk result (out.new ≡ out.old ++ text_of (act_words groups.now act.now ∷ [])) }
-    ensures err { OnErr result (HoldsPart out.old out.new (text_of (act_words groups.now act.now ∷ []))) }
+    ensures { OnOk result (out.new ≡ out.old ++ text_of (act_words groups.now act.now ∷ [])) }
 {
     match act {
         Act::Propose { group, rows } => print_propose(groups, *group, rows.as_slice(), out),
@@ -259,10 +248,9 @@ fn print_act(groups: &[Parts], act: &Act, out: &mut Text) -> Result<(), AllocErr
     }
 }
 
-/// Adds a line for each command. After `Err` the text holds a part of them.
+/// Adds a line for each command.
 pub fn print_acts(groups: &[Parts], acts: &[Act], out: &mut Text) -> Result<(), AllocError>
-    ensures ok { OnOk result (out.new ≡ out.old ++ text_of (map (act_words groups.now) acts.now)) }
-    ensures err { OnErr result (HoldsPart out.old out.new (text_of (map (act_words groups.now) acts.now))) }
+    ensures { OnOk result (out.new ≡ out.old ++ text_of (map (act_words groups.now) acts.now)) }
 {
     for act in acts {
         print_act(groups, act, out)?;

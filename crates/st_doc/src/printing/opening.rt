@@ -1,8 +1,7 @@
 //! The lines of how a group opens: the values and the healths of its devices and links that are not the default.
 
-ghost use Rattle.std.specs.Prelude.{◌≡◌, ◌++◌, ◌∷◌, [], OnOk, OnErr, flat_map};
+ghost use Rattle.std.specs.Prelude.{◌≡◌, ◌++◌, ◌∷◌, [], OnOk, flat_map};
 ghost use Rattle.st_text.specs.Words.{text_of};
-ghost use Rattle.st_text.specs.Printed.{HoldsPart};
 ghost use Rattle.st_doc.specs.Printed.{open_line, device_opens, link_opens, health_line, device_healths, link_healths};
 
 use crate::printing::words::print_line;
@@ -14,10 +13,9 @@ use std::alloc::AllocError;
 /// The value of a variable that no line sets.
 const DEFAULT_VALUE: u32 = 1;
 
-/// Adds the line of an opening value that is not the default. After `Err` the text holds a part of it.
+/// Adds the line of an opening value that is not the default.
 fn print_open(name: &[u8], var: Var, value: u32, out: &mut Text) -> Result<(), AllocError>
-    ensures ok { OnOk result (out.new ≡ out.old ++ text_of (open_line name.now var value)) }
-    ensures err { OnErr result (HoldsPart out.old out.new (text_of (open_line name.now var value))) }
+    ensures { OnOk result (out.new ≡ out.old ++ text_of (open_line name.now var value)) }
 {
     if value == DEFAULT_VALUE {
         return Ok(());
@@ -33,10 +31,9 @@ fn print_open(name: &[u8], var: Var, value: u32, out: &mut Text) -> Result<(), A
     )
 }
 
-/// Adds the opening values of a device. After `Err` the text holds a part of them.
+/// Adds the opening values of a device.
 fn print_device_opens(device: &DevicePart, out: &mut Text) -> Result<(), AllocError>
-    ensures ok { OnOk result (out.new ≡ out.old ++ text_of (device_opens device.now)) }
-    ensures err { OnErr result (HoldsPart out.old out.new (text_of (device_opens device.now))) }
+    ensures { OnOk result (out.new ≡ out.old ++ text_of (device_opens device.now)) }
 {
     let name = device.name.bytes();
     let vals = device.vals;
@@ -46,10 +43,9 @@ fn print_device_opens(device: &DevicePart, out: &mut Text) -> Result<(), AllocEr
     print_open(name, Var::Routing, vals.v3, out)
 }
 
-/// Adds the opening values of a link. After `Err` the text holds a part of them.
+/// Adds the opening values of a link.
 fn print_link_opens(link: &LinkPart, out: &mut Text) -> Result<(), AllocError>
-    ensures ok { OnOk result (out.new ≡ out.old ++ text_of (link_opens link.now)) }
-    ensures err { OnErr result (HoldsPart out.old out.new (text_of (link_opens link.now))) }
+    ensures { OnOk result (out.new ≡ out.old ++ text_of (link_opens link.now)) }
 {
     let name = link.name.bytes();
     let vals = link.vals;
@@ -57,10 +53,9 @@ fn print_link_opens(link: &LinkPart, out: &mut Text) -> Result<(), AllocError>
     print_open(name, Var::Iface, vals.v1, out)
 }
 
-/// Adds the line of a health that is not the greatest. After `Err` the text holds a part of it.
+/// Adds the line of a health that is not the greatest.
 fn print_health(name: &[u8], greatest: u32, health: u32, out: &mut Text) -> Result<(), AllocError>
-    ensures ok { OnOk result (out.new ≡ out.old ++ text_of (health_line name.now greatest health)) }
-    ensures err { OnErr result (HoldsPart out.old out.new (text_of (health_line name.now greatest health))) }
+    ensures { OnOk result (out.new ≡ out.old ++ text_of (health_line name.now greatest health)) }
 {
     if health == greatest {
         return Ok(());
@@ -72,10 +67,9 @@ fn print_health(name: &[u8], greatest: u32, health: u32, out: &mut Text) -> Resu
     )
 }
 
-/// Adds the opening values of devices. After `Err` the text holds a part of them.
+/// Adds the opening values of devices.
 fn print_devices_opens(devices: &[DevicePart], out: &mut Text) -> Result<(), AllocError>
-    ensures ok { OnOk result (out.new ≡ out.old ++ text_of (flat_map device_opens devices.now)) }
-    ensures err { OnErr result (HoldsPart out.old out.new (text_of (flat_map device_opens devices.now))) }
+    ensures { OnOk result (out.new ≡ out.old ++ text_of (flat_map device_opens devices.now)) }
 {
     for device in devices {
         print_device_opens(device, out)?;
@@ -83,10 +77,9 @@ fn print_devices_opens(devices: &[DevicePart], out: &mut Text) -> Result<(), All
     Ok(())
 }
 
-/// Adds the opening values of links. After `Err` the text holds a part of them.
+/// Adds the opening values of links.
 fn print_links_opens(links: &[LinkPart], out: &mut Text) -> Result<(), AllocError>
-    ensures ok { OnOk result (out.new ≡ out.old ++ text_of (flat_map link_opens links.now)) }
-    ensures err { OnErr result (HoldsPart out.old out.new (text_of (flat_map link_opens links.now))) }
+    ensures { OnOk result (out.new ≡ out.old ++ text_of (flat_map link_opens links.now)) }
 {
     for link in links {
         print_link_opens(link, out)?;
@@ -94,10 +87,9 @@ fn print_links_opens(links: &[LinkPart], out: &mut Text) -> Result<(), AllocErro
     Ok(())
 }
 
-/// Adds the healths of devices. After `Err` the text holds a part of them.
+/// Adds the healths of devices.
 fn print_devices_healths(devices: &[DevicePart], out: &mut Text) -> Result<(), AllocError>
-    ensures ok { OnOk result (out.new ≡ out.old ++ text_of (flat_map device_healths devices.now)) }
-    ensures err { OnErr result (HoldsPart out.old out.new (text_of (flat_map device_healths devices.now))) }
+    ensures { OnOk result (out.new ≡ out.old ++ text_of (flat_map device_healths devices.now)) }
 {
     for device in devices {
         print_health(device.name.bytes(), DEVICE_HEALTH, device.health, out)?;
@@ -105,10 +97,9 @@ fn print_devices_healths(devices: &[DevicePart], out: &mut Text) -> Result<(), A
     Ok(())
 }
 
-/// Adds the healths of links. After `Err` the text holds a part of them.
+/// Adds the healths of links.
 fn print_links_healths(links: &[LinkPart], out: &mut Text) -> Result<(), AllocError>
-    ensures ok { OnOk result (out.new ≡ out.old ++ text_of (flat_map link_healths links.now)) }
-    ensures err { OnErr result (HoldsPart out.old out.new (text_of (flat_map link_healths links.now))) }
+    ensures { OnOk result (out.new ≡ out.old ++ text_of (flat_map link_healths links.now)) }
 {
     for link in links {
         print_health(link.name.bytes(), LINK_HEALTH, link.health, out)?;
@@ -117,20 +108,16 @@ fn print_links_healths(links: &[LinkPart], out: &mut Text) -> Result<(), AllocEr
 }
 
 /// Adds a line for each opening value of a group that is not the default, in the order of entities and of their variables.
-/// After `Err` the text holds a part of them.
 pub fn print_opens(group: &Parts, out: &mut Text) -> Result<(), AllocError>
-    ensures ok { OnOk result (out.new ≡ out.old ++ text_of (flat_map device_opens group.now.devices ++ flat_map link_opens group.now.links)) }
-    ensures err { OnErr result (HoldsPart out.old out.new (text_of (flat_map device_opens group.now.devices ++ flat_map link_opens group.now.links))) }
+    ensures { OnOk result (out.new ≡ out.old ++ text_of (flat_map device_opens group.now.devices ++ flat_map link_opens group.now.links)) }
 {
     print_devices_opens(group.devices.as_slice(), out)?;
     print_links_opens(group.links.as_slice(), out)
 }
 
-/// Adds a line for each health of a group that is not the greatest, in the order of entities. After `Err` the text holds a
-/// part of them.
+/// Adds a line for each health of a group that is not the greatest, in the order of entities.
 pub fn print_healths(group: &Parts, out: &mut Text) -> Result<(), AllocError>
-    ensures ok { OnOk result (out.new ≡ out.old ++ text_of (flat_map device_healths group.now.devices ++ flat_map link_healths group.now.links)) }
-    ensures err { OnErr result (HoldsPart out.old out.new (text_of (flat_map device_healths group.now.devices ++ flat_map link_healths group.now.links))) }
+    ensures { OnOk result (out.new ≡ out.old ++ text_of (flat_map device_healths group.now.devices ++ flat_map link_healths group.now.links)) }
 {
     print_devices_healths(group.devices.as_slice(), out)?;
     print_links_healths(group.links.as_slice(), out)

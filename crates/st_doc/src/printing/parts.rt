@@ -1,8 +1,7 @@
 //! The lines of a group's parts: devices, links and promises, each in order.
 
-ghost use Rattle.std.specs.Prelude.{◌≡◌, ◌++◌, ◌∷◌, [], OnOk, OnErr, map};
+ghost use Rattle.std.specs.Prelude.{◌≡◌, ◌++◌, ◌∷◌, [], OnOk, map};
 ghost use Rattle.st_text.specs.Words.{text_of};
-ghost use Rattle.st_text.specs.Printed.{HoldsPart};
 ghost use Rattle.st_doc.specs.Printed.{device_words, link_words, promise_words};
 
 use crate::printing::words::{print_line, tor_word};
@@ -10,10 +9,9 @@ use st_net::{DevicePart, LinkPart, PromisePart};
 use st_text::{Text, Word};
 use std::alloc::AllocError;
 
-/// Adds the line of a device. After `Err` the text holds a part of it.
+/// Adds the line of a device.
 fn print_device(device: &DevicePart, out: &mut Text) -> Result<(), AllocError>
-    ensures ok { OnOk result (out.new ≡ out.old ++ text_of (device_words device.now ∷ [])) }
-    ensures err { OnErr result (HoldsPart out.old out.new (text_of (device_words device.now ∷ []))) }
+    ensures { OnOk result (out.new ≡ out.old ++ text_of (device_words device.now ∷ [])) }
 {
     let kind = tor_word(device.tor);
     print_line(
@@ -23,10 +21,9 @@ fn print_device(device: &DevicePart, out: &mut Text) -> Result<(), AllocError>
     )
 }
 
-/// Adds the line of a link. After `Err` the text holds a part of it.
+/// Adds the line of a link.
 fn print_link(link: &LinkPart, out: &mut Text) -> Result<(), AllocError>
-    ensures ok { OnOk result (out.new ≡ out.old ++ text_of (link_words link.now ∷ [])) }
-    ensures err { OnErr result (HoldsPart out.old out.new (text_of (link_words link.now ∷ []))) }
+    ensures { OnOk result (out.new ≡ out.old ++ text_of (link_words link.now ∷ [])) }
 {
     print_line(
         b"link",
@@ -40,10 +37,9 @@ fn print_link(link: &LinkPart, out: &mut Text) -> Result<(), AllocError>
     )
 }
 
-/// Adds the line of a promise. After `Err` the text holds a part of it.
+/// Adds the line of a promise.
 fn print_promise(promise: &PromisePart, out: &mut Text) -> Result<(), AllocError>
-    ensures ok { OnOk result (out.new ≡ out.old ++ text_of (promise_words promise.now ∷ [])) }
-    ensures err { OnErr result (HoldsPart out.old out.new (text_of (promise_words promise.now ∷ []))) }
+    ensures { OnOk result (out.new ≡ out.old ++ text_of (promise_words promise.now ∷ [])) }
 {
     print_line(
         b"promise",
@@ -56,10 +52,9 @@ fn print_promise(promise: &PromisePart, out: &mut Text) -> Result<(), AllocError
     )
 }
 
-/// Adds a line for each device. After `Err` the text holds a part of them.
+/// Adds a line for each device.
 pub fn print_devices(devices: &[DevicePart], out: &mut Text) -> Result<(), AllocError>
-    ensures ok { OnOk result (out.new ≡ out.old ++ text_of (map device_words devices.now)) }
-    ensures err { OnErr result (HoldsPart out.old out.new (text_of (map device_words devices.now))) }
+    ensures { OnOk result (out.new ≡ out.old ++ text_of (map device_words devices.now)) }
 {
     for device in devices {
         print_device(device, out)?;
@@ -67,10 +62,9 @@ pub fn print_devices(devices: &[DevicePart], out: &mut Text) -> Result<(), Alloc
     Ok(())
 }
 
-/// Adds a line for each link, whose ends are printed without a group. After `Err` the text holds a part of them.
+/// Adds a line for each link, whose ends are printed without a group.
 pub fn print_links(links: &[LinkPart], out: &mut Text) -> Result<(), AllocError>
-    ensures ok { OnOk result (out.new ≡ out.old ++ text_of (map link_words links.now)) }
-    ensures err { OnErr result (HoldsPart out.old out.new (text_of (map link_words links.now))) }
+    ensures { OnOk result (out.new ≡ out.old ++ text_of (map link_words links.now)) }
 {
     for link in links {
         print_link(link, out)?;
@@ -78,10 +72,9 @@ pub fn print_links(links: &[LinkPart], out: &mut Text) -> Result<(), AllocError>
     Ok(())
 }
 
-/// Adds a line for each promise. After `Err` the text holds a part of them.
+/// Adds a line for each promise.
 pub fn print_promises(promises: &[PromisePart], out: &mut Text) -> Result<(), AllocError>
-    ensures ok { OnOk result (out.new ≡ out.old ++ text_of (map promise_words promises.now)) }
-    ensures err { OnErr result (HoldsPart out.old out.new (text_of (map promise_words promises.now))) }
+    ensures { OnOk result (out.new ≡ out.old ++ text_of (map promise_words promises.now)) }
 {
     for promise in promises {
         print_promise(promise, out)?;

@@ -1,8 +1,7 @@
 //! The wire lines of groups.
 
-ghost use Rattle.std.specs.Prelude.{◌≡◌, ◌++◌, ◌∷◌, [], OnOk, OnErr, map};
+ghost use Rattle.std.specs.Prelude.{◌≡◌, ◌++◌, ◌∷◌, [], OnOk, map};
 ghost use Rattle.st_text.specs.Words.{text_of};
-ghost use Rattle.st_text.specs.Printed.{HoldsPart};
 ghost use Rattle.st_doc.specs.Printed.{wire_words, wires_lines};
 
 use crate::printing::words::{kind_word, print_line};
@@ -12,10 +11,9 @@ use st_text::{Text, Word};
 use st_wire::WireLine;
 use std::alloc::AllocError;
 
-/// Adds a wire line of the group of a name. After `Err` the text holds a part of it.
+/// Adds a wire line of the group of a name.
 fn print_wire(group: &[u8], line: WireLine, out: &mut Text) -> Result<(), AllocError>
-    ensures ok { OnOk result (out.new ≡ out.old ++ text_of (wire_words group.now line ∷ [])) }
-    ensures err { OnErr result (HoldsPart out.old out.new (text_of (wire_words group.now line ∷ []))) }
+    ensures { OnOk result (out.new ≡ out.old ++ text_of (wire_words group.now line ∷ [])) }
 {
     let group = Word::Plain(group);
     match line {
@@ -51,10 +49,9 @@ fn print_wire(group: &[u8], line: WireLine, out: &mut Text) -> Result<(), AllocE
     }
 }
 
-/// Adds the wire lines of the group of a name. After `Err` the text holds a part of them.
+/// Adds the wire lines of the group of a name.
 fn print_group_wires(group: &[u8], lines: &[WireLine], out: &mut Text) -> Result<(), AllocError>
-    ensures ok { OnOk result (out.new ≡ out.old ++ text_of (map (wire_words group.now) lines.now)) }
-    ensures err { OnErr result (HoldsPart out.old out.new (text_of (map (wire_words group.now) lines.now))) }
+    ensures { OnOk result (out.new ≡ out.old ++ text_of (map (wire_words group.now) lines.now)) }
 {
     for line in lines {
         print_wire(group, *line, out)?;
@@ -62,10 +59,9 @@ fn print_group_wires(group: &[u8], lines: &[WireLine], out: &mut Text) -> Result
     Ok(())
 }
 
-/// Adds the wire lines of groups, each group with its own. After `Err` the text holds a part of them.
+/// Adds the wire lines of groups, each group with its own.
 pub fn print_wires(groups: &[Parts], wires: &[WireLines], out: &mut Text) -> Result<(), AllocError>
-    ensures ok { OnOk result (out.new ≡ out.old ++ text_of (wires_lines groups.now wires.now)) }
-    ensures err { OnErr result (HoldsPart out.old out.new (text_of (wires_lines groups.now wires.now))) }
+    ensures { OnOk result (out.new ≡ out.old ++ text_of (wires_lines groups.now wires.now)) }
 {
     for (group, lines) in groups.iter().zip(wires) {
         print_group_wires(group.name.bytes(), lines.as_slice(), out)?;

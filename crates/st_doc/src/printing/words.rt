@@ -1,8 +1,8 @@
 //! The words that documents alone have, by what they are in a document, and the text of a line. The modules beside make lines of
 //! them.
 
-ghost use Rattle.std.specs.Prelude.{◌≡◌, ◌++◌, ◌∷◌, [], OnOk, OnErr, map};
-ghost use Rattle.st_text.specs.Printed.{HoldsPart, bytes_of};
+ghost use Rattle.std.specs.Prelude.{◌≡◌, ◌++◌, ◌∷◌, [], OnOk, map};
+ghost use Rattle.st_text.specs.Printed.{bytes_of};
 ghost use Rattle.st_text.specs.Words.{text_of};
 ghost use Rattle.st_doc.specs.Printed.{tor_word as tor_word_lem, wire_kind_word as kind_word_lem};
 
@@ -27,10 +27,9 @@ pub fn kind_word(kind: WireKind) -> &'static [u8]
     }
 }
 
-/// Adds a line: its first word, more words, each behind a space, and LF. After `Err` the text holds a part of it.
+/// Adds a line: its first word, more words, each behind a space, and LF.
 pub fn print_line(head: &[u8], words: &[Word], out: &mut Text) -> Result<(), AllocError>
-    ensures ok { OnOk result (out.new ≡ out.old ++ text_of ((head.now ∷ map bytes_of words.now) ∷ [])) }
-    ensures err { OnErr result (HoldsPart out.old out.new (text_of ((head.now ∷ map bytes_of words.now) ∷ []))) }
+    ensures { OnOk result (out.new ≡ out.old ++ text_of ((head.now ∷ map bytes_of words.now) ∷ [])) }
 {
     st_text::print_line(head, words, out)
 }
