@@ -21,7 +21,7 @@ use Rattle.st_overlay.specs.Values.{Values, IsIn, IsTableOf}
 use Rattle.st_entry.specs.Entries.{event_words, reply_words}
 use Rattle.st_entry.specs.Words.{assignment}
 use Rattle.st_world.specs.World.{WorldView}
-use Rattle.st_report.specs.declared.summary.Summary.{Summary}
+use Rattle.st_report.specs.declared.report.Summary.{Summary}
 use Rattle.st_report.specs.Inside.{lost_text, summary_of, summaries_of}
 use Rattle.st_report.specs.Lines.{is_lock_event, locks_among, changed_words, lost_words, histories, seen_words, read_words}
 use Rattle.st_report.proofs.Adding.{chosen, map_twice, map_flat}

@@ -15,8 +15,8 @@ use Rattle.st_net.proofs.Tests.{both}
 use Rattle.st_event.specs.declared.act.Log.{Log}
 use Rattle.st_event.specs.History.{History}
 use Rattle.st_entry.specs.Words.{Words}
-use Rattle.st_report.specs.declared.summary.Summary.{Summary}
-use Rattle.st_report.specs.declared.summary.WireCounts.{WireCounts}
+use Rattle.st_report.specs.declared.report.Summary.{Summary}
+use Rattle.st_report.specs.declared.report.WireCounts.{WireCounts}
 use Rattle.st_report.specs.Inside.{summary_of, summaries_of}
 use Rattle.st_report.specs.Json.{in_quotes, after_commas, in_brackets, list_of_texts, list_of_lines, joined, group_json, report_json_of}
 use Rattle.st_report.specs.JsonInside.{without_space, strings, lines_data, group_data, groups_data, report_data, is_plain_summary}

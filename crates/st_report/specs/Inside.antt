@@ -15,9 +15,9 @@ use Rattle.st_event.specs.History.{History}
 use Rattle.st_event.specs.Moments.{commands, reports}
 use Rattle.st_event.specs.Observed.{actual}
 use Rattle.st_event.specs.Proposals.{version}
-use Rattle.st_report.specs.declared.summary.PromiseCounts.{PromiseCounts}
-use Rattle.st_report.specs.declared.summary.Summary.{Summary}
-use Rattle.st_report.specs.declared.summary.WireCounts.{WireCounts}
+use Rattle.st_report.specs.declared.report.PromiseCounts.{PromiseCounts}
+use Rattle.st_report.specs.declared.report.Summary.{Summary}
+use Rattle.st_report.specs.declared.report.WireCounts.{WireCounts}
 use Rattle.st_entry.specs.Causes.{verdict_words}
 use Rattle.st_entry.specs.Words.{app_word}
 use Rattle.st_report.specs.Counts.{stale_count, old_count, kept_count}

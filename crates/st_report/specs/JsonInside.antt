@@ -2,8 +2,8 @@
 use Rattle.std.specs.Prelude.{ℕ, Bool, ◌&&◌, List, [], ◌∷◌, map, drop, codes}
 use Rattle.std.specs.List.{list_all}
 use Rattle.serde_json.specs.Data.{Data, number, unsigned, string, array, object, Items, no_items, item, Members, member, no_members, put}
-use Rattle.st_report.specs.declared.summary.Summary.{Summary}
-use Rattle.st_report.specs.declared.summary.WireCounts.{WireCounts}
+use Rattle.st_report.specs.declared.report.Summary.{Summary}
+use Rattle.st_report.specs.declared.report.WireCounts.{WireCounts}
 use Rattle.st_entry.specs.Plain.{is_plain}
 
 -- no text of what was gathered of a group needs an escape

@@ -11,8 +11,7 @@ ghost use Rattle.st_report.specs.JsonInside.{is_plain_summary as is_plain_summar
 ghost use Rattle.st_report.specs.Lines.{histories};
 
 use crate::lines::{Lines, without_space};
-use crate::report::{Report, gather};
-use crate::summary::{Summary, WireCounts};
+use crate::report::{Report, Summary, WireCounts, gather};
 use serde_json::{Map, Value, json, put};
 use st_event::Log;
 use st_net::Name;

@@ -11,7 +11,6 @@ mod promises;
 mod receipts;
 mod report;
 mod state;
-mod summary;
 mod sums;
 mod text_report;
 mod up;

@@ -1,27 +1,23 @@
-//! What sums up a group after its journal, in four lines of numbers.
+//! What sums up a group after its journal, in four lines of numbers. Each number is taken from the world, without the lines of its report.
 
-ghost use Rattle.std.specs.Prelude.{◌≡◌, ◌++◌, IfOk, OnOk, OnErr, length};
-ghost use Rattle.st_event.specs.Proposals.{is_accepting as is_accepting_lem};
+ghost use Rattle.std.specs.Prelude.{◌≡◌, ◌++◌, [], IfOk, OnOk, OnErr, length};
+ghost use Rattle.st_event.specs.Moments.{commands, reports};
+ghost use Rattle.st_event.specs.Observed.{actual};
+ghost use Rattle.st_event.specs.Proposals.{version as version_lem};
+ghost use Rattle.st_report.specs.Counts.{kept_count};
+ghost use Rattle.st_report.specs.Lines.{unsettled_words};
 ghost use Rattle.st_report.specs.Sums.{is_refusing as is_refusing_lem, accepted_count as accepted_count_lem, refused_count as refused_count_lem, parts_line, receipts_line, sent_line, held_line, sums_text};
 
-use crate::summary::{Summary, summarize};
+use crate::promises::{judge_promises, mark_count};
+use crate::report::version;
+use crate::wire::{command_count, report_count};
 use st_event::{Entry, Reply, Verdict};
 use st_net::GroupTopo;
 use st_text::{Text, Word, print_line};
 use st_world::World;
 use std::alloc::{AllocError, Global};
 
-/// Whether an entry's reply is a receipt that accepts.
-fn is_accepting(entry: &Entry) -> bool
-    ensures { result ≡ is_accepting_lem entry.now.reply }
-{
-    match &entry.reply {
-        Reply::Decided(receipt) => matches!(receipt.verdict, Verdict::Accepted { .. }),
-        _ => false,
-    }
-}
-
-/// Whether it is one that refuses.
+/// Whether an entry's reply is a receipt that refuses.
 fn is_refusing(entry: &Entry) -> bool
     ensures { result ≡ is_refusing_lem entry.now.reply }
 {
@@ -31,17 +27,19 @@ fn is_refusing(entry: &Entry) -> bool
     }
 }
 
-/// How many receipts accept.
-fn accepted_count(entries: &[Entry]) -> usize
-    ensures { result ≡ accepted_count_lem entries.now }
+/// How many receipts accept: each of them makes a version.
+fn accepted_count(world: &World) -> u32
+    ensures { result ≡ accepted_count_lem world.now.history.past }
 {
-    entries.iter().filter(|entry| is_accepting(entry)).count()
+    world.is_legal();
+    version(world)
 }
 
 /// How many receipts refuse.
-fn refused_count(entries: &[Entry]) -> usize
-    ensures { result ≡ refused_count_lem entries.now }
+fn refused_count(world: &World) -> usize
+    ensures { result ≡ refused_count_lem world.now.history.past }
 {
+    let entries = world.journal();
     entries.iter().filter(|entry| is_refusing(entry)).count()
 }
 
@@ -63,51 +61,54 @@ fn print_parts(topo: &GroupTopo, out: &mut Text) -> Result<(), AllocError>
 }
 
 /// Adds the line that counts the entries of a journal, and its receipts.
-fn print_receipts(summary: &Summary, entries: &[Entry], out: &mut Text) -> Result<(), AllocError>
-    ensures { OnOk result (out.new ≡ out.old ++ receipts_line summary.now.entries summary.now.version (accepted_count_lem entries.now) (refused_count_lem entries.now)) }
+fn print_receipts(world: &World, out: &mut Text) -> Result<(), AllocError>
+    ensures { OnOk result (out.new ≡ out.old ++ receipts_line (length world.now.history.past) (version_lem world.now.history.past) (accepted_count_lem world.now.history.past) (refused_count_lem world.now.history.past)) }
 {
     print_line(
         b"entries",
         &[
-            Word::Number(summary.entries),
+            Word::Number(u64::from(world.entries())),
             Word::Plain(b"version"),
-            Word::Number(summary.version),
+            Word::Number(u64::from(version(world))),
             Word::Plain(b"accepted"),
-            Word::Number(accepted_count(entries) as u64),
+            Word::Number(u64::from(accepted_count(world))),
             Word::Plain(b"refused"),
-            Word::Number(refused_count(entries) as u64),
+            Word::Number(refused_count(world) as u64),
         ],
         out,
     )
 }
 
 /// Adds the line of what was sent and is not settled.
-fn print_sent(summary: &Summary, out: &mut Text) -> Result<(), AllocError>
-    ensures { OnOk result (out.new ≡ out.old ++ sent_line summary.now.wire.commands summary.now.wire.reports (length summary.now.unsettled)) }
+fn print_sent(world: &World, out: &mut Text) -> Result<(), AllocError>
+    ensures { OnOk result (out.new ≡ out.old ++ sent_line (length (commands world.now.history.group world.now.history.past)) (length (reports world.now.history.group world.now.history.past)) (length (unsettled_words world.now.history.group world.now.history.past))) }
 {
+    let wire = world.wire();
+    let unsettled = world.unsettled()?;
     print_line(
         b"commands",
         &[
-            Word::Number(summary.wire.commands),
+            Word::Number(u64::from(command_count(wire))),
             Word::Plain(b"reports"),
-            Word::Number(summary.wire.reports),
+            Word::Number(u64::from(report_count(wire))),
             Word::Plain(b"unsettled"),
-            Word::Number(summary.unsettled.as_slice().len() as u64),
+            Word::Number(unsettled.len() as u64),
         ],
         out,
     )
 }
 
 /// Adds the line of the promises that held at the opening and hold now.
-fn print_held(summary: &Summary, out: &mut Text) -> Result<(), AllocError>
-    ensures { OnOk result (out.new ≡ out.old ++ held_line summary.now.promises.held_at_start summary.now.promises.held_at_end) }
+fn print_held(alloc: Global, world: &World, out: &mut Text) -> Result<(), AllocError>
+    ensures { OnOk result (out.new ≡ out.old ++ held_line (kept_count world.now.history.group (actual world.now.history.group [])) (kept_count world.now.history.group (actual world.now.history.group world.now.history.past))) }
 {
+    let held = judge_promises(alloc, world)?;
     print_line(
         b"start",
         &[
-            Word::Number(summary.promises.held_at_start),
+            Word::Number(mark_count(held.at_start.as_slice()) as u64),
             Word::Plain(b"now"),
-            Word::Number(summary.promises.held_at_end),
+            Word::Number(mark_count(held.at_end.as_slice()) as u64),
         ],
         out,
     )
@@ -117,13 +118,11 @@ fn print_held(summary: &Summary, out: &mut Text) -> Result<(), AllocError>
 fn sums(alloc: Global, world: &World) -> Result<Text, AllocError>
     ensures { IfOk result (λ text. text ≡ sums_text world.now.history.group world.now.history.past) }
 {
-    // How many lines there are does not depend on the applications' names.
-    let summary = summarize(alloc, world, &[])?;
     let mut text = Text::new(alloc);
     print_parts(world.control().topo(), &mut text)?;
-    print_receipts(&summary, world.journal(), &mut text)?;
-    print_sent(&summary, &mut text)?;
-    print_held(&summary, &mut text)?;
+    print_receipts(world, &mut text)?;
+    print_sent(world, &mut text)?;
+    print_held(alloc, world, &mut text)?;
     Ok(text)
 }
 

@@ -8,8 +8,7 @@ ghost use Rattle.st_report.specs.Lines.{histories};
 ghost use Rattle.st_report.specs.Text.{report_text_of};
 
 use crate::lines::{Lines, without_space};
-use crate::report::{Report, gather};
-use crate::summary::Summary;
+use crate::report::{Report, Summary, gather};
 use st_event::Log;
 use st_net::Name;
 use st_text::{Text, Word, print_line};

@@ -2,7 +2,7 @@ use Rattle.std.proofs.Common.{◌∙◌, ◌++◌, ◌∷◌, [], List, ap, code
 use Rattle.std.specs.Prelude.{flat_map}
 use Rattle.st_text.specs.Words.{line}
 use Rattle.st_text.proofs.PrintLemmas.{ok_by}
-use Rattle.st_report.specs.declared.summary.Summary.{Summary}
+use Rattle.st_report.specs.declared.report.Summary.{Summary}
 use Rattle.st_report.specs.Inside.{summary_text, lines_behind}
 use Rattle.st_report.proofs.Adding.{four_added}
 use Rattle.st_report.proofs.text_report.print_report.Goals as goal

@@ -1,7 +1,7 @@
 use Rattle.std.proofs.Common.{◌∙◌, ◌++◌, List, ap, sym}
 use Rattle.std.specs.Prelude.{flat_map}
 use Rattle.std.proofs.lemmas.List.{append-nil, take_all}
-use Rattle.st_report.specs.declared.summary.Summary.{Summary}
+use Rattle.st_report.specs.declared.report.Summary.{Summary}
 use Rattle.st_report.specs.Inside.{summary_text}
 use Rattle.st_report.proofs.Adding.{flat_next}
 use Rattle.st_report.proofs.text_report.print_summaries.Goals as goal

@@ -3,7 +3,7 @@ use Rattle.st_event.specs.declared.journal.Entry.{Entry}
 use Rattle.st_event.specs.Moments.{commands, reports}
 use Rattle.st_report.specs.Counts.{is_stale, is_old, stale_count, old_count}
 use Rattle.st_report.proofs.Counting.{count_reverse}
-use Rattle.st_report.proofs.summary.wire_counts.Goals as goal
+use Rattle.st_report.proofs.report.wire_counts.Goals as goal
 
 pub returns : goal.returns
 returns c =
