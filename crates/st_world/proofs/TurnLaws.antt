@@ -15,7 +15,6 @@ use Rattle.st_event.specs.declared.reply.Reply.TheVariants.{Sent, Reported}
 use Rattle.st_event.specs.declared.journal.Entry.{Entry}
 use Rattle.st_event.specs.declared.journal.TheConstants.{MAX_ENTRIES, MAX_PENDING}
 use Rattle.st_event.specs.Events.{is_check}
-use Rattle.st_event.specs.Legal.{IsLegal}
 use Rattle.st_event.specs.Proposals.{overlays, pending}
 use Rattle.st_event.specs.Services.{entry_after}
 use Rattle.st_event.proofs.Accepting.{accepts_none}

@@ -1,7 +1,6 @@
 use Rattle.std.proofs.Common.{◌≡◌, ℕ, ◌+◌, ◌≤◌, List, [], ◌∷◌, ◌++◌, length, ap, arith, refl, sym, subst, ◌∙◌}
 use Rattle.std.specs.Prelude.{Option, IfSome, reverse}
 use Rattle.st_event.specs.declared.journal.TheConstants.{MAX_ENTRIES}
-use Rattle.st_event.specs.History.{History}
 use Rattle.st_event.specs.Legal.{Fits}
 use Rattle.st_net.specs.Groups.{Group}
 use Rattle.st_control.specs.Control.{ControlView}
