@@ -1,42 +1,22 @@
 -- What stands in a text after one printing and a part of the next, and after some turns of a loop.
-use Rattle.std.proofs.Common.{◌≡◌, ℕ, ◌+◌, ◌<◌, List, [], ◌∷◌, ◌++◌, length, map, get_or, take, drop, refl, sym, ◌∙◌, ap, append_assoc}
+use Rattle.std.proofs.Common.{◌≡◌, ℕ, ◌+◌, ◌<◌, List, [], ◌∷◌, ◌++◌, length, map, get_or, take, refl, sym, ◌∙◌, ap, append_assoc}
 use Rattle.std.specs.Prelude.{Result, Ok, Err, OnErr, OnOk}
-use Rattle.std.proofs.lemmas.List.{append-nil, take_more, drop_more, take-append-drop}
+use Rattle.std.proofs.lemmas.List.{append-nil, take_more}
 use Rattle.st_text.specs.Words.{ended, line_text, text_of, spaced, line}
-use Rattle.st_text.specs.Printed.{HoldsPart}
+use Rattle.st_text.specs.Inside.{Begins}
 
--- nothing was added
-pub part_none : (old new text : List ℕ) → new ≡ old → HoldsPart old new text
-part_none old new text same = record { done = []; left = text; text_is = refl; new_is = same ∙ sym (append-nil old) }
-
--- a part of a text's first part
-pub part_first : (old new a b : List ℕ) → HoldsPart old new a → HoldsPart old new (a ++ b)
-part_first old new a b part = record { done = part.done; left = part.left ++ b; text_is = ap (λ t. t ++ b) part.text_is ∙ append_assoc part.done part.left b; new_is = part.new_is }
-
--- the whole of a first text, and a part of a second
-pub part_next : (old mid new a b : List ℕ) → mid ≡ old ++ a → HoldsPart mid new b → HoldsPart old new (a ++ b)
-part_next old mid new a b whole part = record {
-  done = a ++ part.done;
-  left = part.left;
-  text_is = ap (λ t. a ++ t) part.text_is ∙ sym (append_assoc a part.done part.left);
-  new_is = part.new_is ∙ (ap (λ t. t ++ part.done) whole ∙ append_assoc old a part.done);
-}
+-- one text was added, and a beginning of what follows
+pub begun_next : (old mid new a : List ℕ) → mid ≡ old ++ a → Begins mid new → Begins old new
+begun_next old mid new a whole begun = record { more = a ++ begun.more; new_is = begun.new_is ∙ (ap (λ t. t ++ begun.more) whole ∙ append_assoc old a begun.more) }
 
 -- the whole of two texts
 pub both_added : (old mid new a b : List ℕ) → mid ≡ old ++ a → new ≡ mid ++ b → new ≡ old ++ (a ++ b)
 both_added old mid new a b first second = second ∙ (ap (λ t. t ++ b) first ∙ append_assoc old a b)
 
-pub part_along : (old new text whole : List ℕ) → text ≡ whole → HoldsPart old new whole → HoldsPart old new text
-part_along old new text whole is part = record { done = part.done; left = part.left; text_is = is ∙ part.text_is; new_is = part.new_is }
-
 -- what holds after an Err, or after an Ok
 pub err_of : {T E P : Type 0} (r : Result T E) → P → OnErr r P
 err_of (Ok x) p = tt
 err_of (Err e) p = p
-
-pub err_by : {T E P Q : Type 0} (r : Result T E) → (P → Q) → OnErr r P → OnErr r Q
-err_by (Ok x) f p = tt
-err_by (Err e) f p = f p
 
 pub ok_by : {T E P Q : Type 0} (r : Result T E) → (P → Q) → OnOk r P → OnOk r Q
 ok_by (Err e) f p = tt
@@ -60,14 +40,6 @@ pub by_next : {X : Type 0} (F : List X → List ℕ) (f : X → List ℕ) → Is
 by_next F f by xs i x d old mid new within is before added =
     let step : F (take (i + 1) xs) ≡ F (take i xs) ++ f x = ap F (take_more xs i d within) ∙ (by_append F f by (take i xs) (get_or xs i d ∷ []) ∙ ap (λ t. F (take i xs) ++ t) (by_one F f by (get_or xs i d) ∙ ap f (sym is))) in
     both_added old mid new (F (take i xs)) (f x) before added ∙ ap (λ t. old ++ t) (sym step)
-
--- a turn that broke off
-pub by_part : {X : Type 0} (F : List X → List ℕ) (f : X → List ℕ) → IsByElement F f → (xs : List X) (i : ℕ) (x d : X) (old mid new : List ℕ) → i < length xs → x ≡ get_or xs i d → mid ≡ old ++ F (take i xs) → HoldsPart mid new (f x) → HoldsPart old new (F xs)
-by_part F f by xs i x d old mid new within is before part =
-    let rest : F (drop i xs) ≡ f x ++ F (drop (i + 1) xs) = ap F (drop_more xs i d within) ∙ (by.more (get_or xs i d) (drop (i + 1) xs) ∙ ap (λ y. f y ++ F (drop (i + 1) xs)) (sym is)) in
-    let whole : F xs ≡ F (take i xs) ++ (f x ++ F (drop (i + 1) xs)) = ap F (sym (take-append-drop i xs)) ∙ (by_append F f by (take i xs) (drop i xs) ∙ ap (λ t. F (take i xs) ++ t) rest) in
-    let both_parts = part_next old mid new (F (take i xs)) (f x ++ F (drop (i + 1) xs)) before (part_first mid new (f x) (F (drop (i + 1) xs)) part) in
-    record { done = both_parts.done; left = both_parts.left; text_is = whole ∙ both_parts.text_is; new_is = both_parts.new_is }
 
 -- words, each behind a space, by these
 pub words_by : {X : Type 0} (word : X → List ℕ) → IsByElement (λ xs. spaced (map word xs)) (λ x. 32 ∷ word x)

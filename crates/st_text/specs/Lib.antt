@@ -1,4 +1,5 @@
 pub mod AllowedBytes
+pub mod Inside
 pub mod Lines
 pub mod Numbers
 pub mod Printed

@@ -1,5 +1,5 @@
--- What a printer adds to a text: the words that it is given, and a part of them where memory ends.
-use Rattle.std.specs.Prelude.{◌≡◌, ℕ, List, ◌∷◌, ◌++◌, decimal}
+-- What a printer adds to a text: the bytes of the words that it is given.
+use Rattle.std.specs.Prelude.{ℕ, List, ◌∷◌, ◌++◌, decimal}
 use Rattle.st_text.specs.declared.words.Word.{Word}
 use Rattle.st_text.specs.declared.words.Word.TheVariants.{Plain, Number, Variable, Assignment, Value}
 
@@ -20,10 +20,3 @@ bytes_of (Number n) = decimal n
 bytes_of (Variable name var) = variable_word name.now var.now
 bytes_of (Assignment name var value) = assignment_word name.now var.now value
 bytes_of (Value var value) = value_word var.now value
-
--- behind what the text held stands a part of this one, from its beginning
-pub record HoldsPart (old new text : List ℕ) : Type 0 where
-  pub done : List ℕ
-  pub left : List ℕ
-  pub text_is : text ≡ done ++ left
-  pub new_is : new ≡ old ++ done

@@ -1,6 +1,6 @@
 //! A text that is printed piece by piece: its lines are added word by word, and its bytes are then written out.
 
-ghost use Rattle.std.specs.Prelude.{◌≡◌, ◌++◌, [], OnOk, OnErr, decimal};
+ghost use Rattle.std.specs.Prelude.{◌≡◌, ◌++◌, [], OnOk, OnErr, decimal, length, take};
 
 use std::alloc::{AllocError, Global};
 use std::marker::Model;
@@ -47,6 +47,20 @@ impl Text {
     {
         let digits = n.to_string(self.alloc)?;
         self.bytes.extend_from_slice(digits.as_bytes())
+    }
+
+    /// How many bytes there are.
+    pub fn len(&self) -> usize
+        ensures { result ≡ length self.now }
+    {
+        self.bytes.len()
+    }
+
+    /// Drops all behind the first bytes.
+    pub(crate) fn cut(&mut self, len: usize)
+        ensures { self.new ≡ take len self.old }
+    {
+        self.bytes.truncate(len);
     }
 
     /// The bytes that were added, in order.

@@ -3,7 +3,8 @@
 
 ghost use Rattle.std.specs.Prelude.{◌≡◌, ◌++◌, ◌∷◌, [], OnOk, OnErr, map};
 ghost use Rattle.st_text.specs.Words.{spaced, line};
-ghost use Rattle.st_text.specs.Printed.{HoldsPart, bytes_of, value_word, assignment_word, variable_word};
+ghost use Rattle.st_text.specs.Printed.{bytes_of, value_word, assignment_word, variable_word};
+ghost use Rattle.st_text.specs.Inside.{Begins, between};
 
 use crate::printing::Text;
 use std::alloc::AllocError;
@@ -33,81 +34,108 @@ pub enum Word<'a> {
     },
 }
 
-/// Adds VAR=NUMBER. After `Err` the text holds a part of it.
-fn print_value(var: &[u8], value: u32, out: &mut Text) -> Result<(), AllocError>
+/// Adds VAR=NUMBER. At `Err` a part of it may stand behind what the text held.
+fn add_value(var: &[u8], value: u32, out: &mut Text) -> Result<(), AllocError>
     ensures ok { OnOk result (out.new ≡ out.old ++ value_word var.now value) }
-    ensures err { OnErr result (HoldsPart out.old out.new (value_word var.now value)) }
+    ensures err { OnErr result (Begins out.old out.new) }
 {
     out.word(var)?;
     out.word(b"=")?;
     out.num(u64::from(value))
 }
 
-/// Adds NAME.VAR=NUMBER. After `Err` the text holds a part of it.
-fn print_assignment(name: &[u8], var: &[u8], value: u32, out: &mut Text) -> Result<(), AllocError>
-    ensures ok { OnOk result (out.new ≡ out.old ++ assignment_word name.now var.now value) }
-    ensures err { OnErr result (HoldsPart out.old out.new (assignment_word name.now var.now value)) }
-{
-    out.word(name)?;
-    out.word(b".")?;
-    print_value(var, value, out)
-}
-
-/// Adds NAME.VAR. After `Err` the text holds a part of it.
-fn print_variable(name: &[u8], var: &[u8], out: &mut Text) -> Result<(), AllocError>
+/// Adds NAME.VAR. At `Err` a part of it may stand behind what the text held.
+fn add_variable(name: &[u8], var: &[u8], out: &mut Text) -> Result<(), AllocError>
     ensures ok { OnOk result (out.new ≡ out.old ++ variable_word name.now var.now) }
-    ensures err { OnErr result (HoldsPart out.old out.new (variable_word name.now var.now)) }
+    ensures err { OnErr result (Begins out.old out.new) }
 {
     out.word(name)?;
     out.word(b".")?;
     out.word(var)
 }
 
-/// Adds a space and the word. `Err` is for want of memory alone, and the text then holds a part of them behind what it held.
-pub fn print_word(word: Word, out: &mut Text) -> Result<(), AllocError>
+/// Adds NAME.VAR=NUMBER. At `Err` a part of it may stand behind what the text held.
+fn add_assignment(name: &[u8], var: &[u8], value: u32, out: &mut Text) -> Result<(), AllocError>
+    ensures ok { OnOk result (out.new ≡ out.old ++ assignment_word name.now var.now value) }
+    ensures err { OnErr result (Begins out.old out.new) }
+{
+    out.word(name)?;
+    out.word(b".")?;
+    add_value(var, value, out)
+}
+
+/// Adds a space and the word. At `Err` a part of them may stand behind what the text held.
+fn add_word(word: Word, out: &mut Text) -> Result<(), AllocError>
     ensures ok { OnOk result (out.new ≡ out.old ++ 32 ∷ bytes_of word.entry) }
-    ensures err { OnErr result (HoldsPart out.old out.new (32 ∷ bytes_of word.entry)) }
+    ensures err { OnErr result (Begins out.old out.new) }
 {
     out.word(b" ")?;
     match word {
         Word::Plain(bytes) => out.word(bytes),
         Word::Number(number) => out.num(number),
-        Word::Variable { name, var } => print_variable(name, var, out),
-        Word::Assignment { name, var, value } => print_assignment(name, var, value, out),
-        Word::Value { var, value } => print_value(var, value, out),
+        Word::Variable { name, var } => add_variable(name, var, out),
+        Word::Assignment { name, var, value } => add_assignment(name, var, value, out),
+        Word::Value { var, value } => add_value(var, value, out),
     }
 }
 
-/// Adds words, each behind a space. `Err` is for want of memory alone, and the text then holds a part of them behind what it
-/// held.
+/// Adds bytes, words, each behind a space, and more bytes. At `Err` a part of them may stand behind what the text held.
+fn add_between(head: &[u8], words: &[Word], end: &[u8], out: &mut Text) -> Result<(), AllocError>
+    ensures ok { OnOk result (out.new ≡ out.old ++ between head.now words.now end.now) }
+    ensures err { OnErr result (Begins out.old out.new) }
+{
+    out.word(head)?;
+    for word in words {
+        add_word(*word, out)?;
+    }
+    out.word(end)
+}
+
+/// Adds bytes, words, each behind a space, and more bytes. `Err` is for want of memory alone, and leaves the text as it was.
+fn print_between(head: &[u8], words: &[Word], end: &[u8], out: &mut Text) -> Result<(), AllocError>
+    ensures ok { OnOk result (out.new ≡ out.old ++ between head.now words.now end.now) }
+    ensures err { OnErr result (out.new ≡ out.old) }
+{
+    let before = out.len();
+    let added = add_between(head, words, end, out);
+    if added.is_err() {
+        out.cut(before);
+    }
+    added
+}
+
+/// Adds a space and the word. `Err` is for want of memory alone, and leaves the text as it was.
+pub fn print_word(word: Word, out: &mut Text) -> Result<(), AllocError>
+    ensures ok { OnOk result (out.new ≡ out.old ++ 32 ∷ bytes_of word.entry) }
+    ensures err { OnErr result (out.new ≡ out.old) }
+{
+    print_words(&[word], out)
+}
+
+/// Adds words, each behind a space. `Err` is for want of memory alone, and leaves the text as it was.
 pub fn print_words(words: &[Word], out: &mut Text) -> Result<(), AllocError>
     ensures ok { OnOk result (out.new ≡ out.old ++ spaced (map bytes_of words.now)) }
-    ensures err { OnErr result (HoldsPart out.old out.new (spaced (map bytes_of words.now))) }
+    ensures err { OnErr result (out.new ≡ out.old) }
 {
-    for word in words {
-        print_word(*word, out)?;
-    }
-    Ok(())
+    print_between(b"", words, b"", out)
 }
 
 /// Adds the beginning of a line: its first word and more words, each behind a space. `Err` is for want of memory alone, and
-/// the text then holds a part of it behind what it held.
+/// leaves the text as it was.
 pub fn begin_line(head: &[u8], words: &[Word], out: &mut Text) -> Result<(), AllocError>
     ensures ok { OnOk result (out.new ≡ out.old ++ (head.now ++ spaced (map bytes_of words.now))) }
-    ensures err { OnErr result (HoldsPart out.old out.new (head.now ++ spaced (map bytes_of words.now))) }
+    ensures err { OnErr result (out.new ≡ out.old) }
 {
-    out.word(head)?;
-    print_words(words, out)
+    print_between(head, words, b"", out)
 }
 
-/// Adds a line: its first word, more words, each behind a space, and LF. `Err` is for want of memory alone, and the text then
-/// holds a part of it behind what it held.
+/// Adds a line: its first word, more words, each behind a space, and LF. `Err` is for want of memory alone, and leaves the
+/// text as it was.
 pub fn print_line(head: &[u8], words: &[Word], out: &mut Text) -> Result<(), AllocError>
     ensures ok { OnOk result (out.new ≡ out.old ++ line head.now (map bytes_of words.now)) }
-    ensures err { OnErr result (HoldsPart out.old out.new (line head.now (map bytes_of words.now))) }
+    ensures err { OnErr result (out.new ≡ out.old) }
 {
-    begin_line(head, words, out)?;
-    out.word(b"\n")
+    print_between(head, words, b"\n", out)
 }
 
 #[cfg(test)]
