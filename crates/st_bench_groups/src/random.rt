@@ -3,8 +3,7 @@ ghost use Rattle.std.specs.Prelude.{◌<◌, ◌≤◌, ◌+◌, ◌*◌, All, l
 ghost use Rattle.st_bench_groups.specs.Measured.{AreFew, AsksPercent};
 
 use st_net::{
-    DevicePart, DeviceParts, EndPart, LinkPart, LinkParts, MAX_CAPACITY, MAX_LINKS, Name, Parts,
-    PromisePart, PromiseParts, Vals,
+    DevicePart, EndPart, Items, LinkPart, MAX_CAPACITY, MAX_LINKS, Name, Parts, PromisePart, Vals,
 };
 use std::alloc::{AllocError, Global};
 
@@ -127,7 +126,7 @@ fn promise_part(
     }
 }
 
-fn devices(alloc: Global) -> Result<DeviceParts, AllocError>
+fn devices(alloc: Global) -> Result<Items<DevicePart>, AllocError>
     ensures { IfOk result (λ parts. length parts ≤ TORS + OTHERS) }
 {
     let mut parts = Vec::new(alloc);
@@ -136,7 +135,7 @@ fn devices(alloc: Global) -> Result<DeviceParts, AllocError>
             parts.push(part)?;
         }
     }
-    Ok(DeviceParts::new(parts))
+    Ok(Items::new(parts))
 }
 
 /// Adds a link, unless its ends are one device, or there are as many links as a group may have.
@@ -176,7 +175,7 @@ fn add_tor_links(
     Ok(())
 }
 
-fn links(alloc: Global) -> Result<LinkParts, AllocError>
+fn links(alloc: Global) -> Result<Items<LinkPart>, AllocError>
     ensures { IfOk result (λ parts. length parts ≤ MAX_LINKS) }
 {
     let mut numbers = Numbers { state: 1 };
@@ -190,7 +189,7 @@ fn links(alloc: Global) -> Result<LinkParts, AllocError>
         let b = numbers.other();
         add_link(alloc, a, b, numbers.capacity(), &mut parts)?;
     }
-    Ok(LinkParts::new(parts))
+    Ok(Items::new(parts))
 }
 
 /// Adds a promise between two ToRs.
@@ -229,7 +228,7 @@ fn add_promises(
     Ok(())
 }
 
-fn promises(alloc: Global, percent: u32) -> Result<PromiseParts, AllocError>
+fn promises(alloc: Global, percent: u32) -> Result<Items<PromisePart>, AllocError>
     ensures percent { IfOk result (All (AsksPercent percent)) }
     ensures few { IfOk result (λ parts. length parts ≤ TORS * TORS) }
 {
@@ -237,7 +236,7 @@ fn promises(alloc: Global, percent: u32) -> Result<PromiseParts, AllocError>
     for a in 0..TORS {
         add_promises(alloc, a, percent, &mut parts)?;
     }
-    Ok(PromiseParts::new(parts))
+    Ok(Items::new(parts))
 }
 
 /// The name of the group.

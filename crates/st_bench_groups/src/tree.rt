@@ -5,9 +5,7 @@ ghost use Rattle.st_gen.specs.Generated.{IsPods};
 ghost use Rattle.st_bench_groups.specs.Measured.{AreFew, AsksPercent, parts_with, pods as pods_lem, promise_with, tree_with};
 
 use st_gen::generate;
-use st_net::{
-    DevicePart, DeviceParts, EndPart, LinkPart, LinkParts, Name, Parts, PromisePart, PromiseParts,
-};
+use st_net::{DevicePart, EndPart, Items, LinkPart, Name, Parts, PromisePart};
 use std::alloc::{AllocError, Global};
 
 /// The pods of the tree.
@@ -77,24 +75,24 @@ fn promise_of(alloc: Global, promise: &PromisePart, percent: u32) -> Result<Prom
     })
 }
 
-fn devices_copy(alloc: Global, devices: &[DevicePart]) -> Result<DeviceParts, AllocError>
+fn devices_copy(alloc: Global, devices: &[DevicePart]) -> Result<Items<DevicePart>, AllocError>
     ensures { IfOk result (λ copy. copy ≡ devices.now) }
 {
     let mut parts = Vec::new(alloc);
     for device in devices {
         parts.push(device_copy(alloc, device)?)?;
     }
-    Ok(DeviceParts::new(parts))
+    Ok(Items::new(parts))
 }
 
-fn links_copy(alloc: Global, links: &[LinkPart]) -> Result<LinkParts, AllocError>
+fn links_copy(alloc: Global, links: &[LinkPart]) -> Result<Items<LinkPart>, AllocError>
     ensures { IfOk result (λ copy. copy ≡ links.now) }
 {
     let mut parts = Vec::new(alloc);
     for link in links {
         parts.push(link_copy(alloc, link)?)?;
     }
-    Ok(LinkParts::new(parts))
+    Ok(Items::new(parts))
 }
 
 /// Promises to the same pairs, of so many percent each.
@@ -102,14 +100,14 @@ fn promises_of(
     alloc: Global,
     promises: &[PromisePart],
     percent: u32,
-) -> Result<PromiseParts, AllocError>
+) -> Result<Items<PromisePart>, AllocError>
     ensures { IfOk result (λ parts. parts ≡ map (promise_with percent) promises.now) }
 {
     let mut parts = Vec::new(alloc);
     for promise in promises {
         parts.push(promise_of(alloc, promise, percent)?)?;
     }
-    Ok(PromiseParts::new(parts))
+    Ok(Items::new(parts))
 }
 
 /// The same group, with promises of so many percent.

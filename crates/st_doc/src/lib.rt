@@ -10,4 +10,4 @@ mod reading;
 pub use printing::print_doc;
 pub use printing_back::prints_back;
 pub use reading::read_doc;
-pub use st_grammar::{Doc, DocKind, DocRead, MAX_ACTS, Script, WireLines};
+pub use st_grammar::{Doc, DocKind, DocRead, MAX_ACTS, Script};

@@ -11,10 +11,8 @@ mod opening;
 mod parts;
 
 use crate::numbers::Numbers;
-use st_grammar::{PartWord, WireLines};
-use st_net::{
-    DevicePart, DeviceParts, Entity, LinkPart, LinkParts, Name, Parts, PromisePart, PromiseParts,
-};
+use st_grammar::PartWord;
+use st_net::{DevicePart, Entity, Items, LinkPart, Name, Parts, PromisePart};
 use st_text::Token;
 use st_token::{FaultKind, LineError, NamedEntities, Names, Pairs, RowSet, name_in};
 use st_wire::WireLine;
@@ -38,7 +36,7 @@ pub struct Group {
     // The devices and the links whose health is given.
     told_devices: Numbers,
     told_links: Numbers,
-    wires: WireLines,
+    wires: Items<WireLine>,
 }
 
 impl Model for Group {
@@ -70,20 +68,20 @@ impl Group {
             opens: RowSet::new(alloc),
             told_devices: Numbers::new(alloc),
             told_links: Numbers::new(alloc),
-            wires: WireLines::new(Vec::new(alloc)),
+            wires: Items::none(alloc),
         }
     }
 
     /// The parts that were declared, and the wire lines.
-    pub fn into_parts(self) -> (Parts, WireLines)
+    pub fn into_parts(self) -> (Parts, Items<WireLine>)
         ensures parts { result.0 ≡ parts_of self }
         ensures wires { result.1 ≡ self.wires }
     {
         let parts = Parts {
             name: self.name,
-            devices: DeviceParts::new(self.devices),
-            links: LinkParts::new(self.links),
-            promises: PromiseParts::new(self.promises),
+            devices: Items::new(self.devices),
+            links: Items::new(self.links),
+            promises: Items::new(self.promises),
         };
         (parts, self.wires)
     }

@@ -1,11 +1,7 @@
 //! What an application's script asks for, and what its log saw.
 
-ghost use Rattle.std.specs.Prelude.{◌≡◌, [], ◌∷◌, ◌++◌, OnOk, OnErr};
-
 use crate::rows::Rows;
-use st_net::{AppId, Entity, Prio, Var};
-use std::alloc::{AllocError, Global};
-use std::marker::Model;
+use st_net::{AppId, Entity, Items, Prio, Var};
 
 /// One command of a script. Groups are named by their numbers from 0 in the order of the document.
 #[derive(Drop)]
@@ -83,58 +79,9 @@ pub struct LogEntry {
     pub saw: LogSaw,
 }
 
-/// The lines of a log in order. Contracts see the list.
-#[derive(Drop)]
-pub struct LogEntries {
-    entries: Vec<LogEntry>,
-}
-
 /// What one application's commands saw, in their order.
 #[derive(Drop)]
 pub struct Log {
     pub app: AppId,
-    pub entries: LogEntries,
-}
-
-impl Model for LogEntries {
-    ghost use Rattle.std.specs.Prelude.{List};
-    ghost use Rattle.st_event.specs.declared.act.LogEntry.{LogEntry};
-
-    ghost Value = { List LogEntry };
-
-    ghost view = { λ e. e.entries.items };
-}
-
-impl LogEntries {
-    /// These lines, in order.
-    pub fn new(entries: Vec<LogEntry>) -> LogEntries
-        ensures { result ≡ entries.items }
-    {
-        LogEntries { entries }
-    }
-
-    /// No line.
-    pub fn none(alloc: Global) -> LogEntries
-        ensures { result ≡ [] }
-    {
-        LogEntries {
-            entries: Vec::new(alloc),
-        }
-    }
-
-    /// Adds a line at the end. At `Err` nothing has changed.
-    pub fn add(&mut self, entry: LogEntry) -> Result<(), AllocError>
-        ensures ok { OnOk result (self.new ≡ self.old ++ entry ∷ []) }
-        ensures err { OnErr result (self.new ≡ self.old) }
-    {
-        self.entries.push(entry)?;
-        Ok(())
-    }
-
-    /// The lines, in order.
-    pub fn as_slice(&self) -> &[LogEntry]
-        ensures { result.now ≡ self.now }
-    {
-        self.entries.as_slice()
-    }
+    pub entries: Items<LogEntry>,
 }

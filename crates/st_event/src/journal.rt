@@ -5,8 +5,8 @@ ghost use Rattle.st_event.specs.Events.{is_without_rows, is_without_side};
 
 use crate::event::Event;
 use crate::reply::Reply;
+use st_net::Items;
 use std::alloc::{AllocError, Global};
-use std::marker::Model;
 
 /// The most entries of a group's journal.
 pub const MAX_ENTRIES: usize = 200_000;
@@ -27,26 +27,12 @@ pub struct Entry {
     pub reply: Reply,
 }
 
-/// Entries in order, the oldest first: the first has number 1. Contracts see the list.
-#[derive(Drop)]
-pub struct Entries {
-    entries: Vec<Entry>,
-}
-
-/// The journal of one group, which is named by its number from 0 in the order of the document.
+/// The journal of one group, which is named by its number from 0 in the order of the document. Its entries stand the oldest first: the
+/// first has number 1.
 #[derive(Drop)]
 pub struct Journal {
     pub group: u32,
-    pub entries: Entries,
-}
-
-impl Model for Entries {
-    ghost use Rattle.std.specs.Prelude.{List};
-    ghost use Rattle.st_event.specs.declared.journal.Entry.{Entry};
-
-    ghost Value = { List Entry };
-
-    ghost view = { λ e. e.entries.items };
+    pub entries: Items<Entry>,
 }
 
 impl Entry {
@@ -59,29 +45,6 @@ impl Entry {
             event: self.event.copy(alloc)?,
             reply: self.reply.copy(alloc)?,
         })
-    }
-}
-
-impl Entries {
-    /// These entries, the oldest first.
-    pub fn new(entries: Vec<Entry>) -> Entries
-        ensures { result ≡ entries.items }
-    {
-        Entries { entries }
-    }
-
-    /// The entries, the oldest first.
-    pub fn as_slice(&self) -> &[Entry]
-        ensures { result.now ≡ self.now }
-    {
-        self.entries.as_slice()
-    }
-
-    /// The entries, given back without taking memory.
-    pub fn into_vec(self) -> Vec<Entry>
-        ensures { result.items ≡ self }
-    {
-        self.entries
     }
 }
 
@@ -138,7 +101,7 @@ mod tests {
         })?;
         let journal = Journal {
             group: 0,
-            entries: Entries::new(entries),
+            entries: Items::new(entries),
         };
         let mut checks = 0;
         let mut hears_after_check = 0;

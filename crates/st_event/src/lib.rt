@@ -9,8 +9,8 @@ pub mod laws;
 mod reply;
 mod rows;
 
-pub use act::{Act, Log, LogEntries, LogEntry, LogSaw};
+pub use act::{Act, Log, LogEntry, LogSaw};
 pub use event::{Event, Proposal};
-pub use journal::{Entries, Entry, Journal, MAX_ENTRIES, MAX_PENDING, journal_limits};
+pub use journal::{Entry, Journal, MAX_ENTRIES, MAX_PENDING, journal_limits};
 pub use reply::{Cause, Lack, Receipt, Reply, Verdict};
 pub use rows::Rows;

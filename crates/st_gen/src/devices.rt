@@ -8,7 +8,7 @@ ghost use Rattle.st_gen.specs.Generated.{IsPods};
 
 use crate::names::name_at;
 use crate::step::Step;
-use st_net::{DevicePart, DeviceParts, Vals};
+use st_net::{DevicePart, Items, Vals};
 use st_token::DEVICE_HEALTH;
 use std::alloc::{AllocError, Global};
 
@@ -99,7 +99,7 @@ fn add_cores(alloc: Global, count: u32, parts: &mut Vec<DevicePart>) -> Result<(
 }
 
 /// The devices of a fat tree.
-pub fn devices(alloc: Global, pods: u32) -> Result<DeviceParts, AllocError>
+pub fn devices(alloc: Global, pods: u32) -> Result<Items<DevicePart>, AllocError>
     requires { IsPods pods }
     ensures { IfOk result (λ parts. parts ≡ devices_lem pods) }
 {
@@ -109,5 +109,5 @@ pub fn devices(alloc: Global, pods: u32) -> Result<DeviceParts, AllocError>
         add_pod(alloc, half, pod, &mut parts)?;
     }
     add_cores(alloc, half * half, &mut parts)?;
-    Ok(DeviceParts::new(parts))
+    Ok(Items::new(parts))
 }

@@ -10,8 +10,8 @@ use crate::links::links;
 use crate::names::name_of;
 use crate::promises::promises;
 use crate::scripts::{engineer, upgrader};
-use st_grammar::{AppOrder, Doc, DocGroups, DocWires, Scripts, WireLines};
-use st_net::Parts;
+use st_grammar::Doc;
+use st_net::{Items, Parts};
 use std::alloc::{AllocError, Global};
 
 /// The group of so many pods.
@@ -36,10 +36,10 @@ fn document(alloc: Global, pods: u32, seed: u32) -> Result<Doc, AllocError>
     let up = upgrader(alloc, pods, seed)?;
     let te = engineer(alloc, pods)?;
     Ok(Doc {
-        groups: DocGroups::new(vec![in alloc; group]?),
-        wires: DocWires::new(vec![in alloc; WireLines::new(Vec::new(alloc))]?),
-        apps: Scripts::new(vec![in alloc; up, te]?),
-        order: AppOrder::new(Vec::new(alloc)),
+        groups: Items::new(vec![in alloc; group]?),
+        wires: Items::new(vec![in alloc; Items::none(alloc)]?),
+        apps: Items::new(vec![in alloc; up, te]?),
+        order: Items::none(alloc),
         journal_at: None,
     })
 }

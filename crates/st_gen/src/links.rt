@@ -8,7 +8,7 @@ ghost use Rattle.st_gen.specs.Generated.{IsPods};
 
 use crate::names::name_at;
 use crate::step::Step;
-use st_net::{EndPart, LinkPart, LinkParts, Vals};
+use st_net::{EndPart, Items, LinkPart, Vals};
 use st_token::LINK_HEALTH;
 use std::alloc::{AllocError, Global};
 
@@ -157,7 +157,7 @@ fn add_pod(alloc: Global, half: u32, pod: u32, parts: &mut Vec<LinkPart>) -> Res
 }
 
 /// The links of a fat tree.
-pub fn links(alloc: Global, pods: u32) -> Result<LinkParts, AllocError>
+pub fn links(alloc: Global, pods: u32) -> Result<Items<LinkPart>, AllocError>
     requires { IsPods pods }
     ensures { IfOk result (λ parts. parts ≡ links_lem pods) }
 {
@@ -166,5 +166,5 @@ pub fn links(alloc: Global, pods: u32) -> Result<LinkParts, AllocError>
     for pod in 0..pods {
         add_pod(alloc, half, pod, &mut parts)?;
     }
-    Ok(LinkParts::new(parts))
+    Ok(Items::new(parts))
 }

@@ -6,7 +6,7 @@ ghost use Rattle.st_gen.specs.Generated.{IsPods};
 
 use crate::names::name_at;
 use crate::step::Step;
-use st_net::{Name, PromisePart, PromiseParts};
+use st_net::{Items, Name, PromisePart};
 use std::alloc::{AllocError, Global};
 
 /// The share of what two ToRs can exchange that is promised, in percent.
@@ -64,18 +64,18 @@ fn add_promises(
 }
 
 /// The promises between every two of these ToRs.
-fn promises_among(alloc: Global, names: &[Name]) -> Result<PromiseParts, AllocError>
+fn promises_among(alloc: Global, names: &[Name]) -> Result<Items<PromisePart>, AllocError>
     ensures { IfOk result (λ parts. parts ≡ promises_among_lem names.now) }
 {
     let mut parts = Vec::new(alloc);
     for (i, a) in names.iter().enumerate() {
         add_promises(alloc, a, &names[i + 1..], &mut parts)?;
     }
-    Ok(PromiseParts::new(parts))
+    Ok(Items::new(parts))
 }
 
 /// The promises of a fat tree.
-pub fn promises(alloc: Global, pods: u32) -> Result<PromiseParts, AllocError>
+pub fn promises(alloc: Global, pods: u32) -> Result<Items<PromisePart>, AllocError>
     requires { IsPods pods }
     ensures { IfOk result (λ parts. parts ≡ promises_among_lem (tor_names_lem pods)) }
 {

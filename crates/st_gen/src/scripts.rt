@@ -7,8 +7,8 @@ ghost use Rattle.st_gen.specs.Generated.{IsPods};
 
 use crate::names::name_of;
 use st_event::{Act, Rows};
-use st_grammar::{Acts, Script};
-use st_net::{Entity, Prio, Row, Var};
+use st_grammar::Script;
+use st_net::{Entity, Items, Prio, Row, Var};
 use std::alloc::{AllocError, Global};
 
 /// The number of the only group.
@@ -134,7 +134,7 @@ pub fn upgrader(alloc: Global, pods: u32, seed: u32) -> Result<Script, AllocErro
     add_whole_pod(alloc, pods, value + 1, seed % pods, &mut acts)?;
     Ok(Script {
         name: name_of(alloc, b"up")?,
-        acts: Acts::new(acts),
+        acts: Items::new(acts),
     })
 }
 
@@ -161,6 +161,6 @@ pub fn engineer(alloc: Global, pods: u32) -> Result<Script, AllocError>
     };
     Ok(Script {
         name: name_of(alloc, b"te")?,
-        acts: Acts::new(vec![in alloc; lock, read, unlock]?),
+        acts: Items::new(vec![in alloc; lock, read, unlock]?),
     })
 }

@@ -1,14 +1,15 @@
 //! What a document declares. The reader makes it from text, and the runs and the printer take it.
 
-use crate::lists::{Acts, AppOrder, DocGroups, DocWires, Scripts};
-use st_net::Name;
+use st_event::Act;
+use st_net::{Items, Name, Parts};
 use st_token::LineFault;
+use st_wire::WireLine;
 
-/// An application with its acts.
+/// An application with its acts, in order.
 #[derive(Drop)]
 pub struct Script {
     pub name: Name,
-    pub acts: Acts,
+    pub acts: Items<Act>,
 }
 
 /// Where the journals of a document begin: the index of the first byte of the line, and the line's number from 1.
@@ -22,10 +23,12 @@ pub struct JournalAt {
 /// and where its journals stand, if it has some.
 #[derive(Drop)]
 pub struct Doc {
-    pub groups: DocGroups,
-    pub wires: DocWires,
-    pub apps: Scripts,
-    pub order: AppOrder,
+    pub groups: Items<Parts>,
+    /// The wire lines of each group, in the order of groups.
+    pub wires: Items<Items<WireLine>>,
+    pub apps: Items<Script>,
+    /// Applications by their numbers from 0, in the order in which each does its next act.
+    pub order: Items<u32>,
     pub journal_at: Option<JournalAt>,
 }
 

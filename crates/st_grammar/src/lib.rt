@@ -5,10 +5,8 @@
 mod doc;
 mod keyword;
 mod limits;
-mod lists;
 
 pub use doc::{Doc, DocRead, JournalAt, Script};
 pub use keyword::{ActWord, Keyword, PartWord, WireWord, keyword_of, phase_of};
 pub use limits::{MAX_ACTS, MAX_APPS, MAX_GROUPS, MAX_ROUNDS, MAX_WIRE_LINES, document_limits};
-pub use lists::{Acts, AppOrder, DocGroups, DocWires, Scripts, WireLines};
 pub use st_token::{FaultKind as DocKind, LineFault as DocFault};

@@ -11,6 +11,6 @@ mod same;
 
 pub use printing::{print_journal, print_world};
 pub use printing_back::prints_back;
-pub use reading::{Journals, JournalsRead, read_journals};
+pub use reading::{JournalsRead, read_journals};
 pub use replaying::{Replayed, replay};
 pub use st_token::FaultKind as JournalKind;

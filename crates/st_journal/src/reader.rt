@@ -14,9 +14,8 @@ mod words;
 
 use crate::reader::entries::entry_of;
 use crate::reader::groups::{fill, group_in};
-use crate::reading::Journals;
-use st_event::{Entries, Entry, Journal};
-use st_net::{GroupTopo, Name};
+use st_event::{Entry, Journal};
+use st_net::{GroupTopo, Items, Name};
 use st_text::{Token, has_allowed_bytes, tokens};
 use st_token::{FaultKind, LineError, TakesLines, is_comment, one_of};
 use std::alloc::{AllocError, Global};
@@ -94,7 +93,7 @@ impl<'a> JournalReader<'a> {
             let group = self.ended.len() as u32;
             self.ended.push(Journal {
                 group,
-                entries: Entries::new(entries),
+                entries: Items::new(entries),
             })?;
         }
         Ok(())
@@ -189,7 +188,7 @@ impl<'a> JournalReader<'a> {
     }
 
     /// A journal of each group.
-    pub fn finish(self) -> Result<Journals, AllocError>
+    pub fn finish(self) -> Result<Items<Journal>, AllocError>
         ensures { IfOk result (λ journals. journals ≡ filled (length self.entry.groups) (journals_of self.entry)) }
     {
         let mut reader = self;
@@ -198,7 +197,7 @@ impl<'a> JournalReader<'a> {
         let alloc = reader.alloc;
         let mut journals = reader.ended;
         fill(alloc, &mut journals, count)?;
-        Ok(Journals::new(journals))
+        Ok(Items::new(journals))
     }
 }
 

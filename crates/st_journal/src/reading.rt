@@ -11,55 +11,16 @@ ghost use Rattle.st_journal.specs.JournalReading.{journals_from, journals_in, Re
 
 use crate::reader::JournalReader;
 use st_event::Journal;
-use st_net::{GroupTopo, Name};
+use st_net::{GroupTopo, Items, Name};
 use st_text::{Line, lines};
 use st_token::{FaultKind, LineFault, take_lines};
 use std::alloc::{AllocError, Global};
-use std::marker::Model;
 
-/// A journal of each group, in the order of groups. Contracts see the list.
-#[derive(Drop)]
-pub struct Journals {
-    journals: Vec<Journal>,
-}
-
-/// What was read: a journal of each group, or the first bad line and its kind.
+/// What was read: a journal of each group, in the order of groups, or the first bad line and its kind.
 #[derive(Drop)]
 pub enum JournalsRead {
-    Journals(Journals),
+    Journals(Items<Journal>),
     Fault { line: u32, kind: FaultKind },
-}
-
-impl Model for Journals {
-    ghost use Rattle.std.specs.Prelude.{List};
-    ghost use Rattle.st_event.specs.declared.journal.Journal.{Journal};
-
-    ghost Value = { List Journal };
-
-    ghost view = { λ j. j.journals.items };
-}
-
-impl Journals {
-    /// These journals, in order.
-    pub fn new(journals: Vec<Journal>) -> Journals
-        ensures { result ≡ journals.items }
-    {
-        Journals { journals }
-    }
-
-    /// The journals, in the order of groups.
-    pub fn as_slice(&self) -> &[Journal]
-        ensures { result.now ≡ self.now }
-    {
-        self.journals.as_slice()
-    }
-
-    /// The journals, given back without taking memory.
-    pub fn into_vec(self) -> Vec<Journal>
-        ensures { result.items ≡ self }
-    {
-        self.journals
-    }
 }
 
 /// Reads the journals of these groups, or names the first bad line and that line's kind. The first line has the number `line`.

@@ -5,6 +5,7 @@
 mod build;
 mod entity;
 mod fault;
+mod items;
 mod law;
 mod level;
 mod message;
@@ -18,13 +19,11 @@ mod set;
 mod topo;
 
 pub use entity::{AppId, Entity, Prio, Row, Vals, Var};
+pub use items::Items;
 pub use level::{carries, level_of};
 pub use message::{Command, Report};
 pub use name::{MAX_NAME_BYTES, Name, most_name_bytes};
-pub use parts::{
-    Built, DevicePart, DeviceParts, EndPart, Limit, LinkPart, LinkParts, Parts, PromisePart,
-    PromiseParts, TopoFault,
-};
+pub use parts::{Built, DevicePart, EndPart, Limit, LinkPart, Parts, PromisePart, TopoFault};
 pub use promise::{Broken, BrokenKind, Promise, Side};
 pub use range::is_in_range;
 pub use set::EntitySet;

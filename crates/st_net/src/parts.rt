@@ -1,12 +1,10 @@
 //! The parts of a group as a document declares them, by names, and what can be wrong with them. `GroupTopo::build` turns them
 //! into a topology.
 
-ghost use Rattle.std.specs.Prelude.{◌≡◌};
-
 use crate::entity::Vals;
+use crate::items::Items;
 use crate::name::Name;
 use crate::topo::GroupTopo;
-use std::marker::Model;
 
 /// An end of a link: a device, by its name, of this group or of another one that is named.
 #[derive(Drop)]
@@ -43,31 +41,13 @@ pub struct PromisePart {
     pub percent: u32,
 }
 
-/// Devices in order. Contracts see the list.
-#[derive(Drop)]
-pub struct DeviceParts {
-    parts: Vec<DevicePart>,
-}
-
-/// Links in order. Contracts see the list.
-#[derive(Drop)]
-pub struct LinkParts {
-    parts: Vec<LinkPart>,
-}
-
-/// Promises in order. Contracts see the list.
-#[derive(Drop)]
-pub struct PromiseParts {
-    parts: Vec<PromisePart>,
-}
-
 /// A group, part by part. The place of a part counts the devices, then the links, then the promises, from 0.
 #[derive(Drop)]
 pub struct Parts {
     pub name: Name,
-    pub devices: DeviceParts,
-    pub links: LinkParts,
-    pub promises: PromiseParts,
+    pub devices: Items<DevicePart>,
+    pub links: Items<LinkPart>,
+    pub promises: Items<PromisePart>,
 }
 
 /// The limits of a group's parts: 512 devices, 64 ToRs, 4,096 links, 2,016 promises, a capacity of 1 to 1,000,000, a
@@ -105,100 +85,4 @@ pub enum TopoFault {
 pub enum Built {
     Topo(GroupTopo),
     Fault(TopoFault),
-}
-
-impl Model for DeviceParts {
-    ghost use Rattle.std.specs.Prelude.{List};
-    ghost use Rattle.st_net.specs.declared.parts.DevicePart.{DevicePart};
-
-    ghost Value = { List DevicePart };
-
-    ghost view = { λ p. p.parts.items };
-}
-
-impl Model for LinkParts {
-    ghost use Rattle.std.specs.Prelude.{List};
-    ghost use Rattle.st_net.specs.declared.parts.LinkPart.{LinkPart};
-
-    ghost Value = { List LinkPart };
-
-    ghost view = { λ p. p.parts.items };
-}
-
-impl Model for PromiseParts {
-    ghost use Rattle.std.specs.Prelude.{List};
-    ghost use Rattle.st_net.specs.declared.parts.PromisePart.{PromisePart};
-
-    ghost Value = { List PromisePart };
-
-    ghost view = { λ p. p.parts.items };
-}
-
-impl DeviceParts {
-    /// These devices.
-    pub fn new(parts: Vec<DevicePart>) -> DeviceParts
-        ensures { result ≡ parts.items }
-    {
-        DeviceParts { parts }
-    }
-
-    /// The devices, in order.
-    pub fn as_slice(&self) -> &[DevicePart]
-        ensures { result.now ≡ self.now }
-    {
-        self.parts.as_slice()
-    }
-
-    /// The devices, given back without taking memory.
-    pub fn into_vec(self) -> Vec<DevicePart>
-        ensures { result.items ≡ self }
-    {
-        self.parts
-    }
-}
-
-impl LinkParts {
-    /// These links.
-    pub fn new(parts: Vec<LinkPart>) -> LinkParts
-        ensures { result ≡ parts.items }
-    {
-        LinkParts { parts }
-    }
-
-    /// The links, in order.
-    pub fn as_slice(&self) -> &[LinkPart]
-        ensures { result.now ≡ self.now }
-    {
-        self.parts.as_slice()
-    }
-
-    /// The links, given back without taking memory.
-    pub fn into_vec(self) -> Vec<LinkPart>
-        ensures { result.items ≡ self }
-    {
-        self.parts
-    }
-}
-
-impl PromiseParts {
-    /// These promises.
-    pub fn new(parts: Vec<PromisePart>) -> PromiseParts
-        ensures { result ≡ parts.items }
-    {
-        PromiseParts { parts }
-    }
-
-    /// The promises, in order.
-    pub fn as_slice(&self) -> &[PromisePart]
-        ensures { result.now ≡ self.now }
-    {
-        self.parts.as_slice()
-    }
-
-    /// The promises, given back without taking memory.
-    pub fn into_vec(self) -> Vec<PromisePart>
-        ensures { result.items ≡ self }
-    {
-        self.parts
-    }
 }

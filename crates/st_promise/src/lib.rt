@@ -18,7 +18,6 @@ mod search;
 mod to_first;
 mod up;
 mod up_network;
-mod walk;
 mod wide;
 mod within;
 
@@ -26,6 +25,5 @@ pub use book::Book;
 pub use reaching::{Reached, reach};
 pub use same::has_same_network;
 pub use to_first::{ToFirst, judge_to_first};
-pub use walk::Walk;
 pub use wide::{Wide, judge_wide};
 pub use within::{is_same_set, is_within};

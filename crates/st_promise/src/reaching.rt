@@ -6,15 +6,14 @@ ghost use Rattle.st_promise.specs.Reach.{IsReached};
 
 use crate::incidence::Incidence;
 use crate::search::Search;
-use crate::walk::Walk;
-use st_net::{EntitySet, GroupTopo, Side};
+use st_net::{EntitySet, GroupTopo, Items, Side};
 use std::alloc::{AllocError, Global};
 
 /// What the first of two devices reaches.
 #[derive(Drop)]
 pub enum Reached {
-    /// The second, by this walk.
-    Walk(Walk),
+    /// The second, by this walk: the numbers of its links, in order.
+    Walk(Items<u32>),
     /// Not the second: all that walks from the first reach, a set that no link of the up graph leaves.
     Closed(Side),
 }

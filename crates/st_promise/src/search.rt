@@ -11,8 +11,7 @@ ghost use Rattle.st_promise.specs.Incidence.{IsIncidence};
 
 use crate::incidence::Incidence;
 use crate::up::is_up;
-use crate::walk::Walk;
-use st_net::{Entity, EntitySet, GroupTopo, Side};
+use st_net::{Entity, EntitySet, GroupTopo, Items, Side};
 use std::alloc::{AllocError, Global};
 use std::marker::Model;
 
@@ -90,7 +89,7 @@ impl Search {
     }
 
     /// The links over which a step was come to, from the search's start on.
-    fn walk_back(&self, alloc: Global, step: u32) -> Result<Walk, AllocError>
+    fn walk_back(&self, alloc: Global, step: u32) -> Result<Items<u32>, AllocError>
         requires search { IsSearchOfSome self.now }
         requires step { step < length self.now.steps }
         ensures { IfOk result (LeadsTo self.now (step_at self.now step).device) }
@@ -102,11 +101,11 @@ impl Search {
             at = came.from;
         }
         links.reverse();
-        Ok(Walk::over(links))
+        Ok(Items::new(links))
     }
 
     /// A walk from the start to a device; None where it was not found.
-    pub fn walk_to(&self, alloc: Global, device: u32) -> Result<Option<Walk>, AllocError>
+    pub fn walk_to(&self, alloc: Global, device: u32) -> Result<Option<Items<u32>>, AllocError>
         requires search { IsSearchOfSome self.now }
         requires device { device < length self.now.places }
         ensures none { IfOk result (λ walk. is_some walk ≡ is_found self.now device) }

@@ -7,9 +7,9 @@ ghost use Rattle.st_serial.specs.Serial.{all_opened, scripts_done as scripts_don
 
 use crate::schedule::schedule;
 use crate::serial::{decide_all, places_done};
-use st_event::LogEntries;
-use st_grammar::{Doc, WireLines};
-use st_net::{Built, GroupTopo, Parts};
+use st_event::LogEntry;
+use st_grammar::Doc;
+use st_net::{Built, GroupTopo, Items, Parts};
 use st_wire::{LossPlan, WireLine};
 use st_world::World;
 use std::alloc::{AllocError, Global};
@@ -48,7 +48,7 @@ fn losses_of(alloc: Global, lines: &[WireLine]) -> Result<LossPlan, AllocError>
 pub fn open_worlds(
     alloc: Global,
     groups: &[Parts],
-    wires: &[WireLines],
+    wires: &[Items<WireLine>],
 ) -> Result<Vec<World>, AllocError>
     requires sound { All IsSoundGroup groups.now }
     requires each { length wires.now ≡ length groups.now }
@@ -63,12 +63,12 @@ pub fn open_worlds(
 }
 
 /// An empty log for each application.
-fn empty_logs(alloc: Global, count: usize) -> Result<Vec<LogEntries>, AllocError>
+fn empty_logs(alloc: Global, count: usize) -> Result<Vec<Items<LogEntry>>, AllocError>
     ensures { IfOk result (λ logs. logs.items ≡ replicate count []) }
 {
     let mut logs = Vec::new(alloc);
     for _app in 0..count {
-        logs.push(LogEntries::none(alloc))?;
+        logs.push(Items::none(alloc))?;
     }
     Ok(logs)
 }
@@ -78,7 +78,7 @@ fn empty_logs(alloc: Global, count: usize) -> Result<Vec<LogEntries>, AllocError
 #[derive(Drop)]
 pub struct Ran {
     pub worlds: Vec<World>,
-    pub logs: Vec<LogEntries>,
+    pub logs: Vec<Items<LogEntry>>,
     pub full: Option<u32>,
 }
 

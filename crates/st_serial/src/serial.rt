@@ -7,9 +7,9 @@ ghost use Rattle.st_serial.specs.Schedule.{IsPlaceIn};
 ghost use Rattle.st_serial.specs.Serial.{act_done as act_done_lem, place_done as place_done_lem, places_done as places_done_lem, all_decided, FitsIn, AllFitIn, groups_in, states_of};
 
 use crate::schedule::Place;
-use st_event::{Act, LogEntries};
+use st_event::{Act, LogEntry};
 use st_grammar::Script;
-use st_net::AppId;
+use st_net::{AppId, Items};
 use st_world::{Going, World, group_number};
 use std::alloc::AllocError;
 
@@ -26,7 +26,7 @@ fn full_at(group: u32, going: Going) -> Option<u32>
 /// Does an act of an application: it reads, or it does something to its group. Gives the group, where an event met its full journal.
 fn act_done(
     worlds: &mut [World],
-    logs: &mut [LogEntries],
+    logs: &mut [Items<LogEntry>],
     app: AppId,
     act: &Act,
 ) -> Result<Option<u32>, AllocError>
@@ -48,7 +48,7 @@ fn act_done(
 /// Does the act at a place.
 fn place_done(
     worlds: &mut [World],
-    logs: &mut [LogEntries],
+    logs: &mut [Items<LogEntry>],
     apps: &[Script],
     place: Place,
 ) -> Result<Option<u32>, AllocError>
@@ -64,7 +64,7 @@ fn place_done(
 /// Does the acts at these places, in order, up to an event that meets a full journal: then its group is given.
 pub fn places_done(
     worlds: &mut [World],
-    logs: &mut [LogEntries],
+    logs: &mut [Items<LogEntry>],
     apps: &[Script],
     places: &[Place],
 ) -> Result<Option<u32>, AllocError>

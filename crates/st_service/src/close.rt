@@ -17,8 +17,8 @@ use crate::naming::Naming;
 use crate::pass::Pass;
 use crate::place::Place;
 use crate::service::{Own, Service};
-use st_event::{Journal, Log as AppLog, LogEntries};
-use st_net::AppId;
+use st_event::{Journal, Log as AppLog, LogEntry};
+use st_net::{AppId, Items};
 use std::alloc::{AllocError, Global};
 use std::marker::PhantomData;
 use std::sync::ledger::{Ledger, Share};
@@ -166,7 +166,7 @@ fn hand_in<J: Naming, L: Ledger, H: Wait + Drop>(
     pass: Pass<J, L>,
     shut: &[Shut<J, H>],
     own: &mut Share<L>,
-) -> Result<LogEntries, AllocError>
+) -> Result<Items<LogEntry>, AllocError>
     requires rooms { length pass.fronts ≡ length shut.now }
     requires groups { (k : ℕ) (d : _) → k < length shut.now → (slice_index_or shut.now k d).group ≡ k }
     ensures log { IfOk result (λ log. log ≡ pass.log) }

@@ -19,8 +19,8 @@ use crate::naming::Naming;
 use crate::place::Place;
 use crate::work::Work;
 use st_control::Begin;
-use st_event::{LogEntries, LogEntry, LogSaw};
-use st_net::{Entity, Var};
+use st_event::{LogEntry, LogSaw};
+use st_net::{Entity, Items, Var};
 use st_world::Going;
 use std::alloc::{AllocError, Global};
 use std::marker::Model;
@@ -33,7 +33,7 @@ pub struct Pass<J: Naming, L: Ledger> {
     pub(crate) number: u32,
     pub(crate) places: Vec<Place<J>>,
     pub(crate) share: Share<L>,
-    pub(crate) log: LogEntries,
+    pub(crate) log: Items<LogEntry>,
 }
 
 impl<J: Naming, L: Ledger> Model for Pass<J, L> {
@@ -60,7 +60,7 @@ impl<J: Naming, L: Ledger> Pass<J, L> {
             number,
             places: Vec::new(alloc),
             share,
-            log: LogEntries::none(alloc),
+            log: Items::none(alloc),
         }
     }
 
@@ -90,7 +90,7 @@ impl<J: Naming, L: Ledger> Pass<J, L> {
     }
 
     /// What it has logged, in order.
-    pub fn log(&self) -> &LogEntries
+    pub fn log(&self) -> &Items<LogEntry>
         ensures { result.now ≡ self.now.log }
     {
         &self.log

@@ -1,8 +1,8 @@
 //! What a report says of what is not there. Whole reports are tested where documents are read: in `st_top`, and as stored runs of the
 //! program.
 
-use st_event::{Log, LogEntries, LogEntry, LogSaw};
-use st_net::{AppId, Entity, Name, Var};
+use st_event::{Log, LogEntry, LogSaw};
+use st_net::{AppId, Entity, Items, Name, Var};
 use st_report::report_text;
 use st_text::Text;
 use st_world::World;
@@ -19,7 +19,7 @@ fn seen(group: u32, entity: Entity, var: Var, saw: LogSaw) -> LogEntry {
 }
 
 fn log(alloc: Global, app: AppId, entries: &[LogEntry]) -> Result<Log, Fail> {
-    let mut lines = LogEntries::none(alloc);
+    let mut lines = Items::none(alloc);
     for entry in entries {
         lines.add(*entry)?;
     }

@@ -9,12 +9,12 @@ ghost use Rattle.st_serial.specs.Serial.{serial_end, serial_logs, states_of};
 ghost use Rattle.st_replay.specs.declared.status.Status.TheVariants.{BadInput as bad_input_lem};
 ghost use Rattle.st_top.specs.Ending.{TellsFault, IsToldOf, IsEndOnDoc, IsEndOn};
 
-use crate::answer::{Journals, Logs};
 use crate::output::{check_text, shown_text};
 use crate::results::{journals_of, logs_of};
 use crate::task::{Showing, Task};
 use st_doc::{Doc, DocKind, DocRead, print_doc, read_doc};
-use st_event::Log;
+use st_event::{Journal, Log};
+use st_net::Items;
 use st_replay::{Status, status_line};
 use st_serial::{Ran, serial_done};
 use st_text::Text;
@@ -25,8 +25,8 @@ use std::alloc::{AllocError, Global};
 #[derive(Drop)]
 pub struct Ending {
     pub status: Status,
-    pub journals: Journals,
-    pub logs: Logs,
+    pub journals: Items<Journal>,
+    pub logs: Items<Log>,
     pub text: Text,
 }
 
@@ -36,8 +36,8 @@ pub fn fault_ending(alloc: Global, status: Status) -> Result<Ending, AllocError>
 {
     Ok(Ending {
         status,
-        journals: Journals::none(alloc),
-        logs: Logs::none(alloc),
+        journals: Items::none(alloc),
+        logs: Items::none(alloc),
         text: status_line(alloc, &[], status)?,
     })
 }
@@ -103,8 +103,8 @@ fn count_ending(alloc: Global, doc: &Doc) -> Result<Ending, AllocError>
 {
     Ok(Ending {
         status: Status::Ok,
-        journals: Journals::none(alloc),
-        logs: Logs::none(alloc),
+        journals: Items::none(alloc),
+        logs: Items::none(alloc),
         text: check_text(alloc, doc)?,
     })
 }
@@ -118,8 +118,8 @@ fn print_ending(alloc: Global, doc: &Doc) -> Result<Ending, AllocError>
     print_doc(doc, &mut text)?;
     Ok(Ending {
         status: Status::Ok,
-        journals: Journals::none(alloc),
-        logs: Logs::none(alloc),
+        journals: Items::none(alloc),
+        logs: Items::none(alloc),
         text,
     })
 }

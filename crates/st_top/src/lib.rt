@@ -12,7 +12,7 @@ mod results;
 mod task;
 mod top;
 
-pub use answer::{Journals, Logs, Outcome};
+pub use answer::Outcome;
 pub use program::{ended, run_program};
 pub use st_replay::Status;
 pub use top::{statesman, statesman_alone};

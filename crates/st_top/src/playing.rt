@@ -12,13 +12,13 @@ ghost use Rattle.st_serial.specs.Kept.{groups_of};
 ghost use Rattle.st_top.specs.Ending.{IsEndOnRun, IsEndOnRunDoc, IsToldOfRun};
 ghost use Rattle.st_top.specs.Output.{shown};
 
-use crate::answer::{Journals, Logs};
 use crate::ending::{Ending, bad_input};
 use crate::output::shown_text;
 use crate::task::Showing;
 use st_crew::Gate;
 use st_doc::{Doc, DocRead, read_doc};
 use st_event::{Journal, Log};
+use st_net::Items;
 use st_replay::{Again, Status, replay_all, status_line};
 use st_run::{Played, run_scripts};
 use st_serial::topos_of;
@@ -91,8 +91,8 @@ fn doc_run<R: Threads + Wait + Sync, G: Gate + Sync>(
     let Played { journals, logs, .. } = played;
     Ok(Ending {
         status,
-        journals: Journals::new(journals),
-        logs: Logs::new(logs),
+        journals: Items::new(journals),
+        logs: Items::new(logs),
         text,
     })
 }

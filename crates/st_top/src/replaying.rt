@@ -9,14 +9,13 @@ ghost use Rattle.st_replay.specs.Replaying.{replay_of, replay_with, HasFewEntrie
 ghost use Rattle.st_serial.specs.Kept.{groups_of};
 ghost use Rattle.st_top.specs.Ending.{IsEndOnReplay, IsToldAgain};
 
-use crate::answer::{Journals, Logs};
 use crate::ending::{Ending, bad_input};
 use crate::output::shown_text;
 use crate::task::Showing;
 use st_doc::{Doc, DocRead, read_doc};
 use st_event::Journal;
 use st_journal::JournalsRead;
-use st_net::GroupTopo;
+use st_net::{GroupTopo, Items};
 use st_replay::{Again, Status, journals_read, replay_all, status_line};
 use st_serial::topos_of;
 use st_text::Text;
@@ -67,8 +66,8 @@ fn journals_ending(
     let (status, text) = again_text(alloc, form, doc, &again)?;
     Ok(Ending {
         status,
-        journals: Journals::new(journals),
-        logs: Logs::none(alloc),
+        journals: Items::new(journals),
+        logs: Items::none(alloc),
         text,
     })
 }

@@ -4,14 +4,13 @@ ghost use Rattle.std.specs.Prelude.{◌≡◌, ◌<◌, ◌^◌, length, IfOk};
 ghost use Rattle.st_serial.specs.Serial.{states_of, journals_from, logs_from};
 ghost use Rattle.st_replay.specs.Again.{AreKeptStates};
 
-use crate::answer::{Journals, Logs};
-use st_event::{Log, LogEntries};
-use st_net::AppId;
+use st_event::{Journal, Log, LogEntry};
+use st_net::{AppId, Items};
 use st_world::World;
 use std::alloc::{AllocError, Global};
 
 /// The journals of groups, in order.
-pub fn journals_of(alloc: Global, worlds: Vec<World>) -> Result<Journals, AllocError>
+pub fn journals_of(alloc: Global, worlds: Vec<World>) -> Result<Items<Journal>, AllocError>
     requires { length worlds.items < 2 ^ 32 }
     ensures journals { IfOk result (λ journals. journals ≡ journals_from 0 (states_of worlds.items)) }
     ensures kept { IfOk result (λ journals. AreKeptStates (states_of worlds.items)) }
@@ -23,11 +22,11 @@ pub fn journals_of(alloc: Global, worlds: Vec<World>) -> Result<Journals, AllocE
         let group = journals.len() as u32;
         journals.push(world.into_journal(group))?;
     }
-    Ok(Journals::new(journals))
+    Ok(Items::new(journals))
 }
 
 /// The logs of applications, in order.
-pub fn logs_of(alloc: Global, logs: Vec<LogEntries>) -> Result<Logs, AllocError>
+pub fn logs_of(alloc: Global, logs: Vec<Items<LogEntry>>) -> Result<Items<Log>, AllocError>
     requires { length logs.items < 2 ^ 32 }
     ensures { IfOk result (λ all. all ≡ logs_from 0 logs.items) }
 {
@@ -36,5 +35,5 @@ pub fn logs_of(alloc: Global, logs: Vec<LogEntries>) -> Result<Logs, AllocError>
         let app = AppId(all.len() as u32);
         all.push(Log { app, entries })?;
     }
-    Ok(Logs::new(all))
+    Ok(Items::new(all))
 }

@@ -28,8 +28,8 @@ use crate::machine::Machine;
 use crate::world::rounds::Going;
 use st_agent::Agent;
 use st_control::{Control, Twice};
-use st_event::{Entries, Entry, Event, Journal, MAX_ENTRIES, Reply};
-use st_net::{Entity, GroupTopo};
+use st_event::{Entry, Event, Journal, MAX_ENTRIES, Reply};
+use st_net::{Entity, GroupTopo, Items};
 use st_wire::{LossPlan, Wire};
 use std::alloc::{AllocError, Global};
 use std::marker::Model;
@@ -227,7 +227,7 @@ impl World {
     {
         Journal {
             group,
-            entries: Entries::new(self.journal),
+            entries: Items::new(self.journal),
         }
     }
 

@@ -5,8 +5,7 @@ ghost use Rattle.st_text.specs.Words.{text_of};
 ghost use Rattle.st_doc.specs.Printed.{wire_words, wires_lines};
 
 use crate::printing::words::{kind_word, print_line};
-use st_grammar::WireLines;
-use st_net::Parts;
+use st_net::{Items, Parts};
 use st_text::{Text, Word};
 use st_wire::WireLine;
 use std::alloc::AllocError;
@@ -60,7 +59,11 @@ fn print_group_wires(group: &[u8], lines: &[WireLine], out: &mut Text) -> Result
 }
 
 /// Adds the wire lines of groups, each group with its own.
-pub fn print_wires(groups: &[Parts], wires: &[WireLines], out: &mut Text) -> Result<(), AllocError>
+pub fn print_wires(
+    groups: &[Parts],
+    wires: &[Items<WireLine>],
+    out: &mut Text,
+) -> Result<(), AllocError>
     ensures { OnOk result (out.new ≡ out.old ++ text_of (wires_lines groups.now wires.now)) }
 {
     for (group, lines) in groups.iter().zip(wires) {

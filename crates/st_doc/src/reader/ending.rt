@@ -6,7 +6,9 @@ ghost use Rattle.st_grammar.specs.Reading.{doc_at};
 
 use crate::reader::Reader;
 use st_draft::Group;
-use st_grammar::{AppOrder, Doc, DocGroups, DocWires, JournalAt, Script, Scripts};
+use st_grammar::{Doc, JournalAt, Script};
+use st_net::{Items, Parts};
+use st_wire::WireLine;
 use std::alloc::{AllocError, Global};
 
 /// The items with one more behind them, if there is one.
@@ -20,7 +22,10 @@ fn with_last<T: Drop>(mut items: Vec<T>, last: Option<T>) -> Result<Vec<T>, Allo
 }
 
 /// The parts and the wire lines of groups.
-fn ended(alloc: Global, groups: Vec<Group>) -> Result<(DocGroups, DocWires), AllocError>
+fn ended(
+    alloc: Global,
+    groups: Vec<Group>,
+) -> Result<(Items<Parts>, Items<Items<WireLine>>), AllocError>
     ensures parts { IfOk result (λ ended. ended.0 ≡ map parts_of groups.items) }
     ensures wires { IfOk result (λ ended. ended.1 ≡ map (λ g. g.wires) groups.items) }
 {
@@ -31,7 +36,7 @@ fn ended(alloc: Global, groups: Vec<Group>) -> Result<(DocGroups, DocWires), All
         all.push(parts)?;
         wires.push(lines)?;
     }
-    Ok((DocGroups::new(all), DocWires::new(wires)))
+    Ok((Items::new(all), Items::new(wires)))
 }
 
 /// The parts and the wire lines of groups, of which the last stands apart.
@@ -39,7 +44,7 @@ fn all_ended(
     alloc: Global,
     groups: Vec<Group>,
     last: Option<Group>,
-) -> Result<(DocGroups, DocWires), AllocError>
+) -> Result<(Items<Parts>, Items<Items<WireLine>>), AllocError>
     ensures parts { IfOk result (λ ended. ended.0 ≡ map parts_of (groups.items ++ option_to_list last)) }
     ensures wires { IfOk result (λ ended. ended.1 ≡ map (λ g. g.wires) (groups.items ++ option_to_list last)) }
 {
@@ -53,13 +58,13 @@ fn sections(
     group: Option<Group>,
     apps: Vec<Script>,
     app: Option<Script>,
-) -> Result<(DocGroups, DocWires, Scripts), AllocError>
+) -> Result<(Items<Parts>, Items<Items<WireLine>>, Items<Script>), AllocError>
     ensures parts { IfOk result (λ all. all.0 ≡ map parts_of (groups.items ++ option_to_list group)) }
     ensures wires { IfOk result (λ all. all.1 ≡ map (λ g. g.wires) (groups.items ++ option_to_list group)) }
     ensures apps { IfOk result (λ all. all.2 ≡ apps.items ++ option_to_list app) }
 {
     let (groups, wires) = all_ended(alloc, groups, group)?;
-    Ok((groups, wires, Scripts::new(with_last(apps, app)?)))
+    Ok((groups, wires, Items::new(with_last(apps, app)?)))
 }
 
 impl Reader {
@@ -78,7 +83,7 @@ impl Reader {
             groups,
             wires,
             apps,
-            order: AppOrder::new(self.order),
+            order: Items::new(self.order),
             journal_at: at,
         })
     }

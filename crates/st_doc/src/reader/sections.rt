@@ -10,8 +10,8 @@ ghost use Rattle.st_grammar.specs.Lines.{begun_name, into_group, group_line, app
 
 use crate::reader::Reader;
 use st_draft::Group;
-use st_grammar::{Acts, MAX_APPS, MAX_GROUPS, PartWord, Script};
-use st_net::Name;
+use st_grammar::{MAX_APPS, MAX_GROUPS, PartWord, Script};
+use st_net::{Items, Name};
 use st_text::Token;
 use st_token::{FaultKind, LineError, Names, known_name_in, new_name_in, one_of};
 use std::alloc::{AllocError, Global};
@@ -67,7 +67,7 @@ fn empty_script(alloc: Global, name: Name) -> Script
 {
     Script {
         name,
-        acts: Acts::new(Vec::new(alloc)),
+        acts: Items::none(alloc),
     }
 }
 

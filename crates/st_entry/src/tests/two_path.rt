@@ -4,8 +4,7 @@
 ghost use Rattle.std.specs.Prelude.{◌≡◌, ◌+◌, ◌<◌, IfOk, length};
 
 use st_net::{
-    Built, DevicePart, DeviceParts, EndPart, GroupTopo, LinkPart, LinkParts, Name, Parts,
-    PromisePart, PromiseParts, Vals,
+    Built, DevicePart, EndPart, GroupTopo, Items, LinkPart, Name, Parts, PromisePart, Vals,
 };
 use std::alloc::Global;
 use std::test::Fail;
@@ -72,9 +71,9 @@ fn parts(alloc: Global) -> Result<Parts, Fail>
     })?;
     Ok(Parts {
         name: name(alloc, "dc1")?,
-        devices: DeviceParts::new(devices),
-        links: LinkParts::new(links),
-        promises: PromiseParts::new(promises),
+        devices: Items::new(devices),
+        links: Items::new(links),
+        promises: Items::new(promises),
     })
 }
 

@@ -6,8 +6,8 @@ ghost use Rattle.st_token.specs.Steps.{Gives};
 ghost use Rattle.st_token.specs.Spelling.{known_name_in};
 ghost use Rattle.st_journal.specs.JournalLines.{group_names, filled};
 
-use st_event::{Entries, Journal};
-use st_net::GroupTopo;
+use st_event::Journal;
+use st_net::{GroupTopo, Items};
 use st_token::{FaultKind, LineError, name_in};
 use std::alloc::{AllocError, Global};
 
@@ -49,7 +49,7 @@ pub fn fill(alloc: Global, journals: &mut Vec<Journal>, count: u32) -> Result<()
     for group in first..count {
         journals.push(Journal {
             group,
-            entries: Entries::new(Vec::new(alloc)),
+            entries: Items::new(Vec::new(alloc)),
         })?;
     }
     Ok(())

@@ -3,10 +3,7 @@
 ghost use Rattle.std.specs.Prelude.{◌≡◌, ◌+◌, IfOk, length};
 
 use super::*;
-use st_net::{
-    Built, DevicePart, DeviceParts, EndPart, GroupTopo, LinkPart, LinkParts, Name, Parts,
-    PromiseParts,
-};
+use st_net::{Built, DevicePart, EndPart, GroupTopo, Items, LinkPart, Name, Parts};
 use std::test::Fail;
 
 const DEVICE: Vals = Vals {
@@ -60,9 +57,9 @@ fn parts(alloc: Global) -> Result<Parts, Fail>
     })?;
     Ok(Parts {
         name: name(alloc, "dc1")?,
-        devices: DeviceParts::new(devices),
-        links: LinkParts::new(links),
-        promises: PromiseParts::new(Vec::new(alloc)),
+        devices: Items::new(devices),
+        links: Items::new(links),
+        promises: Items::none(alloc),
     })
 }
 

@@ -4,10 +4,7 @@ ghost use Rattle.std.specs.Prelude.{◌≡◌, ◌+◌, ◌<◌, ◌≤◌, ◌^
 ghost use Rattle.st_store.specs.Store.{IsStoreOf};
 
 use super::*;
-use st_net::{
-    Built, DevicePart, DeviceParts, EndPart, LinkPart, LinkParts, Name, Parts, PromiseParts, Row,
-    Vals,
-};
+use st_net::{Built, DevicePart, EndPart, Items, LinkPart, Name, Parts, Row, Vals};
 use std::test::Fail;
 
 const DEVICE: Vals = Vals {
@@ -61,9 +58,9 @@ fn parts(alloc: Global) -> Result<Parts, Fail>
     })?;
     Ok(Parts {
         name: name(alloc, "dc1")?,
-        devices: DeviceParts::new(devices),
-        links: LinkParts::new(links),
-        promises: PromiseParts::new(Vec::new(alloc)),
+        devices: Items::new(devices),
+        links: Items::new(links),
+        promises: Items::none(alloc),
     })
 }
 

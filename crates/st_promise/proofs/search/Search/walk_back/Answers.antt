@@ -17,4 +17,4 @@ pub returns : goal.returns
 returns c =
     let read = step_read _ _ c.loop-came.at _ (ap (λ (s : Visits). s.steps) c.self.view_is) c.loop-came.invariant.within c.index.ensures in
     let start = ap (λ (s : Step). s.came) read ∙ c.in_default.is in
-    λ n links up is. walk_whole n links up c.args.self.now c.loop-came.at c.loop-came.links.items _ _ is c.loop-came.invariant.within start (c.over.ensures ∙ c.reverse.ensures.items) (c.loop-came.invariant.walk n links up is)
+    λ n links up is. walk_whole n links up c.args.self.now c.loop-came.at c.loop-came.links.items _ _ is c.loop-came.invariant.within start (c.new.ensures ∙ c.reverse.ensures.items) (c.loop-came.invariant.walk n links up is)
