@@ -42,7 +42,7 @@ IsTree-kept es fs gs b near far is apart kept = record {
   steps = λ y more not_b.
       let step = is.steps y more not_b in
       let i = (mark_at far y).edge in
-      let same = kept i (IsOutside-at es near i y step.is_end (IsApart-sym near far apart y more)) in
+      let same = kept i (IsOutside-at es near i y step.is_end ((IsApart-sym near far apart).apart y more)) in
       let turned_same : amount_at (turned Against gs) i ≡ amount_at (turned Against fs) i = amount_at-turned Against gs i ∙ (ap neg_ℤ same ∙ sym (amount_at-turned Against fs i)) in
       record {
         edge_in = step.edge_in;
@@ -59,7 +59,7 @@ pub IsMeeting-kept : (nodes : ℕ) (es : List Edge) (fs gs hs : List ℤ) (near 
     ((k : ℕ) → IsOutside es near k → amount_at gs k ≡ amount_at fs k) → ((k : ℕ) → IsOutside es far k → amount_at hs k ≡ amount_at gs k) → amount_at hs i ≡ amount_at fs i
 IsMeeting-kept nodes es fs gs hs near far i x edges is apart near_kept far_kept =
     let y = other (edge_at es i) x in
-    far_kept i (IsOutside-at es far i x is.is_end (apart x is.is_reached)) ∙ near_kept i (IsOutside-at es near i y (IsEnd-other (edge_at es i) x) (IsApart-sym near far apart y is.is_met))
+    far_kept i (IsOutside-at es far i x is.is_end (apart.apart x is.is_reached)) ∙ near_kept i (IsOutside-at es near i y (IsEnd-other (edge_at es i) x) ((IsApart-sym near far apart).apart y is.is_met))
 
 -- three pushes make one: from a to x, from x over edge i, and on to b
 pub net_out-across : (nodes : ℕ) (es : List Edge) (fs gs hs : List ℤ) (i x a b more : ℕ) (s : ℕ → Bool) → All (IsEdge nodes) es → length hs ≡ length es → i < length es → IsEnd (edge_at es i) x →

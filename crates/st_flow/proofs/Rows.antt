@@ -8,9 +8,9 @@ use Rattle.std.proofs.lemmas.Int.{ints}
 use Rattle.std.proofs.lemmas.List.Elements.{All-head, All-tail, All-push, Contains-push, Contains-append_left}
 use Rattle.std.proofs.lemmas.Bool.Decides.{eqb_tells, leb_tells}
 use Rattle.st_flow.specs.declared.edge.Edge.{Edge}
-use Rattle.st_flow.specs.Network.{IsEdge, part_out, net_out, net_out_of}
+use Rattle.st_flow.specs.Network.{Network, IsEdge, part_out, net_out, net_out_of}
 use Rattle.st_flow.specs.Residual.{IsEnd, no_edge, edge_at, amount_at}
-use Rattle.st_flow.specs.Rows.{row_at, row_out, IsRow, IsGraph}
+use Rattle.st_flow.specs.Rows.{row_at, row_out, IsRow, AreRows, IsGraph}
 
 pub row_at-read : (rows : List (Vec ℕ Global)) (x : ℕ) (row : Vec ℕ Global) → x < length rows → row ≡ get_or rows x row → row_at rows x ≡ row.items
 row_at-read [] x row lt is = absurd (omega arith)
@@ -201,3 +201,21 @@ IsGraph-add rows es e at_u at_v is few edge u_is v_is =
     (row_at-set_other one e.v e.u at_v edge.apart ∙ (row_at-set_same rows e.u at_u edge.u_in ∙ u_is))
     (row_at-set_same one e.v at_v (omega (arith, edge.v_in, len_one)) ∙ (v_is ∙ ap (λ row. row ++ length es ∷ []) (row_at-set_other rows e.u e.v at_u v_not_u)))
     (λ x not_u not_v. row_at-set_other one e.v x at_v not_v ∙ row_at-set_other rows e.u x at_u not_u)
+
+-- rows and edges as they are read from a graph, and the network that it is
+pub record IsRead (g : Network) (rows : List (Vec ℕ Global)) (es : List Edge) : Type 0 where
+  pub edges : es ≡ g.edges
+  pub nodes : length rows ≡ g.nodes
+  pub few : g.nodes ≤ 512
+  pub edges_fit : All (IsEdge g.nodes) es
+  pub rows_fit : AreRows es rows
+
+pub IsRead-of : (g : Network) (kept rows : List (Vec ℕ Global)) (kept_es es : List Edge) → IsGraph kept kept_es → record { nodes = length kept; edges = kept_es } ≡ g →
+    rows ≡ kept → es ≡ kept_es → IsRead g rows es
+IsRead-of g kept rows kept_es es is view rows_are es_are = rw (← view, rows_are, es_are) (record {
+  edges = refl;
+  nodes = refl;
+  few = is.few_nodes;
+  edges_fit = is.edges_fit;
+  rows_fit = is.rows_fit;
+})

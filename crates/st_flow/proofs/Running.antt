@@ -5,18 +5,18 @@ use Rattle.std.proofs.lemmas.Bool.Decides.{nat_tests, eqb_tells, leb_tells}
 use Rattle.std.proofs.lemmas.List.Elements.{All-contains}
 use Rattle.std.proofs.lemmas.List.Folds.{sum_by-replicate}
 use Rattle.std.proofs.lemmas.List.Sums.{sum_by-set}
-use Rattle.std.proofs.lemmas.List.{get_or-replicate, length-replicate, ext_get_or}
+use Rattle.std.proofs.lemmas.List.{get_or-replicate, get_or_default, length-replicate, ext_get_or}
 use Rattle.std.proofs.Math.ListN.{get_or-eq_default}
 use Rattle.std.specs.List.{AllZip}
 use Rattle.st_flow.specs.declared.edge.Edge.{Edge}
 use Rattle.st_flow.specs.declared.search.Mark.{Mark}
 use Rattle.st_flow.specs.declared.search.Search.{Search}
-use Rattle.st_flow.specs.Network.{IsEdge, FitsEdge}
+use Rattle.st_flow.specs.Network.{Network, IsEdge, FitsEdge}
 use Rattle.st_flow.specs.Residual.{other, room, no_edge, edge_at, amount_at, IsFull, IsClosed}
-use Rattle.st_flow.specs.Search.{no_mark, mark_at, reached, IsSearching, IsRunning, IsScanned, Grows, Runs, Searches}
+use Rattle.st_flow.specs.Search.{no_mark, mark_at, reached, limit_of, IsSearching, IsRunning, IsScanned, Grows, Runs, IsOn}
 use Rattle.st_flow.specs.Rows.{IsRow}
 use Rattle.st_flow.proofs.Closed.{AllZip-at, AllZip-length, AllZip-from}
-use Rattle.st_flow.proofs.SearchLemmas.{IsScanned-grows, level_cases, Searches-to}
+use Rattle.st_flow.proofs.SearchLemmas.{IsLooking, IsVisiting, IsScanned-grows, level_cases}
 
 pub IsRunning-next : (nodes : ℕ) (es : List Edge) (fs : List ℤ) (a limit next x : ℕ) (marks : List Mark) (queue : List ℕ) (new : List Mark) (new_queue row : List ℕ) →
     IsRunning nodes es fs a limit next marks queue → next < length queue → x ≡ get_or queue next 0 →
@@ -134,23 +134,42 @@ pub blank_marks : (marks : List Mark) (n : ℕ) → length marks ≡ n → ((y :
 blank_marks marks n same blank =
     ext_get_or no_mark marks (replicate n no_mark) (same ∙ sym (length-replicate n no_mark)) (λ y lt. blank y (omega (arith, lt, same)) ∙ sym (no_mark-replicate n y))
 
--- the same, of a search as the code keeps it
-pub Runs-start : (es : List Edge) (fs : List ℤ) (s : Search) (nodes limit : ℕ) → s.start < nodes → 0 < limit → s.next ≡ 0 →
-    s.marks.items ≡ set (replicate nodes no_mark) s.start (record { level = 1; edge = 0; width = limit }) → s.queue.items ≡ s.start ∷ [] → Runs es fs s
-Runs-start es fs s nodes limit start_in wide next marks queue =
-    let is = IsRunning-start nodes es fs s.start limit start_in wide in
-    rw (next, marks, queue, is.searching.search.has_nodes, is.searching.search.start_width) is
+-- a search that was just begun, as the code keeps it
+pub Runs-start : (g : Network) (fs : List ℤ) (s : Search) (limit : ℕ) → s.start < g.nodes → 0 < limit → s.next ≡ 0 →
+    s.marks.items ≡ set (replicate g.nodes no_mark) s.start (record { level = 1; edge = 0; width = limit }) → s.queue.items ≡ s.start ∷ [] → Runs g fs s
+Runs-start g fs s limit start_in wide next marks queue =
+    let is = IsRunning-start g.nodes g.edges fs s.start limit start_in wide in
+    let limit_is : limit_of s ≡ limit = ap (λ ms. (mark_at ms s.start).width) marks ∙ is.searching.search.start_width in
+    rw (limit_is, next, marks, queue) is
 
-pub Runs-next : (es : List Edge) (fs : List ℤ) (s : Search) (start next x : ℕ) (new : List Mark) (new_queue row : List ℕ) →
-    Runs es fs s → s.next < length s.queue.items → x ≡ get_or s.queue.items s.next 0 → start ≡ s.start → next ≡ s.next → length new ≡ length s.marks.items →
-    Searches es fs start new new_queue → Grows s.marks.items new (length s.queue.items) → IsRow es x row → All (IsScanned es fs new x) row →
-    IsRunning (length new) es fs start (mark_at new start).width (next + 1) new new_queue
-Runs-next es fs s start next x new new_queue row is lt at same same_next nodes searching grows rows scanned =
-    let width : (mark_at new s.start).width ≡ (mark_at s.marks.items s.start).width = ap (λ m. m.width) (grows.kept s.start is.searching.search.starts) in
-    let search = Searches-to (length s.marks.items) es fs start s.start (mark_at s.marks.items s.start).width new new_queue searching nodes same width in
-    let run = IsRunning-next (length s.marks.items) es fs s.start (mark_at s.marks.items s.start).width s.next x s.marks.items s.queue.items new new_queue row is lt at search grows rows scanned in
-    rw (nodes, same, width, same_next) run
+-- the next node of a queue is reached
+pub Runs-node : (g : Network) (fs : List ℤ) (s : Search) (x : ℕ) → Runs g fs s → s.next < length s.queue.items → x ≡ get_or s.queue.items s.next 0 → 0 < (mark_at s.marks.items x).level
+Runs-node g fs s x is lt at = rw at (is.searching.listed s.next lt)
 
--- the next node of a queue is in range, and reached
-pub Runs-node : (es : List Edge) (fs : List ℤ) (s : Search) (x : ℕ) → Runs es fs s → s.next < length s.queue.items → x ≡ get_or s.queue.items s.next 0 → 0 < (mark_at s.marks.items x).level
-Runs-node es fs s x is lt at = rw at (is.searching.listed s.next lt)
+-- a search that stops while it looks from a node goes on from there
+pub Runs-kept : (g : Network) (es : List Edge) (fs : List ℤ) (s : Search) (row : List ℕ) (x k start next : ℕ) (new : List Mark) (new_queue : List ℕ) →
+    IsLooking g es fs s row x → IsVisiting g es fs s row x k new new_queue → start ≡ s.start → next ≡ s.next →
+    IsRunning g.nodes g.edges fs start (mark_at new start).width next new new_queue
+Runs-kept g es fs s row x k start next new new_queue look is same same_next =
+    let was = look.running in
+    let old = s.marks.items in
+    let run : IsRunning g.nodes g.edges fs s.start (limit_of s) s.next new new_queue = record {
+      searching = rw look.edges at is.searching;
+      done = λ y more le i i_in. level_cases (mark_at old y).level
+          (λ none. absurd (omega (arith, le, look.waiting, is.grows.later y none more)))
+          (λ got. IsScanned-grows g.edges fs old new (length s.queue.items) y i is.grows (was.done y got (omega (arith, le, ap (λ m. m.level) (is.grows.kept y got))) i i_in));
+    } in
+    rw (same, is.searching.search.start_width, same_next) run
+
+-- once it has looked along all edges of a node
+pub Runs-next : (g : Network) (es : List Edge) (fs : List ℤ) (s : Search) (row : List ℕ) (x k start next : ℕ) (new : List Mark) (new_queue : List ℕ) →
+    IsLooking g es fs s row x → IsVisiting g es fs s row x k new new_queue → length row ≤ k → start ≡ s.start → next ≡ s.next →
+    IsRunning g.nodes g.edges fs start (mark_at new start).width (next + 1) new new_queue
+Runs-next g es fs s row x k start next new new_queue look is end same same_next =
+    let scanned : All (IsScanned es fs new x) row = λ j d lt. rw (get_or_default row j d 0 lt) (is.scanned j (omega (arith, lt, end))) in
+    let was : IsRunning g.nodes es fs s.start (limit_of s) s.next s.marks.items s.queue.items = rw look.edges look.running in
+    let run = rw look.edges at (IsRunning-next g.nodes es fs s.start (limit_of s) s.next x s.marks.items s.queue.items new new_queue row was look.waiting look.node is.searching is.grows look.rows scanned) in
+    rw (same, is.searching.search.start_width, same_next) run
+
+pub IsOn-more : (one two three : Search) → IsOn one two → IsOn two three → IsOn one three
+IsOn-more one two three first next = record { start = next.start ∙ first.start; limit = next.limit ∙ first.limit }

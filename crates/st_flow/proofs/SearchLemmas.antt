@@ -1,5 +1,5 @@
 -- The search for nodes that have room from the start.
-use Rattle.std.proofs.Common.{◌≡◌, ◌≢◌, ℕ, ◌+◌, ◌-◌, ◌<◌, ◌≤◌, ◌==◌, suc, zero, Bool, true, false, if◌then◌else◌, List, [], ◌∷◌, ◌++◌, length, get_or, set, get_or-set_other, get_or-set_same, length-set, length-append, ℤ, pos, ◌≤ℤ◌, refl, arith, sym, ◌∙◌, ap, inl, inr, cond, below_more}
+use Rattle.std.proofs.Common.{◌≡◌, ◌≢◌, ℕ, ◌+◌, ◌-◌, ◌<◌, ◌≤◌, ◌==◌, suc, zero, Bool, true, false, if◌then◌else◌, List, [], ◌∷◌, ◌++◌, length, get_or, set, get_or-set_other, get_or-set_same, length-set, length-append, ℤ, pos, ◌≤ℤ◌, refl, arith, sym, ◌∙◌, ap, inl, inr, cond, below_more, All}
 use Rattle.std.proofs.Math.Seq.{get_or-append_seam}
 use Rattle.std.proofs.lemmas.List.{get_or_append_left}
 use Rattle.std.proofs.lemmas.Int.{ints}
@@ -8,9 +8,11 @@ use Rattle.std.proofs.lemmas.List.Sums.{sum_by-set}
 use Rattle.std.specs.List.{AllZip}
 use Rattle.st_flow.specs.declared.edge.Edge.{Edge}
 use Rattle.st_flow.specs.declared.search.Mark.{Mark}
-use Rattle.st_flow.specs.Network.{IsEdge, FitsEdge}
+use Rattle.st_flow.specs.declared.search.Search.{Search}
+use Rattle.st_flow.specs.Network.{Network, IsEdge, FitsEdge}
 use Rattle.st_flow.specs.Residual.{other, room, IsEnd, no_edge, edge_at, amount_at, IsFull}
-use Rattle.st_flow.specs.Search.{no_mark, mark_at, before, IsStep, IsSearching, Searches, IsScanned, Grows, IsApart}
+use Rattle.st_flow.specs.Rows.{IsRow}
+use Rattle.st_flow.specs.Search.{no_mark, mark_at, before, limit_of, IsStep, IsSearching, IsScanned, Grows, Runs, IsApart}
 use Rattle.st_flow.proofs.Closed.{AllZip-at, IsFull-step}
 
 at_end : (queue : List ℕ) (y : ℕ) → get_or (queue ++ y ∷ []) (length queue + 1 - 1) 0 ≡ y
@@ -133,17 +135,23 @@ IsSearching-found nodes es fs a limit marks queue x y i width is fits i_in apart
           omega (arith, gone, end_level, is.counted);
     }
 
-pub Searches-from : (nodes : ℕ) (es : List Edge) (fs : List ℤ) (start limit : ℕ) (marks : List Mark) (queue : List ℕ) → IsSearching nodes es fs start limit marks queue → Searches es fs start marks queue
-Searches-from nodes es fs start limit marks queue is = rw (is.search.has_nodes, is.search.start_width) is
+-- what a search knows while it looks along `row`, the edges of the next node x of its queue
+pub record IsLooking (g : Network) (es : List Edge) (fs : List ℤ) (s : Search) (row : List ℕ) (x : ℕ) : Type 0 where
+  pub edges : es ≡ g.edges
+  pub edges_fit : All (IsEdge g.nodes) es
+  pub fits : AllZip FitsEdge es fs
+  pub few : g.nodes ≤ 512
+  pub rows : IsRow es x row
+  pub running : Runs g fs s
+  pub waiting : s.next < length s.queue.items
+  pub node : x ≡ get_or s.queue.items s.next 0
+  pub is_reached : 0 < (mark_at s.marks.items x).level
 
-pub Searches-to : (nodes : ℕ) (es : List Edge) (fs : List ℤ) (start a limit : ℕ) (marks : List Mark) (queue : List ℕ) → Searches es fs start marks queue → length marks ≡ nodes → start ≡ a → (mark_at marks a).width ≡ limit → IsSearching nodes es fs a limit marks queue
-Searches-to nodes es fs start a limit marks queue is has_nodes same width = rw (← has_nodes, ← width, ← same) is
-
--- a search while it looks along a row of edges of the node x, the first k of which it has seen
-pub record IsVisiting (es : List Edge) (fs : List ℤ) (start : ℕ) (old : List Mark) (old_len : ℕ) (row : List ℕ) (x k : ℕ) (marks : List Mark) (queue : List ℕ) : Type 0 where
-  pub searching : IsSearching (length old) es fs start (mark_at old start).width marks queue
-  pub grows : Grows old marks old_len
-  pub longer : old_len ≤ length queue
+-- the marks and the queue once it has seen the first k of these edges
+pub record IsVisiting (g : Network) (es : List Edge) (fs : List ℤ) (s : Search) (row : List ℕ) (x k : ℕ) (marks : List Mark) (queue : List ℕ) : Type 0 where
+  pub searching : IsSearching g.nodes es fs s.start (limit_of s) marks queue
+  pub grows : Grows s.marks.items marks (length s.queue.items)
+  pub longer : length s.queue.items ≤ length queue
   pub scanned : (j : ℕ) → j < k → IsScanned es fs marks x (get_or row j 0)
 
 pub IsScanned-grows : (es : List Edge) (fs : List ℤ) (marks new : List Mark) (n x i : ℕ) → Grows marks new n → IsScanned es fs marks x i → IsScanned es fs new x i
@@ -161,18 +169,18 @@ Grows-found marks y m n fresh y_in higher = record {
   ];
 }
 
-pub IsVisiting-start : (es : List Edge) (fs : List ℤ) (start : ℕ) (row : List ℕ) (x : ℕ) (marks : List Mark) (queue : List ℕ) → Searches es fs start marks queue → IsVisiting es fs start marks (length queue) row x 0 marks queue
-IsVisiting-start es fs start row x marks queue is = record {
-  searching = is;
-  grows = Grows-none marks (length queue);
+pub IsVisiting-start : (g : Network) (es : List Edge) (fs : List ℤ) (s : Search) (row : List ℕ) (x : ℕ) → IsLooking g es fs s row x → IsVisiting g es fs s row x 0 s.marks.items s.queue.items
+IsVisiting-start g es fs s row x look = record {
+  searching = rw look.edges look.running.searching;
+  grows = Grows-none s.marks.items (length s.queue.items);
   longer = omega arith;
   scanned = λ j lt. absurd (omega arith);
 }
 
 -- an edge that leads to a node that is reached, or has no room
-pub IsVisiting-skip : (es : List Edge) (fs : List ℤ) (start : ℕ) (old : List Mark) (old_len : ℕ) (row : List ℕ) (x k : ℕ) (marks : List Mark) (queue : List ℕ) →
-    IsVisiting es fs start old old_len row x k marks queue → IsScanned es fs marks x (get_or row k 0) → IsVisiting es fs start old old_len row x (k + 1) marks queue
-IsVisiting-skip es fs start old old_len row x k marks queue is here = record {
+pub IsVisiting-skip : (g : Network) (es : List Edge) (fs : List ℤ) (s : Search) (row : List ℕ) (x k : ℕ) (marks : List Mark) (queue : List ℕ) →
+    IsVisiting g es fs s row x k marks queue → IsScanned es fs marks x (get_or row k 0) → IsVisiting g es fs s row x (k + 1) marks queue
+IsVisiting-skip g es fs s row x k marks queue is here = record {
   searching = is.searching;
   grows = is.grows;
   longer = is.longer;
@@ -180,23 +188,25 @@ IsVisiting-skip es fs start old old_len row x k marks queue is here = record {
 }
 
 -- an edge that leads to a new node
-pub IsVisiting-found : (es : List Edge) (fs : List ℤ) (start : ℕ) (old : List Mark) (old_len : ℕ) (row : List ℕ) (x k i width : ℕ) (marks : List Mark) (queue : List ℕ) →
-    IsVisiting es fs start old old_len row x k marks queue → i ≡ get_or row k 0 → AllZip FitsEdge es fs → i < length es → IsEdge (length old) (edge_at es i) → IsEnd (edge_at es i) x →
-    0 < (mark_at old x).level → (mark_at marks (other (edge_at es i) x)).level ≡ 0 →
-    0 < width → width ≤ (mark_at old x).width → pos width ≤ℤ room (edge_at es i) (amount_at fs i) (other (edge_at es i) x) →
-    IsVisiting es fs start old old_len row x (k + 1) (set marks (other (edge_at es i) x) (record { level = length queue + 1; edge = i; width = width })) (queue ++ other (edge_at es i) x ∷ [])
-IsVisiting-found es fs start old old_len row x k i width marks queue is at fits i_in edge end from fresh wide narrows has_room =
+pub IsVisiting-found : (g : Network) (es : List Edge) (fs : List ℤ) (s : Search) (row : List ℕ) (x k i width : ℕ) (marks : List Mark) (queue : List ℕ) →
+    IsLooking g es fs s row x → IsVisiting g es fs s row x k marks queue → i ≡ get_or row k 0 → i < length es → IsEnd (edge_at es i) x →
+    (mark_at marks (other (edge_at es i) x)).level ≡ 0 →
+    0 < width → width ≤ (mark_at s.marks.items x).width → pos width ≤ℤ room (edge_at es i) (amount_at fs i) (other (edge_at es i) x) →
+    IsVisiting g es fs s row x (k + 1) (set marks (other (edge_at es i) x) (record { level = length queue + 1; edge = i; width = width })) (queue ++ other (edge_at es i) x ∷ [])
+IsVisiting-found g es fs s row x k i width marks queue look is at i_in end fresh wide narrows has_room =
     let y = other (edge_at es i) x in
     let m : Mark = record { level = length queue + 1; edge = i; width = width } in
     let new : List Mark = set marks y m in
-    let y_in = other_in (length old) (edge_at es i) x edge in
+    let edge = look.edges_fit i no_edge i_in in
+    let from = look.is_reached in
+    let y_in = other_in g.nodes (edge_at es i) x edge in
     let x_same = is.grows.kept x from in
     let grows = Grows-found marks y m (length queue) fresh (omega (arith, y_in, is.searching.search.has_nodes)) (omega arith) in
     let y_at : 0 < (mark_at new y).level = rw (get_or-set_same marks y m no_mark (omega (arith, y_in, is.searching.search.has_nodes))) (omega arith) in
     record {
-      searching = IsSearching-found (length old) es fs start (mark_at old start).width marks queue x y i width is.searching fits i_in edge.apart (IsEnd-other (edge_at es i) x) (other-other (edge_at es i) x edge.apart end)
+      searching = IsSearching-found g.nodes es fs s.start (limit_of s) marks queue x y i width is.searching look.fits i_in edge.apart (IsEnd-other (edge_at es i) x) (other-other (edge_at es i) x edge.apart end)
           y_in (rw x_same from) fresh wide (rw x_same narrows) has_room;
-      grows = Grows-more old marks new old_len (length queue) is.longer is.grows grows;
+      grows = Grows-more s.marks.items marks new (length s.queue.items) (length queue) is.longer is.grows grows;
       longer = omega (arith, length-append queue (y ∷ []), is.longer);
       scanned = below_more (λ j. IsScanned es fs new x (get_or row j 0)) k
           (λ j lt. IsScanned-grows es fs marks new (length queue) x (get_or row j 0) grows (is.scanned j lt))
@@ -208,10 +218,16 @@ Grows-level old marks n x grows is = rw (grows.kept x is) is
 
 -- a new node that the search across has not reached
 pub IsApart-found : (marks across new : List Mark) (y : ℕ) (m : Mark) → new ≡ set marks y m → IsApart marks across → (mark_at across y).level ≡ 0 → IsApart new across
-IsApart-found marks across new y m is apart free z more = elim (eqb_tells z y) [
-  | inl e ↦ rw e.1 free
-  | inr ne ↦ apart z (rw (is, get_or-set_other marks y z m no_mark ne.1) at more)
-]
+IsApart-found marks across new y m is was free = record {
+  same_nodes = rw is (was.same_nodes ∙ sym (length-set marks y m));
+  apart = λ z more. elim (eqb_tells z y) [
+    | inl e ↦ rw e.1 free
+    | inr ne ↦ was.apart z (rw (is, get_or-set_other marks y z m no_mark ne.1) at more)
+  ];
+}
 
 pub IsApart-sym : (marks across : List Mark) → IsApart marks across → IsApart across marks
-IsApart-sym marks across apart y more = level_cases (mark_at marks y).level (λ none. none) (λ is. absurd (omega (arith, apart y is, more)))
+IsApart-sym marks across is = record {
+  same_nodes = sym is.same_nodes;
+  apart = λ y more. level_cases (mark_at marks y).level (λ none. none) (λ got. absurd (omega (arith, is.apart y got, more)));
+}

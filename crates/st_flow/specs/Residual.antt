@@ -1,4 +1,4 @@
--- What is left to push on each edge, into either of its ends.
+-- Inside: what is left to push on each edge, into either of its ends. No public clause speaks of it.
 use Rattle.std.specs.Prelude.{◌≡◌, ℕ, ◌==◌, Bool, if◌then◌else◌, List, map, ℤ, pos, ◌+ℤ◌, ◌-ℤ◌, neg_ℤ, ◌⊎◌, slice_index_or}
 use Rattle.std.specs.List.{AllZip}
 use Rattle.st_flow.specs.declared.direction.Direction.{Direction}

@@ -1,4 +1,4 @@
--- The rows of a network: the edges at each node.
+-- Inside: the rows of a network, which are the edges at each node. No public clause speaks of them.
 use Rattle.std.specs.Prelude.{◌≡◌, ℕ, zero, suc, [], ◌∷◌, ◌<◌, ◌≤◌, ◌==◌, List, length, All, Contains, Vec, ℤ, pos, ◌+ℤ◌}
 use Rattle.std.specs.declared.alloc.Global.{Global}
 use Rattle.st_flow.specs.declared.edge.Edge.{Edge}

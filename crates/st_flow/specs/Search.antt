@@ -1,9 +1,11 @@
--- What a search notes, and what holds of it while it goes on.
+-- Inside: what a search notes, and what holds of it while it goes on. No public clause speaks of a search.
 use Rattle.std.specs.Prelude.{◌≡◌, ◌≢◌, ℕ, ◌+◌, ◌-◌, ◌<◌, ◌≤◌, ◌==◌, nat_lt, Bool, true, List, length, count_by, ℤ, pos, ◌≤ℤ◌, ◌<ℤ◌, ◌⊎◌, slice_index, slice_index_or}
+use Rattle.st_flow.specs.declared.direction.Direction.TheVariants.{Against}
 use Rattle.st_flow.specs.declared.edge.Edge.{Edge}
 use Rattle.st_flow.specs.declared.search.Mark.{Mark}
 use Rattle.st_flow.specs.declared.search.Search.{Search}
-use Rattle.st_flow.specs.Residual.{other, room, IsEnd, edge_at, amount_at, IsClosed}
+use Rattle.st_flow.specs.Network.{Network}
+use Rattle.st_flow.specs.Residual.{other, room, turned, IsEnd, edge_at, amount_at, IsClosed}
 
 -- the mark of a node that was not reached
 abbrev pub no_mark : Mark
@@ -57,22 +59,34 @@ pub record Grows (marks new_marks : List Mark) (reached_before : ℕ) : Type 0 w
   pub kept : (y : ℕ) → 0 < (mark_at marks y).level → mark_at new_marks y ≡ mark_at marks y
   pub later : (y : ℕ) → (mark_at marks y).level ≡ 0 → 0 < (mark_at new_marks y).level → reached_before < (mark_at new_marks y).level
 
--- a search of which the code keeps the marks and the queue
-abbrev pub Searches : List Edge → List ℤ → ℕ → List Mark → List ℕ → Type 0
-Searches es fs start marks queue = IsSearching (length marks) es fs start (mark_at marks start).width marks queue
-
 -- a search that has looked along the edges of the first `next` nodes of its queue
 pub record IsRunning (nodes : ℕ) (es : List Edge) (fs : List ℤ) (a limit next : ℕ) (marks : List Mark) (queue : List ℕ) : Type 0 where
   pub searching : IsSearching nodes es fs a limit marks queue
   pub done : (y : ℕ) → 0 < (mark_at marks y).level → (mark_at marks y).level ≤ next → (i : ℕ) → i < length es → IsScanned es fs marks y i
 
--- the same, of a search as the code keeps it
-abbrev pub Runs : List Edge → List ℤ → Search → Type 0
-Runs es fs s = IsRunning (length s.marks.items) es fs s.start (mark_at s.marks.items s.start).width s.next s.marks.items s.queue.items
+-- as much as a search was begun for, which its start notes
+abbrev pub limit_of : Search → ℕ
+limit_of s = (mark_at s.marks.items s.start).width
 
--- two searches have reached no node in common
-abbrev pub IsApart : List Mark → List Mark → Type 0
-IsApart marks across = (y : ℕ) → 0 < (mark_at marks y).level → (mark_at across y).level ≡ 0
+-- a search of the network g with the amounts fs, as the code keeps it
+abbrev pub Runs : Network → List ℤ → Search → Type 0
+Runs g fs s = IsRunning g.nodes g.edges fs s.start (limit_of s) s.next s.marks.items s.queue.items
+
+-- the same search, further on
+pub record IsOn (old new : Search) : Type 0 where
+  pub start : new.start ≡ old.start
+  pub limit : limit_of new ≡ limit_of old
+
+-- two searches of one network have reached no node in common
+pub record IsApart (marks across : List Mark) : Type 0 where
+  pub same_nodes : length across ≡ length marks
+  pub apart : (y : ℕ) → 0 < (mark_at marks y).level → (mark_at across y).level ≡ 0
+
+-- the two searches of a round: one along the flow fs, one against it, and they have reached no node in common
+pub record IsRound (g : Network) (fs : List ℤ) (near far : Search) : Type 0 where
+  pub along : Runs g fs near
+  pub against : Runs g (turned Against fs) far
+  pub apart : IsApart near.marks.items far.marks.items
 
 -- edge i leads with room from the node x, which one search has reached, to a node that the search across has reached
 pub record IsMeeting (es : List Edge) (fs : List ℤ) (marks across : List Mark) (i x : ℕ) : Type 0 where

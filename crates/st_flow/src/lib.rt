@@ -2,7 +2,6 @@
 //! cut with its least side. A flow and a cut can be checked against the network again, with no search and no memory.
 #![tactic(auto)]
 
-mod augment;
 mod cut;
 mod direction;
 mod edge;

@@ -1,16 +1,15 @@
 //! One search for nodes that have room from a start, breadth first over the rows of a graph. It notes at each node how
 //! it came there, for the push along the way, and stops where it meets the nodes of another search. What it has reached
 //! once it has looked everywhere is the side of a cut.
-ghost use Rattle.std.specs.Prelude.{◌≡◌, ◌≢◌, ◌+◌, ◌-◌, ◌<◌, ◌≤◌, [], ◌∷◌, ◌++◌, ℕ, ℤ, List, All, IfOk, OnOk, IfNone, IfSome, length, replicate, slice_set};
+ghost use Rattle.std.specs.Prelude.{◌≡◌, ◌+◌, ◌-◌, ◌<◌, ◌≤◌, [], ◌∷◌, ◌++◌, ℕ, ℤ, List, All, IfOk, OnOk, IfNone, IfSome, length, replicate, slice_set};
 ghost use Rattle.std.specs.List.{AllZip};
 ghost use Rattle.std.specs.List.Sorted.{IsStrictlyIncreasing};
-ghost use Rattle.st_flow.specs.Network.{IsEdge, FitsEdge, has};
+ghost use Rattle.st_flow.specs.Network.{Network, FitsEdge, has};
 ghost use Rattle.st_flow.specs.Residual.{turned};
-ghost use Rattle.st_flow.specs.Rows.{IsRow, AreRows};
-ghost use Rattle.st_flow.specs.Search.{no_mark, mark_at, reached, IsScanned, Grows, Searches, Runs, IsApart, IsMeeting};
+ghost use Rattle.st_flow.specs.Search.{no_mark, mark_at, limit_of, reached, Runs, IsOn, IsApart, IsMeeting};
 
 use crate::direction::Direction;
-use crate::edge::Edge;
+use crate::graph::Graph;
 use crate::meeting::Meeting;
 use std::alloc::{AllocError, Global};
 
@@ -57,10 +56,9 @@ impl Search {
         requires start_in { start < length self.old.marks.items }
         requires wide { 0 < limit }
         ensures start { OnOk result (self.new.start ≡ start) }
-        ensures nodes { OnOk result (length self.new.marks.items ≡ length self.old.marks.items) }
-        ensures width { OnOk result ((mark_at self.new.marks.items start).width ≡ limit) }
+        ensures limit { OnOk result (limit_of self.new ≡ limit) }
         ensures alone { OnOk result ((y : ℕ) → 0 < (mark_at self.new.marks.items y).level → y ≡ start) }
-        ensures running { OnOk result ((es : List Edge) (fs : List ℤ) → Runs es fs self.new) }
+        ensures running { OnOk result ((g : Network) (fs : List ℤ) → g.nodes ≡ length self.old.marks.items → Runs g fs self.new) }
     {
         self.start = start;
         self.next = 0;
@@ -81,67 +79,24 @@ impl Search {
     pub(crate) fn step(
         &mut self,
         direction: Direction,
-        rows: &[Vec<u32>],
-        edges: &[Edge],
+        g: &Graph,
         amounts: &[i64],
         across: &[Mark],
     ) -> Result<Option<Meeting>, AllocError>
-        requires edges_fit { All (IsEdge (length self.old.marks.items)) edges.now }
-        requires fits { AllZip FitsEdge edges.now amounts.now }
-        requires few { length self.old.marks.items ≤ 512 }
-        requires rows { AreRows edges.now rows.now }
-        requires nodes { length rows.now ≡ length self.old.marks.items }
-        requires across_nodes { length across.now ≡ length self.old.marks.items }
-        requires running { Runs edges.now (turned direction amounts.now) self.old }
+        requires fits { AllZip FitsEdge g.now.edges amounts.now }
+        requires running { Runs g.now (turned direction amounts.now) self.old }
         requires waiting { self.old.next < length self.old.queue.items }
         requires apart { IsApart self.old.marks.items across.now }
-        ensures start { self.new.start ≡ self.old.start }
-        ensures nodes { OnOk result (length self.new.marks.items ≡ length self.old.marks.items) }
-        ensures width { OnOk result ((mark_at self.new.marks.items self.old.start).width ≡ (mark_at self.old.marks.items self.old.start).width) }
+        ensures on { OnOk result (IsOn self.old self.new) }
+        ensures running { OnOk result (Runs g.now (turned direction amounts.now) self.new) }
         ensures apart { OnOk result (IsApart self.new.marks.items across.now) }
-        ensures searching { OnOk result (Searches edges.now (turned direction amounts.now) self.new.start self.new.marks.items self.new.queue.items) }
-        ensures running { IfOk result (λ met. IfNone met (Runs edges.now (turned direction amounts.now) self.new)) }
         ensures next { IfOk result (λ met. IfNone met (self.new.next ≡ self.old.next + 1)) }
-        ensures met { IfOk result (λ met. IfSome met (λ m. IsMeeting edges.now (turned direction amounts.now) self.new.marks.items across.now m.edge m.from)) }
+        ensures met { IfOk result (λ met. IfSome met (λ m. IsMeeting g.now.edges (turned direction amounts.now) self.new.marks.items across.now m.edge m.from)) }
     {
+        let rows = g.rows.as_slice();
+        let edges = g.edges.as_slice();
         let x = self.queue[self.next];
         let row = rows[x as usize].as_slice();
-        match self.visit(direction, edges, amounts, row, x, across)? {
-            Some(edge) => Ok(Some(Meeting { edge, from: x })),
-            None => {
-                self.next += 1;
-                Ok(None)
-            }
-        }
-    }
-
-    // Looks along the edges in `row`, which are those of the node `x`, until one leads to a node of `across`.
-    fn visit(
-        &mut self,
-        direction: Direction,
-        edges: &[Edge],
-        amounts: &[i64],
-        row: &[u32],
-        x: u32,
-        across: &[Mark],
-    ) -> Result<Option<u32>, AllocError>
-        requires edges_fit { All (IsEdge (length self.old.marks.items)) edges.now }
-        requires fits { AllZip FitsEdge edges.now amounts.now }
-        requires few { length self.old.marks.items ≤ 512 }
-        requires row { IsRow edges.now x row.now }
-        requires across_nodes { length across.now ≡ length self.old.marks.items }
-        requires searching { Searches edges.now (turned direction amounts.now) self.old.start self.old.marks.items self.old.queue.items }
-        requires reached { 0 < (mark_at self.old.marks.items x).level }
-        requires apart { IsApart self.old.marks.items across.now }
-        ensures start { self.new.start ≡ self.old.start }
-        ensures next { self.new.next ≡ self.old.next }
-        ensures nodes { OnOk result (length self.new.marks.items ≡ length self.old.marks.items) }
-        ensures searching { OnOk result (Searches edges.now (turned direction amounts.now) self.new.start self.new.marks.items self.new.queue.items) }
-        ensures apart { OnOk result (IsApart self.new.marks.items across.now) }
-        ensures grows { OnOk result (Grows self.old.marks.items self.new.marks.items (length self.old.queue.items)) }
-        ensures scanned { IfOk result (λ met. IfNone met (All (IsScanned edges.now (turned direction amounts.now) self.new.marks.items x) row.now)) }
-        ensures met { IfOk result (λ met. IfSome met (λ i. IsMeeting edges.now (turned direction amounts.now) self.new.marks.items across.now i x)) }
-    {
         let width = self.marks[x as usize].width;
         for i in row {
             let edge = edges[*i as usize];
@@ -154,10 +109,11 @@ impl Search {
                 continue;
             }
             if across[y as usize].level > 0 {
-                return Ok(Some(*i));
+                return Ok(Some(Meeting { edge: *i, from: x }));
             }
             self.reach(y, *i, width.min(room))?;
         }
+        self.next += 1;
         Ok(None)
     }
 

@@ -1,16 +1,34 @@
-use Rattle.std.proofs.Common.{arith, length, ◌∙◌}
-use Rattle.st_flow.proofs.Running.{IsRunning-closed}
+use Rattle.std.proofs.Common.{arith, All, ap}
+use Rattle.st_flow.specs.Network.{IsEdge}
+use Rattle.st_flow.proofs.Running.{IsRunning-closed, IsOn-more}
 use Rattle.st_flow.proofs.SearchLemmas.{IsApart-sym}
 use Rattle.st_flow.proofs.Meetings.{IsMeeting-across}
 use Rattle.st_flow.proofs.meeting.meet.Goals as goal
 
+pub returns-in-Some-clause-round : goal.returns-in-Some-clause-round
+returns-in-Some-clause-round c =
+    let done = c.in_ok-met.ensures in
+    record {
+      along = c.steps.invariant.round.along;
+      against = done.running;
+      apart = IsApart-sym c.step.new.self.marks.items c.steps.near.marks.items (rw c.as_slice.ensures.value at done.apart);
+    }
+
 pub returns-in-Some-clause-met : goal.returns-in-Some-clause-met
 returns-in-Some-clause-met c =
+    let edges_fit : All (IsEdge c.args.g.now.nodes) c.args.g.now.edges = rw (← c.g.view_is) c.g.invariant.edges_fit in
     let met = rw (c.in-Some.is, c.as_slice.ensures.value) at c.in_ok-met.ensures.met in
-    rw c.other-from.ensures (IsMeeting-across (length c.args.rows.now) c.args.edges.now c.args.amounts.now c.step.new.self.marks.items c.steps.near.marks.items c.in-Some.meeting.edge c.in-Some.meeting.from c.requires.edges_fit met)
+    rw (c.other-from.ensures, c.as_slice-edges.ensures.value, ap (λ g. g.edges) c.g.view_is)
+    (IsMeeting-across c.args.g.now.nodes c.args.g.now.edges c.args.amounts.now c.step.new.self.marks.items c.steps.near.marks.items c.in-Some.meeting.edge c.in-Some.meeting.from edges_fit met)
 
-pub returns-in-Some-met-clause-apart : goal.returns-in-Some-met-clause-apart
-returns-in-Some-met-clause-apart c = rw c.as_slice-else-waiting-gt0.ensures.value at c.in_ok-met-2.ensures.apart
+pub returns-in-Some-met-clause-round : goal.returns-in-Some-met-clause-round
+returns-in-Some-met-clause-round c =
+    let done = c.in_ok-met-2.ensures in
+    record {
+      along = done.running;
+      against = c.steps.invariant.round.against;
+      apart = rw c.as_slice-else-waiting-gt0.ensures.value at done.apart;
+    }
 
 -- the search against the flow went on
 pub steps-preserved-then-waiting : goal.steps-preserved-then-waiting
@@ -18,14 +36,13 @@ steps-preserved-then-waiting c =
     let inv = c.steps.invariant in
     let done = c.in_ok-met.ensures in
     record {
-      near_start = inv.near_start;
-      far_start = done.start ∙ inv.far_start;
-      near_nodes = inv.near_nodes;
-      far_nodes = done.nodes ∙ inv.far_nodes;
-      width = inv.width;
       near = inv.near;
-      far = rw c.in_default.is at done.running;
-      apart = IsApart-sym c.step.new.self.marks.items c.steps.near.marks.items (rw c.as_slice.ensures.value at done.apart);
+      far = IsOn-more c.args.far.now c.steps.far _ inv.far done.on;
+      round = record {
+        along = inv.round.along;
+        against = done.running;
+        apart = IsApart-sym c.step.new.self.marks.items c.steps.near.marks.items (rw c.as_slice.ensures.value at done.apart);
+      };
     }
 
 -- the search along the flow went on
@@ -34,17 +51,17 @@ steps-preserved c =
     let inv = c.steps.invariant in
     let done = c.in_ok-met-2.ensures in
     record {
-      near_start = done.start ∙ inv.near_start;
-      far_start = inv.far_start;
-      near_nodes = done.nodes ∙ inv.near_nodes;
-      far_nodes = inv.far_nodes;
-      width = rw inv.near_start at done.width ∙ inv.width;
-      near = rw c.in_default-met.is at done.running;
+      near = IsOn-more c.args.near.now c.steps.near _ inv.near done.on;
       far = inv.far;
-      apart = rw c.as_slice-else-waiting-gt0.ensures.value at done.apart;
+      round = record {
+        along = done.running;
+        against = inv.round.against;
+        apart = rw c.as_slice-else-waiting-gt0.ensures.value at done.apart;
+      };
     }
 
 pub returns-clause-closed : goal.returns-clause-closed
 returns-clause-closed c =
-    IsRunning-closed (length c.steps.near.marks.items) c.args.edges.now c.args.amounts.now c.steps.near.start _ c.steps.near.next c.steps.near.marks.items c.steps.near.queue.items
-    c.steps.invariant.near (omega (arith, c.steps-test.false, c.waiting.ensures)) (rw c.steps.invariant.near_nodes c.requires.edges_fit) c.requires.fits
+    let edges_fit : All (IsEdge c.args.g.now.nodes) c.args.g.now.edges = rw (← c.g.view_is) c.g.invariant.edges_fit in
+    IsRunning-closed c.args.g.now.nodes c.args.g.now.edges c.args.amounts.now c.steps.near.start _ c.steps.near.next c.steps.near.marks.items c.steps.near.queue.items
+    c.steps.invariant.round.along (omega (arith, c.steps-test.false, c.waiting.ensures)) edges_fit c.requires.fits

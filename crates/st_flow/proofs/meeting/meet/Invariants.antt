@@ -1,20 +1,13 @@
-use Rattle.std.proofs.Common.{◌≡◌, ◌+◌, ◌-◌, length}
-use Rattle.st_flow.specs.declared.direction.Direction.TheVariants.{Against}
-use Rattle.st_flow.specs.Residual.{turned}
-use Rattle.st_flow.specs.Search.{mark_at, Runs, IsApart}
+use Rattle.std.proofs.Common.{◌+◌, ◌-◌}
+use Rattle.st_flow.specs.Search.{IsOn, IsRound}
 use Rattle.st_flow.proofs.meeting.meet.Given as goal
 
 abbrev pub invariant-steps : goal.invariant-steps
 invariant-steps l = record {
-  near_start : l.near.start ≡ l.fn.near.start;
-  far_start : l.far.start ≡ l.fn.far.start;
-  near_nodes : length l.near.marks.items ≡ length l.rows;
-  far_nodes : length l.far.marks.items ≡ length l.rows;
-  width : (mark_at l.near.marks.items l.fn.near.start).width ≡ (mark_at l.fn.near.marks.items l.fn.near.start).width;
-  near : Runs l.edges l.amounts l.near;
-  far : Runs l.edges (turned Against l.amounts) l.far;
-  apart : IsApart l.near.marks.items l.far.marks.items;
+  near : IsOn l.fn.near l.near;
+  far : IsOn l.fn.far l.far;
+  round : IsRound l.g l.amounts l.near l.far;
 }
 
 abbrev pub decreases-steps : goal.decreases-steps
-decreases-steps l = (length l.rows - l.near.next) + (length l.rows - l.far.next)
+decreases-steps l = (l.g.nodes - l.near.next) + (l.g.nodes - l.far.next)
