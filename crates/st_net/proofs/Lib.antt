@@ -1,4 +1,5 @@
 pub mod NamePlaces
+pub mod NameLemmas
 pub mod Tests
 pub mod EntityOrder
 pub mod SetLaws

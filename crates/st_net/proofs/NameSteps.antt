@@ -27,9 +27,6 @@ named_append (x ∷ xs) ys = rw (named_append xs ys) (and_assoc (is_name x) (are
 pub named_both : (xs ys : List (List ℕ)) → are_names xs ≡ true → are_names ys ≡ true → are_names (xs ++ ys) ≡ true
 named_both xs ys p q = rw (named_append xs ys, p, q) refl
 
-pub named_last : (xs : List (List ℕ)) (x : List ℕ) → are_names xs ≡ true → is_name x ≡ true → are_names (xs ++ x ∷ []) ≡ true
-named_last xs x p q = named_both xs (x ∷ []) p (rw q refl)
-
 among_at : (b : Bool) (m a : Option ℕ) (q : Bool) → is_some m ≡ (is_some a || q) → is_some (if b then Some 0 else option_map suc m) ≡ (is_some (if b then Some 0 else option_map suc a) || q)
 among_at true m a q is = refl
 among_at false m a q is = sym (some_too m) ∙ (is ∙ ap (λ p. p || q) (some_too a))

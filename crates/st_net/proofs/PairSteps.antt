@@ -11,15 +11,17 @@ use Rattle.st_net.specs.declared.parts.DevicePart.{DevicePart}
 use Rattle.st_net.specs.declared.parts.PromisePart.{PromisePart}
 use Rattle.st_net.specs.Names.{place_of}
 use Rattle.st_net.specs.Faults.{device_names, is_tor_name, is_on_names, was_promised, is_bad_pair, first_bad_pair}
-use Rattle.st_net.specs.Pairs.{has_pair, is_paired, IsPairOf, are_two_tors, TellPromised}
+use Rattle.st_net.specs.Pairs.{has_pair, is_paired}
+use Rattle.st_net.specs.PairsInside.{IsPairOf, are_two_tors, TellPromised}
 
-either_first : (p q : Bool) → (p || q) ≡ false → p ≡ false
+-- what is in neither order is not in this one
+pub either_first : (p q : Bool) → (p || q) ≡ false → p ≡ false
 either_first true q is = cc
 either_first false q is = refl
 
 -- a pair that is new goes last
-pub pair_added : (keys more : List Pair) (pair : Pair) → more ≡ cond (list_any (λ p. pair.a == p.a && pair.b == p.b) keys) keys (keys ++ pair ∷ []) → is_paired pair.a pair.b keys ≡ false → more ≡ keys ++ pair ∷ []
-pair_added keys more pair m n = let new : has_pair pair.a pair.b keys ≡ false = either_first _ _ n in rw (m, new) refl
+pub pair_added : (keys more : List Pair) (pair : Pair) → more ≡ cond (list_any (λ p. pair.a == p.a && pair.b == p.b) keys) keys (keys ++ pair ∷ []) → has_pair pair.a pair.b keys ≡ false → more ≡ keys ++ pair ∷ []
+pair_added keys more pair m n = rw (m, n) refl
 
 equal_here : (a n : List ℕ) (ns : List (List ℕ)) (i : ℕ) → bytes_eq a n ≡ true → Some 0 ≡ Some i → slice_get (n ∷ ns) i ≡ Some a
 equal_here a n ns zero e is = ap Some (sym ((bytes_eq-Decides a n).0 e))

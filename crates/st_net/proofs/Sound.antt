@@ -14,6 +14,7 @@ use Rattle.st_net.specs.declared.topo.DeviceOpening.{DeviceOpening}
 use Rattle.st_net.specs.declared.topo.LinkOpening.{LinkOpening}
 use Rattle.st_net.specs.declared.promise.Promise.{Promise}
 use Rattle.st_net.specs.declared.topo.TheConstants.{MAX_DEVICES, MAX_LINKS, MAX_TORS, MAX_PROMISES, MAX_CAPACITY, MAX_PERCENT}
+use Rattle.st_net.specs.declared.range.TheConstants.{DEVICE_HEALTH, LINK_HEALTH}
 use Rattle.st_net.specs.Names.{place_of, is_among, is_name}
 use Rattle.st_net.specs.Groups.{are_names, are_device_vals, are_link_vals, no_device, tor_count, IsDevice, IsLink, AreDevices, AreLinks, IsPromiseAmong, ArePromises, is_on_pair, is_promised, are_other_pairs, IsSound, Group}
 use Rattle.std.proofs.lemmas.List.{length-map}
@@ -71,9 +72,9 @@ device_choice false false false is = cc
 
 fine_device : (at tors : ℕ) (d : DevicePart) → device_limit at tors d ≡ None → IsFineDevice at tors d
 fine_device at tors d is =
-    let parts = device_choice (nat_le MAX_DEVICES at) (d.tor && nat_le MAX_TORS tors) (are_device_vals d.vals && nat_le d.health 5) is in
-    let opens = both (are_device_vals d.vals) (nat_le d.health 5) parts.2 in
-    record { few = more_is MAX_DEVICES at parts.0; tors_fit = parts.1; opens = record { vals = opens.0; health = at_most_is d.health 5 opens.1 } }
+    let parts = device_choice (nat_le MAX_DEVICES at) (d.tor && nat_le MAX_TORS tors) (are_device_vals d.vals && nat_le d.health DEVICE_HEALTH) is in
+    let opens = both (are_device_vals d.vals) (nat_le d.health DEVICE_HEALTH) parts.2 in
+    record { few = more_is MAX_DEVICES at parts.0; tors_fit = parts.1; opens = record { vals = opens.0; health = at_most_is d.health DEVICE_HEALTH opens.1 } }
 
 fine_devices : (at tors : ℕ) (ds : List DevicePart) → first_device_limit at tors ds ≡ None → AreDevices (map device_opening ds)
 fine_devices at tors [] is = tt
@@ -147,8 +148,8 @@ fine_link group names number l unknown loops cross limit =
     let in_a : is_among l.a.name names ≡ true = own_known (is_own group l.a) (is_among l.a.name names) ends.0 owns.0 in
     let in_b : is_among l.b.name names ≡ true = own_known (is_own group l.b) (is_among l.b.name names) ends.1 owns.1 in
     let other : bytes_eq l.a.name l.b.name ≡ false = not_loop (is_own group l.a) (is_own group l.b) (bytes_eq l.a.name l.b.name) loops owns.0 owns.1 in
-    let fits = link_choice (nat_le MAX_LINKS number) (nat_le 1 l.capacity) (nat_le l.capacity MAX_CAPACITY) (are_link_vals l.vals && nat_le l.health 1) limit in
-    let opens = both (are_link_vals l.vals) (nat_le l.health 1) fits.3 in (
+    let fits = link_choice (nat_le MAX_LINKS number) (nat_le 1 l.capacity) (nat_le l.capacity MAX_CAPACITY) (are_link_vals l.vals && nat_le l.health LINK_HEALTH) limit in
+    let opens = both (are_link_vals l.vals) (nat_le l.health LINK_HEALTH) fits.3 in (
       more_is MAX_LINKS number fits.0,
       record {
         a_in = known_low names l.a.name in_a;
@@ -157,7 +158,7 @@ fine_link group names number l unknown loops cross limit =
         carries = at_most_is 1 l.capacity fits.1;
         bounded = at_most_is l.capacity MAX_CAPACITY fits.2;
         vals = opens.0;
-        health = at_most_is l.health 1 opens.1;
+        health = at_most_is l.health LINK_HEALTH opens.1;
       },
     )
 

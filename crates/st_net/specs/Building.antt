@@ -1,4 +1,4 @@
--- How parts become a group: the names with their index, and the faults that are left once no name stands twice.
+-- Inside the crate: how parts become a group. The names with their index, and the faults that are left once no name stands twice.
 use Rattle.std.specs.Prelude.{◌≡◌, ℕ, true, List, Option, Some, None}
 use Rattle.st_net.specs.declared.parts.Parts.{Parts}
 use Rattle.st_net.specs.declared.parts.TopoFault.{TopoFault}

@@ -15,6 +15,7 @@ use Rattle.st_net.specs.declared.parts.Built.TheVariants.{Topo, Fault}
 use Rattle.st_net.specs.declared.topo.DeviceOpening.{DeviceOpening}
 use Rattle.st_net.specs.declared.topo.LinkOpening.{LinkOpening}
 use Rattle.st_net.specs.declared.topo.TheConstants.{MAX_DEVICES, MAX_LINKS, MAX_TORS, MAX_PROMISES, MAX_CAPACITY, MAX_PERCENT}
+use Rattle.st_net.specs.declared.range.TheConstants.{DEVICE_HEALTH, LINK_HEALTH}
 use Rattle.st_net.specs.declared.promise.Promise.{Promise}
 use Rattle.st_net.specs.Names.{place_of, is_among}
 use Rattle.st_net.specs.Groups.{Group, are_device_vals, are_link_vals}
@@ -70,13 +71,13 @@ abbrev pub device_limit : ℕ → ℕ → DevicePart → Option Limit
 device_limit at tors d =
     if nat_le MAX_DEVICES at then Some Devices else (
     if d.tor && nat_le MAX_TORS tors then Some Tors else (
-    if are_device_vals d.vals && nat_le d.health 5 then None else Some Opening))
+    if are_device_vals d.vals && nat_le d.health DEVICE_HEALTH then None else Some Opening))
 
 abbrev pub link_limit : ℕ → LinkPart → Option Limit
 link_limit number link =
     if nat_le MAX_LINKS number then Some Links else (
     if nat_le 1 link.capacity && nat_le link.capacity MAX_CAPACITY then (
-    if are_link_vals link.vals && nat_le link.health 1 then None else Some Opening) else Some Capacity)
+    if are_link_vals link.vals && nat_le link.health LINK_HEALTH then None else Some Opening) else Some Capacity)
 
 abbrev pub promise_limit : ℕ → PromisePart → Option Limit
 promise_limit number promise =

@@ -8,6 +8,7 @@ use Rattle.st_net.specs.declared.promise.Promise.{Promise}
 use Rattle.st_net.specs.declared.topo.DeviceOpening.{DeviceOpening}
 use Rattle.st_net.specs.declared.topo.LinkOpening.{LinkOpening}
 use Rattle.st_net.specs.declared.topo.TheConstants.{MAX_DEVICES, MAX_LINKS, MAX_TORS, MAX_PROMISES, MAX_CAPACITY, MAX_PERCENT}
+use Rattle.st_net.specs.declared.range.TheConstants.{DEVICE_HEALTH, LINK_HEALTH}
 use Rattle.st_net.specs.Names.{place_of, is_among, is_name}
 
 -- its name, the names of its devices and of its links, and these with its promises, each in order
@@ -86,7 +87,7 @@ are_link_vals vals = nat_le vals.v0 1 && nat_lt vals.v1 (2 ^ 32) && vals.v2 == 0
 -- a device and a link open in range; a link joins two different devices of a group with n devices, and has a capacity
 pub record IsDevice (d : DeviceOpening) : Type 0 where
   pub vals : are_device_vals d.vals ≡ true
-  pub health : d.health ≤ 5
+  pub health : d.health ≤ DEVICE_HEALTH
 
 pub record IsLink (n : ℕ) (link : LinkOpening) : Type 0 where
   pub a_in : link.a < n
@@ -95,7 +96,7 @@ pub record IsLink (n : ℕ) (link : LinkOpening) : Type 0 where
   pub carries : 1 ≤ link.capacity
   pub bounded : link.capacity ≤ MAX_CAPACITY
   pub vals : are_link_vals link.vals ≡ true
-  pub health : link.health ≤ 1
+  pub health : link.health ≤ LINK_HEALTH
 
 abbrev pub AreDevices : List DeviceOpening → Type 0
 AreDevices [] = Unit {0}

@@ -7,6 +7,7 @@ use Rattle.st_net.specs.declared.entity.Var.TheVariants.{Power, Firmware, Config
 use Rattle.st_net.specs.declared.entity.Vals.{Vals}
 use Rattle.st_net.specs.declared.entity.Row.{Row}
 use Rattle.st_net.specs.declared.topo.TheConstants.{MAX_ROWS}
+use Rattle.st_net.specs.declared.range.TheConstants.{DEVICE_HEALTH, LINK_HEALTH}
 use Rattle.st_net.specs.Entities.{is_same_entity, is_same_var, is_var_of}
 use Rattle.st_net.specs.Groups.{Group, IsEntityOf, are_device_vals, are_link_vals}
 
@@ -36,9 +37,13 @@ abbrev pub are_in_range : Entity → Vals → Bool
 are_in_range (Device i) = are_device_vals
 are_in_range (Link i) = are_link_vals
 
+-- the greatest health of an entity
+abbrev pub most_health : Entity → ℕ
+most_health (Device i) = DEVICE_HEALTH
+most_health (Link i) = LINK_HEALTH
+
 abbrev pub is_health_of : Entity → ℕ → Bool
-is_health_of (Device i) health = nat_le health 5
-is_health_of (Link i) health = nat_le health 1
+is_health_of e health = nat_le health (most_health e)
 
 -- the row names an entity of the group, and a value that its variable may have
 pub record RowFits (g : Group) (row : Row) : Type 0 where

@@ -138,6 +138,7 @@ fn topo_of(
     requires right { fault_of parts.now ≡ None }
     ensures { IfOk result (λ topo. topo ≡ group_of parts.now) }
 {
+    // Only read: so the proof has that the name is spelled as one.
     let _spelling = parts.name.bytes();
     let name = parts.name.copy(alloc)?;
     let devices = device_openings(alloc, parts.devices.as_slice())?;

@@ -1,16 +1,15 @@
 //! What is wrong with the parts of a group: a function for each fault, which finds the first place where it stands.
 
 ghost use Rattle.std.specs.Prelude.{◌≡◌, ◌+◌, ◌-◌, ◌^◌, ◌<◌, [], false, length, IfOk, IfSome, IfNone};
-ghost use Rattle.st_net.specs.Groups.{are_device_vals as are_device_vals_lem, are_link_vals as are_link_vals_lem};
 ghost use Rattle.st_net.specs.Faults.{device_names, is_tor_name, is_own as is_own_lem, is_unknown_end as is_unknown_end_lem, has_unknown_end as has_unknown_end_lem, has_unknown_tor as has_unknown_tor_lem, is_loop as is_loop_lem, is_cross as is_cross_lem, first_link, first_promise, device_limit as device_limit_lem, link_limit as link_limit_lem, promise_limit as promise_limit_lem, first_device_limit as first_device_limit_lem, first_link_limit as first_link_limit_lem, first_promise_limit as first_promise_limit_lem, first_bad_pair as first_bad_pair_lem, unknown_of, loop_of, cross_of, limit_of, pair_of};
-ghost use Rattle.st_net.specs.Pairs.{IsTorOf, IsPairOf, are_two_tors};
+ghost use Rattle.st_net.specs.PairsInside.{IsTorOf, IsPairOf, are_two_tors};
 ghost use Rattle.st_net.specs.Building.{later_fault_of};
 
-use crate::entity::Vals;
 use crate::name::Name;
 use crate::names::Names;
 use crate::pairs::{Pair, Pairs};
 use crate::parts::{DevicePart, EndPart, Limit, LinkPart, Parts, PromisePart, TopoFault};
+use crate::range::{DEVICE_HEALTH, LINK_HEALTH, are_device_vals, are_link_vals};
 use crate::topo::{MAX_CAPACITY, MAX_DEVICES, MAX_LINKS, MAX_PERCENT, MAX_PROMISES, MAX_TORS};
 use std::alloc::{AllocError, Global};
 
@@ -109,20 +108,6 @@ fn first_cross(group: &Name, at: u32, links: &[LinkPart]) -> Option<u32>
     None
 }
 
-/// Whether values are in range for a device, whose power and routing are 0 or 1.
-fn are_device_vals(vals: Vals) -> bool
-    ensures { result ≡ are_device_vals_lem vals }
-{
-    vals.v0 <= 1 && vals.v3 <= 1
-}
-
-/// Whether values are in range for a link, whose power is 0 or 1 and which has no third and fourth value.
-fn are_link_vals(vals: Vals) -> bool
-    ensures { result ≡ are_link_vals_lem vals }
-{
-    vals.v0 <= 1 && vals.v2 == 0 && vals.v3 == 0
-}
-
 /// The limit that a device passes at its place, behind so many ToRs.
 fn device_limit(at: usize, tors: usize, device: &DevicePart) -> Option<Limit>
     ensures { result ≡ device_limit_lem at tors device.now }
@@ -131,7 +116,7 @@ fn device_limit(at: usize, tors: usize, device: &DevicePart) -> Option<Limit>
         Some(Limit::Devices)
     } else if device.tor && tors >= MAX_TORS {
         Some(Limit::Tors)
-    } else if are_device_vals(device.vals) && device.health <= 5 {
+    } else if are_device_vals(device.vals) && device.health <= DEVICE_HEALTH {
         None
     } else {
         Some(Limit::Opening)
@@ -146,7 +131,7 @@ fn link_limit(number: usize, link: &LinkPart) -> Option<Limit>
         Some(Limit::Links)
     } else if link.capacity < 1 || link.capacity > MAX_CAPACITY {
         Some(Limit::Capacity)
-    } else if are_link_vals(link.vals) && link.health <= 1 {
+    } else if are_link_vals(link.vals) && link.health <= LINK_HEALTH {
         None
     } else {
         Some(Limit::Opening)
@@ -266,7 +251,7 @@ fn first_bad_pair(
         let Some(pair) = tors_of(names, devices, promise) else {
             return Ok(Some(at + i as u32));
         };
-        if pairs.has(pair) {
+        if pairs.has_either(pair) {
             return Ok(Some(at + i as u32));
         }
         pairs.add(pair)?;

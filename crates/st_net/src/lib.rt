@@ -23,9 +23,13 @@ pub use items::Items;
 pub use level::{carries, level_of};
 pub use message::{Command, Report};
 pub use name::{MAX_NAME_BYTES, Name, most_name_bytes};
+pub use names::Names;
+pub use pairs::{Pair, Pairs};
 pub use parts::{Built, DevicePart, EndPart, Limit, LinkPart, Parts, PromisePart, TopoFault};
 pub use promise::{Broken, BrokenKind, Promise, Side};
-pub use range::is_in_range;
+pub use range::{
+    DEVICE_HEALTH, LINK_HEALTH, are_in_range, health_limits, is_health_of, is_in_range, most_health,
+};
 pub use set::EntitySet;
 pub use topo::{
     DeviceOpening, GroupTopo, LinkOpening, MAX_CAPACITY, MAX_DEVICES, MAX_LINKS, MAX_PERCENT,

@@ -1,14 +1,15 @@
-//! The names of the parts of a group, numbered in the order of declaration, with an index.
+//! Declared names with an index, numbered in the order of declaration: the names of a group's parts, and those of groups and of
+//! applications.
 
-ghost use Rattle.std.specs.Prelude.{◌≡◌, ◌++◌, [], ◌∷◌, ◌<◌, ◌↔◌, IsTrue, OnOk, OnErr, IfOk, IfSome, length, slice_get, Some, false};
-ghost use Rattle.st_net.specs.Names.{place_of, is_among};
+ghost use Rattle.std.specs.Prelude.{◌≡◌, ◌++◌, [], ◌∷◌, ◌<◌, ◌↔◌, IsTrue, OnOk, OnErr, OnSome, IfOk, IfSome, length, slice_get, Some, false, true};
+ghost use Rattle.st_net.specs.Names.{place_of, is_among, is_name};
 
 use crate::name::Name;
 use indexmap::IndexSet;
 use std::alloc::{AllocError, Global};
 use std::marker::Model;
 
-/// Different names, each of which is found in about one step.
+/// Different names, each of which is found in about one step. Contracts see the list.
 #[derive(Drop)]
 pub struct Names {
     alloc: Global,
@@ -17,13 +18,14 @@ pub struct Names {
 }
 
 impl Model for Names {
-    ghost use Rattle.std.specs.Prelude.{◌≡◌, ℕ, List, map};
+    ghost use Rattle.std.specs.Prelude.{ℕ, List, map};
+    ghost use Rattle.st_net.specs.NamesInside.{HasKeys};
 
     ghost Value = { List (List ℕ) };
 
     ghost view = { λ n. map (λ key. key.items) n.keys.keys };
 
-    ghost invariant = { λ n. n.names.items ≡ map (λ key. key.items) n.keys.keys };
+    ghost invariant = { λ n. HasKeys (map (λ key. key.items) n.keys.keys) n.names.items };
 }
 
 /// Whether these are the same names in the same order.
@@ -60,10 +62,11 @@ impl Names {
         self.names.len()
     }
 
-    /// The place of a name.
+    /// The place of a name, from 0.
     pub fn find(&self, name: &[u8]) -> Option<usize>
         ensures found { result ≡ place_of name.now self.now }
         ensures within { IfSome result (λ place. place < length self.now) }
+        ensures spelled { OnSome result (is_name name.now ≡ true) }
     {
         self.keys.get_index_of(name)
     }
@@ -93,10 +96,8 @@ impl Names {
         let key = Vec::from_slice(self.alloc, name.bytes())?;
         self.names.reserve(1)?;
         self.keys.insert(key)?;
-        match self.names.push(kept) {
-            Ok(()) => Ok(()),
-            Err(_) => unreachable!(),
-        }
+        self.names.push_reserved(kept);
+        Ok(())
     }
 
     /// Equal names.

@@ -238,6 +238,7 @@ impl GroupTopo {
     pub fn is_sound(&self)
         ensures { IsSound self.now }
     {
+        // Only read: so the proof has what every topology keeps.
         let _devices = &self.fields.devices;
     }
 }

@@ -1,6 +1,6 @@
 use Rattle.std.proofs.Common.{◌≡◌, ◌+◌, [], take, drop}
 use Rattle.st_net.specs.Faults.{device_names, first_bad_pair}
-use Rattle.st_net.specs.Pairs.{TellPromised}
+use Rattle.st_net.specs.PairsInside.{TellPromised}
 use Rattle.st_net.proofs.fault.first_bad_pair.Given as goal
 
 abbrev pub invariant-loop-i : goal.invariant-loop-i
