@@ -9,7 +9,7 @@ use Rattle.st_board.specs.declared.post.Post.{Post}
 use Rattle.st_board.specs.declared.post.Post.TheVariants.{Open, Merge, End}
 use Rattle.st_board.specs.Posts.{MarkIsLast, is_ended}
 use Rattle.st_board.specs.LineInside.{IsCounted, Adds}
-use Rattle.st_board.proofs.Prefixes.{prefix_whole}
+use Rattle.st_event.proofs.Prefixes.{prefix_whole}
 
 abbrev pub shown : List Post → List Post
 shown log = []

@@ -1,4 +1,3 @@
-pub mod Prefixes
 pub mod Fronts
 pub mod Recents
 pub mod Adding

@@ -26,3 +26,6 @@ pub mod Ascending
 pub mod Unnamed
 pub mod Versions
 pub mod Accepting
+pub mod Prefixes
+pub mod Begun
+pub mod Undecided

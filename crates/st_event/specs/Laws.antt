@@ -1,5 +1,6 @@
 -- Laws of legal journals, and of one entry more.
 use Rattle.std.specs.Prelude.{◌≡◌, ◌≢◌, ℕ, ◌+◌, ◌<◌, ◌≤◌, true, false, Bool, None, Some, List, [], ◌∷◌, ◌++◌, length, ◌⊎◌, ◌↔◌}
+use mathlib.Core.List.{IsPrefix}
 use Rattle.st_net.specs.declared.entity.AppId.{AppId}
 use Rattle.st_net.specs.declared.entity.Entity.{Entity}
 use Rattle.st_net.specs.declared.entity.Prio.{Prio}
@@ -7,6 +8,7 @@ use Rattle.st_net.specs.declared.entity.Var.{Var}
 use Rattle.st_net.specs.declared.message.Command.{Command}
 use Rattle.st_net.specs.declared.message.Report.{Report}
 use Rattle.st_event.specs.declared.event.Event.{Event}
+use Rattle.st_event.specs.declared.event.Proposal.{Proposal}
 use Rattle.st_event.specs.declared.event.Event.TheVariants.{Check, Deliver, Hear}
 use Rattle.st_event.specs.declared.reply.Reply.TheVariants.{NoSuch}
 use Rattle.st_event.specs.declared.journal.Entry.{Entry}
@@ -22,7 +24,7 @@ use Rattle.st_net.specs.UpGraph.{IsWalk}
 use Rattle.st_net.specs.Cuts.{IsCut, cut_value, least_cut, is_in_least_side}
 use Rattle.st_net.specs.Promises.{Keeps}
 use Rattle.st_net.specs.Demands.{demand_count, HoldsIn, is_held_in}
-use Rattle.st_event.specs.Proposals.{accepted, deciders, pending, first_rows, is_acceptance, overlay_in, overlays, version, target}
+use Rattle.st_event.specs.Proposals.{accepted, deciders, pending, proposals, first_rows, is_acceptance, overlay_in, overlays, version, target}
 use Rattle.st_event.specs.Overlaid.{overlaid_by}
 use Rattle.st_event.specs.Moments.{stamp, fence, commands, reports}
 use Rattle.st_net.specs.Reports.{opening_report}
@@ -87,6 +89,14 @@ pub record OverlaysAccepted (g : Group) (past : List Entry) : Type 0 where
 abbrev pub OverlaysAreAccepted : Type 0
 OverlaysAreAccepted = (g : Group) (past : List Entry) → IsLegal g past → OverlaysAccepted g past
 
+-- what the target was overlaid with, any journal that goes on has first
+abbrev pub OverlaysGoOn : Type 0
+OverlaysGoOn = (more past : List Entry) → IsPrefix (overlays past) (overlays (more ++ past))
+
+-- what was accepted, a legal journal that goes on has first
+abbrev pub AcceptedGoesOn : Type 0
+AcceptedGoesOn = (g : Group) (more past : List Entry) → IsLegal g (more ++ past) → IsPrefix (accepted past) (accepted (more ++ past))
+
 -- in any journal there are no more versions than entries
 abbrev pub VersionsAreFew : Type 0
 VersionsAreFew = (past : List Entry) → version past ≤ length past
@@ -98,6 +108,18 @@ AcceptedAreDecided = (past : List Entry) → length (accepted past) ≤ length (
 -- no more proposals wait than may
 abbrev pub FewWait : Type 0
 FewWait = (g : Group) (past : List Entry) → IsLegal g past → length (pending past) ≤ MAX_PENDING
+
+-- a ticket's proposal waits: counted from the newest, it stands at the same place among all proposals and among the pending ones
+pub record IsPending (past : List Entry) (ticket : ℕ) : Type 0 where
+  pub proposal : Proposal
+  pub place : ℕ
+  pub given : nth (proposals past) ticket ≡ Some proposal
+  pub waits : nth (pending past) place ≡ Some proposal
+  pub behind : length (proposals past) + place ≡ length (pending past) + ticket
+
+-- a ticket that was given is pending exactly where fewer than so many were decided
+abbrev pub TicketsArePending : Type 0
+TicketsArePending = (g : Group) (past : List Entry) (ticket : ℕ) → IsLegal g past → ticket ≤ length (proposals past) → IsPending past ticket ↔ (length (deciders past) < ticket)
 
 -- one entry moves the checker's part of a group, and the network's
 abbrev pub StandingMoves : Type 0

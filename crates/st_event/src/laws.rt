@@ -1,7 +1,7 @@
 //! Laws of the definitions over journals. Each function does nothing: its contract is the law, for the proofs of the
 //! crates that keep a journal or claim something of one.
 
-ghost use Rattle.st_event.specs.Laws.{AcceptedAreDecided, AcceptedMoves, AgentsMove, ChecksTakeNoPromise, FenceIsGreatest, FencesNeverFall, FewWait, HolderIsLastGrant, JournalsAreApart, LeastSideIsCut, LeastSideIsOne, LegalAgentsAgree, LegalJournalsKeepPromises, MoreEntitiesKeepDemands, MoreEntitiesKeepPromises, NoSuchCommand, NoSuchReport, NoWalkIsNoCut, ObservedIsGreatest, OverlaysAreAccepted, OverlaysMove, ReportsAscend, StampsAreEntries, StampsNeverFall, StandingMoves, StandingReplies, TargetOpens, TestsTellDemands, VersionsAreFew, WiresMove};
+ghost use Rattle.st_event.specs.Laws.{AcceptedAreDecided, AcceptedGoesOn, AcceptedMoves, AgentsMove, ChecksTakeNoPromise, FenceIsGreatest, FencesNeverFall, FewWait, HolderIsLastGrant, JournalsAreApart, LeastSideIsCut, LeastSideIsOne, LegalAgentsAgree, LegalJournalsKeepPromises, MoreEntitiesKeepDemands, MoreEntitiesKeepPromises, NoSuchCommand, NoSuchReport, NoWalkIsNoCut, ObservedIsGreatest, OverlaysAreAccepted, OverlaysGoOn, OverlaysMove, ReportsAscend, StampsAreEntries, StampsNeverFall, StandingMoves, StandingReplies, TargetOpens, TestsTellDemands, TicketsArePending, VersionsAreFew, WiresMove};
 
 /// Each legal journal of a sound group keeps the group's promises at every moment: a sure entity is up or failed
 /// untold; while nothing fails of itself, a promise that held at the start holds in the sure set, in the network, and
@@ -36,6 +36,12 @@ pub fn target_is_merge()
     ensures accepted { OverlaysAreAccepted }
 {}
 
+/// What a journal overlaid its target with, each journal that goes on from it has first; and what it accepted, each legal one.
+pub fn accepted_begun()
+    ensures overlaid { OverlaysGoOn }
+    ensures accepted { AcceptedGoesOn }
+{}
+
 /// There are no more versions than entries, and no more proposals were accepted than decided.
 pub fn versions_are_few()
     ensures entries { VersionsAreFew }
@@ -45,6 +51,11 @@ pub fn versions_are_few()
 /// In a legal journal at most 64 proposals wait.
 pub fn few_wait()
     ensures { FewWait }
+{}
+
+/// In a legal journal a ticket that was given is pending exactly where fewer tickets than its number were decided.
+pub fn undecided_are_pending()
+    ensures { TicketsArePending }
 {}
 
 /// One entry moves what the checker keeps, and the network, by one step; and from these two the next reply is given.

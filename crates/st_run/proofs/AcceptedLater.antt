@@ -1,5 +1,5 @@
 -- What a journal has decided and accepted, each journal that goes on from it has first.
-use Rattle.std.proofs.Common.{◌≡◌, ℕ, suc, ◌+◌, ◌≤◌, Bool, true, false, List, [], ◌∷◌, ◌++◌, length, map, take, Option, Some, None, refl, ap, sym, subst, ◌∙◌, arith, length-append, take-append-drop}
+use Rattle.std.proofs.Common.{◌≡◌, ℕ, suc, ◌+◌, ◌≤◌, Bool, true, false, List, [], ◌∷◌, ◌++◌, length, map, take, refl, ap, sym, subst, ◌∙◌, arith, length-append, take-append-drop}
 use Rattle.std.specs.Prelude.{reverse, count_by, if◌then◌else◌, drop}
 use Rattle.std.specs.List.{filter}
 use Rattle.std.proofs.Math.Seq.{take-append_seam}
@@ -12,44 +12,18 @@ use Rattle.st_net.specs.declared.entity.Entity.{Entity}
 use Rattle.st_net.specs.declared.entity.Var.{Var}
 use Rattle.st_net.specs.Groups.{Group}
 use Rattle.st_net.specs.Merge.{merge_of}
-use Rattle.st_event.specs.declared.event.Event.{Event}
-use Rattle.st_event.specs.declared.event.Event.TheVariants.{Check}
 use Rattle.st_event.specs.declared.event.Proposal.{Proposal}
-use Rattle.st_event.specs.declared.reply.Reply.{Reply}
-use Rattle.st_event.specs.declared.reply.Reply.TheVariants.{Decided}
 use Rattle.st_event.specs.declared.reply.Verdict.{Verdict}
 use Rattle.st_event.specs.declared.journal.Entry.{Entry}
 use Rattle.st_event.specs.Legal.{IsLegal}
-use Rattle.st_event.specs.Proposals.{accepted_among, deciders, first_rows, is_accepted, overlay_in, overlays, pending, proposals, verdicts, verdicts_after, version, with_overlay, with_verdict_of}
+use Rattle.st_event.specs.Proposals.{accepted_among, deciders, is_accepted, overlays, proposals, verdicts, version}
 use Rattle.st_event.specs.Versions.{value_at}
+use Rattle.st_event.proofs.Begun.{verdicts_later, overlaid_later}
 use Rattle.st_event.proofs.Standings.{length-deciders}
 use Rattle.st_event.proofs.Targets.{legal_orderly, overlays_are_accepted}
-use Rattle.st_board.proofs.Prefixes.{prefix_self, prefix_trans, prefix_length}
+use Rattle.st_event.proofs.Prefixes.{prefix_length}
 use Rattle.st_run.specs.Logs.{accepted_up_to}
 use Rattle.st_service.specs.Made.{Made, past_in}
-
--- an entry more leaves the verdicts and the overlays, or has one more behind them
-
-verdict_given : (answer : Reply) (before : List Verdict) → IsPrefix before (with_verdict_of answer before)
-verdict_given (Decided receipt) before = (receipt.verdict ∷ [], refl)
-verdict_given _ before = prefix_self before
-
-verdicts_one : (event : Event) (answer : Reply) (before : List Verdict) → IsPrefix before (verdicts_after event answer before)
-verdicts_one Check answer before = verdict_given answer before
-verdicts_one _ answer before = prefix_self before
-
-verdicts_later : (more past : List Entry) → IsPrefix (verdicts past) (verdicts (more ++ past))
-verdicts_later [] past = prefix_self (verdicts past)
-verdicts_later (e ∷ more) past = prefix_trans (verdicts past) (verdicts (more ++ past)) (verdicts (e ∷ more ++ past)) (verdicts_later more past) (verdicts_one e.event e.reply (verdicts (more ++ past)))
-
-overlaid_one : (o : Option (List Row)) (before : List (List Row)) → IsPrefix before (with_overlay o before)
-overlaid_one None before = prefix_self before
-overlaid_one (Some rows) before = (rows ∷ [], refl)
-
--- what the target is overlaid with
-pub overlaid_later : (more past : List Entry) → IsPrefix (overlays past) (overlays (more ++ past))
-overlaid_later [] past = prefix_self (overlays past)
-overlaid_later (e ∷ more) past = prefix_trans (overlays past) (overlays (more ++ past)) (overlays (e ∷ more ++ past)) (overlaid_later more past) (overlaid_one (overlay_in e.event e.reply (first_rows (pending (more ++ past)))) (overlays (more ++ past)))
 
 -- a front that goes on has more entries in front of its journal
 pub past_later : (xs ys : List Made) (p : IsPrefix xs ys) → past_in ys ≡ past_in p.0 ++ past_in xs

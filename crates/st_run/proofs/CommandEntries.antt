@@ -18,7 +18,7 @@ use Rattle.st_event.specs.Legal.{IsLegal}
 use Rattle.st_event.specs.Proposals.{is_queued, pending}
 use Rattle.st_event.specs.Services.{entry_after}
 use Rattle.st_wire.specs.declared.line.WireLine.{WireLine}
-use Rattle.st_board.proofs.Prefixes.{prefix_trans}
+use Rattle.st_event.proofs.Prefixes.{prefix_trans}
 use Rattle.st_world.specs.Acts.{proposed}
 use Rattle.st_world.specs.Rounds.{Course, course_from, enter, unsettled}
 use Rattle.st_world.specs.declared.world.rounds.Going.{Going}

@@ -10,7 +10,7 @@ use Rattle.st_event.specs.declared.act.Act.{Act}
 use Rattle.st_event.specs.declared.act.Act.TheVariants.{Await}
 use Rattle.st_event.specs.declared.journal.Entry.{Entry}
 use Rattle.st_wire.specs.declared.line.WireLine.{WireLine}
-use Rattle.st_board.proofs.Prefixes.{prefix_self, prefix_trans}
+use Rattle.st_event.proofs.Prefixes.{prefix_self, prefix_trans}
 use Rattle.st_world.specs.Acts.{group_number}
 use Rattle.st_service.specs.Acts.{ActEnters}
 use Rattle.st_service.specs.Asked.{requests_of, requests_in}

@@ -20,7 +20,7 @@ use Rattle.st_event.specs.Moments.{vals}
 use Rattle.st_event.specs.Proposals.{pending}
 use Rattle.st_event.specs.Services.{entry_after}
 use Rattle.st_wire.specs.declared.line.WireLine.{WireLine}
-use Rattle.st_board.proofs.Prefixes.{prefix_length, prefix_trans}
+use Rattle.st_event.proofs.Prefixes.{prefix_length, prefix_trans}
 use Rattle.st_world.specs.Acts.{course_of, failed_vals, proposed, with_room}
 use Rattle.st_world.specs.Rounds.{course_from, enter, unsettled}
 use Rattle.st_world.specs.declared.world.rounds.Going.TheVariants.{On}

@@ -14,7 +14,7 @@ use Rattle.st_service.specs.declared.offlock.OffLock.TheVariants.{Decided, Gone,
 use Rattle.st_service.specs.declared.work.Part.{Part}
 use Rattle.st_service.specs.declared.work.Part.TheVariants.{Update as update_half, Monitor as monitor_half}
 use Rattle.st_service.specs.OffLock.{ChecksOff, CommitsIn, verdict_entry}
-use Rattle.st_board.proofs.Prefixes.{prefix_self}
+use Rattle.st_event.proofs.Prefixes.{prefix_self}
 use Rattle.st_service.specs.Kept.{AllWithin, Kept}
 use Rattle.st_service.specs.Made.{Made}
 use Rattle.st_service.specs.Passes.{Holder, front_at, mine_at}

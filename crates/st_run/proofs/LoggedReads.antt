@@ -15,7 +15,7 @@ use Rattle.st_event.specs.Proposals.{overlays, version}
 use Rattle.st_event.specs.Versions.{value_at}
 use Rattle.st_wire.specs.declared.line.WireLine.{WireLine}
 use Rattle.st_world.specs.Acts.{group_number, seen_at}
-use Rattle.st_board.proofs.Prefixes.{prefix_length}
+use Rattle.st_event.proofs.Prefixes.{prefix_length}
 use Rattle.st_service.specs.Acts.{ActLogs, ActTeaches}
 use Rattle.st_run.specs.CarriedLaws.{ScriptsAreLogged}
 use Rattle.st_run.specs.CarriedOn.{LogsAll, SeesNoLess}

@@ -12,7 +12,7 @@ use Rattle.st_event.specs.declared.act.Act.{Act}
 use Rattle.st_event.specs.declared.act.Act.TheVariants.{Propose, Await, Settle, Lock, Unlock, Read, ReadAt, Fail, Poll}
 use Rattle.st_event.specs.declared.journal.Entry.{Entry}
 use Rattle.st_wire.specs.declared.line.WireLine.{WireLine}
-use Rattle.st_board.proofs.Prefixes.{prefix_trans, prefix_length}
+use Rattle.st_event.proofs.Prefixes.{prefix_trans, prefix_length}
 use Rattle.st_world.specs.Acts.{group_number}
 use Rattle.st_service.specs.Awaits.{Awaits}
 use Rattle.st_run.specs.CarriedOn.{EachAct, IsSettledIn, done_by, first_of}

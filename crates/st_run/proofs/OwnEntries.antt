@@ -4,7 +4,7 @@ use Rattle.std.specs.Prelude.{Option, Some, None, slice_get}
 use Rattle.std.proofs.lemmas.List.{append-nil}
 use mathlib.Core.List.{IsPrefix}
 use Rattle.st_event.specs.declared.journal.Entry.{Entry}
-use Rattle.st_board.proofs.Prefixes.{prefix_length, prefix_trans}
+use Rattle.st_event.proofs.Prefixes.{prefix_length, prefix_trans}
 use Rattle.st_service.specs.Kept.{AllWithin}
 use Rattle.st_service.specs.Lines.{tagged, numbers}
 use Rattle.st_service.specs.Made.{Made}

@@ -12,7 +12,7 @@ use Rattle.st_event.specs.declared.act.Log.{Log}
 use Rattle.st_event.specs.declared.journal.Journal.{Journal}
 use Rattle.st_grammar.specs.declared.doc.Script.{Script}
 use Rattle.st_wire.specs.declared.line.WireLine.{WireLine}
-use Rattle.st_board.proofs.Prefixes.{prefix_length}
+use Rattle.st_event.proofs.Prefixes.{prefix_length}
 use Rattle.st_service.specs.Acts.{CanDo}
 use Rattle.st_service.specs.Opened.{IsFresh}
 use Rattle.st_service.specs.Passes.{Holder, front_at, mine_at}

@@ -11,7 +11,7 @@ use Rattle.st_event.specs.declared.event.Event.{Event}
 use Rattle.st_event.specs.declared.event.Event.TheVariants.{Submit, Check, Lock, Unlock, Send, Deliver, Finish, Report, Hear, Fail}
 use Rattle.st_event.specs.declared.journal.Entry.{Entry}
 use Rattle.st_wire.specs.declared.line.WireLine.{WireLine}
-use Rattle.st_board.proofs.Prefixes.{prefix_get, prefix_length, prefix_shorter, prefix_trans}
+use Rattle.st_event.proofs.Prefixes.{prefix_get, prefix_length, prefix_shorter, prefix_trans}
 use Rattle.st_world.specs.Rounds.{Course, course_from, poll}
 use Rattle.st_world.specs.World.{IsBeginning}
 use Rattle.st_service.specs.Made.{Made, past_in}

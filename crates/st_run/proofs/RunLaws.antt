@@ -14,7 +14,7 @@ use Rattle.st_event.specs.declared.journal.TheConstants.{MAX_ENTRIES, MAX_PENDIN
 use Rattle.st_event.specs.Legal.{IsLegal}
 use Rattle.st_event.proofs.Promises.{keeps_throughout}
 use Rattle.st_wire.specs.declared.line.WireLine.{WireLine}
-use Rattle.st_board.proofs.Prefixes.{prefix_length}
+use Rattle.st_event.proofs.Prefixes.{prefix_length}
 use Rattle.st_service.specs.Closed.{IsWhole}
 use Rattle.st_service.specs.Made.{Made, past_in}
 use Rattle.st_service.specs.Passes.{Holder, front_at}

@@ -19,7 +19,7 @@ use Rattle.st_event.specs.Services.{entry_after}
 use Rattle.st_wire.specs.declared.line.WireKind.TheVariants.{Command as command_kind, Report as report_kind}
 use Rattle.st_wire.specs.declared.line.WireLine.{WireLine}
 use Rattle.st_wire.specs.Deliveries.{deliveries}
-use Rattle.st_board.proofs.Prefixes.{prefix_length, prefix_self, prefix_trans}
+use Rattle.st_event.proofs.Prefixes.{prefix_length, prefix_self, prefix_trans}
 use Rattle.st_world.specs.Acts.{course_of}
 use Rattle.st_world.specs.Rounds.{Course, course_from, enter, enter_all, follow_ups_of, follow_ups, poll}
 use Rattle.st_world.specs.declared.world.rounds.Going.TheVariants.{On}

@@ -12,7 +12,7 @@ use Rattle.st_event.specs.declared.act.Act.TheVariants.{Propose, Await, Settle, 
 use Rattle.st_event.specs.declared.journal.Entry.{Entry}
 use Rattle.st_event.specs.declared.reply.Reply.{Reply}
 use Rattle.st_wire.specs.declared.line.WireLine.{WireLine}
-use Rattle.st_board.proofs.Prefixes.{prefix_length, prefix_trans}
+use Rattle.st_event.proofs.Prefixes.{prefix_length, prefix_trans}
 use Rattle.st_service.specs.Asked.{requests_in as places_in, requests_of}
 use Rattle.st_run.specs.CarriedLaws.{history_of}
 use Rattle.st_run.specs.CarriedOn.{AsksInTime, EachAct, IsInTime, IsSettledIn, Settles, SettlesAll, done_by, entries_of, first_of}

@@ -6,7 +6,7 @@ use Rattle.st_net.specs.Groups.{Group}
 use Rattle.st_event.specs.declared.act.Act.{Act}
 use Rattle.st_event.specs.declared.journal.Entry.{Entry}
 use Rattle.st_wire.specs.declared.line.WireLine.{WireLine}
-use Rattle.st_board.proofs.Prefixes.{prefix_trans}
+use Rattle.st_event.proofs.Prefixes.{prefix_trans}
 use Rattle.st_run.specs.CarriedLaws.{history_of}
 use Rattle.st_run.specs.CarriedOn.{SeesAwaited}
 use Rattle.st_service.specs.Closed.{IsWhole}

@@ -18,7 +18,7 @@ use Rattle.st_event.specs.Proposals.{overlays, version}
 use Rattle.st_event.specs.Versions.{value_at}
 use Rattle.st_wire.specs.declared.line.WireLine.{WireLine}
 use Rattle.st_world.specs.Acts.{group_number, seen_at}
-use Rattle.st_board.proofs.Prefixes.{prefix_length, prefix_trans}
+use Rattle.st_event.proofs.Prefixes.{prefix_length, prefix_trans}
 use Rattle.st_run.specs.CarriedLaws.{history_of}
 use Rattle.st_run.specs.CarriedOn.{SeesTruly}
 use Rattle.st_service.specs.Closed.{IsWhole}

@@ -12,7 +12,7 @@ use Rattle.st_event.specs.declared.journal.Entry.{Entry}
 use Rattle.st_event.specs.History.{History}
 use Rattle.st_event.specs.Observed.{is_settled}
 use Rattle.st_wire.specs.declared.line.WireLine.{WireLine}
-use Rattle.st_board.proofs.Prefixes.{prefix_trans}
+use Rattle.st_event.proofs.Prefixes.{prefix_trans}
 use Rattle.st_world.specs.World.{IsBeginning}
 use Rattle.st_world.specs.Rounds.{Course, course_from, turn, unsettled}
 use Rattle.st_run.specs.CarriedOn.{IsSettledIn, WasSettled}

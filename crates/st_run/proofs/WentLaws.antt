@@ -10,7 +10,7 @@ use Rattle.st_event.specs.declared.act.Act.{Act}
 use Rattle.st_event.specs.declared.act.Act.TheVariants.{Await}
 use Rattle.st_event.specs.declared.journal.TheConstants.{MAX_ENTRIES, MAX_PENDING}
 use Rattle.st_wire.specs.declared.line.WireLine.{WireLine}
-use Rattle.st_board.proofs.Prefixes.{prefix_self, prefix_trans, prefix_length}
+use Rattle.st_event.proofs.Prefixes.{prefix_self, prefix_trans, prefix_length}
 use Rattle.st_world.specs.Acts.{group_number}
 use Rattle.st_service.specs.Kept.{Grows, Kept}
 use Rattle.st_service.specs.Made.{Made}

@@ -12,7 +12,7 @@ use Rattle.st_event.specs.declared.journal.Journal.{Journal}
 use Rattle.st_event.specs.declared.journal.TheConstants.{MAX_ENTRIES, MAX_PENDING}
 use Rattle.st_event.specs.Services.{entry_after}
 use Rattle.st_wire.specs.declared.line.WireLine.{WireLine}
-use Rattle.st_board.proofs.Prefixes.{prefix_length}
+use Rattle.st_event.proofs.Prefixes.{prefix_length}
 use Rattle.st_world.specs.Acts.{course_of}
 use Rattle.st_world.specs.Rounds.{Course, course_from}
 use Rattle.st_service.specs.Acts.{ActEnters, CanDo}

@@ -23,7 +23,7 @@ use Rattle.st_world.specs.World.{IsBeginning}
 use Rattle.st_world.specs.declared.world.rounds.Going.{Going}
 use Rattle.st_world.specs.declared.world.rounds.Going.TheVariants.{On}
 use Rattle.st_world.proofs.RunLaws.{entered}
-use Rattle.st_board.proofs.Prefixes.{prefix_self, prefix_trans}
+use Rattle.st_event.proofs.Prefixes.{prefix_self, prefix_trans}
 use Rattle.st_service.specs.declared.awaits.Checked.TheVariants.{Over}
 use Rattle.st_service.specs.Awaits.{Awaits, ChecksFor, WaitsOut, WentOn}
 use Rattle.st_service.specs.Lines.{tagged, numbers}

@@ -17,7 +17,7 @@ use Rattle.st_wire.specs.declared.line.WireLine.{WireLine}
 use Rattle.st_world.specs.Rounds.{Course, course_from, unsettled}
 use Rattle.st_world.specs.declared.world.rounds.Going.{Going}
 use Rattle.st_world.specs.declared.world.rounds.Going.TheVariants.{On, Full}
-use Rattle.st_board.proofs.Prefixes.{prefix_self, prefix_trans, prefix_length}
+use Rattle.st_event.proofs.Prefixes.{prefix_self, prefix_trans, prefix_length}
 use Rattle.st_service.specs.declared.work.Part.{Part}
 use Rattle.st_service.specs.declared.work.Part.TheVariants.{Whole}
 use Rattle.st_service.specs.Awaits.{WentOn, Waits}

@@ -9,7 +9,7 @@ use Rattle.st_event.specs.declared.journal.TheConstants.{MAX_ENTRIES}
 use Rattle.st_world.specs.World.{IsBeginning}
 use Rattle.st_world.specs.Rounds.{Course, is_full}
 use Rattle.st_world.specs.declared.world.rounds.Going.{Going}
-use Rattle.st_board.proofs.Prefixes.{prefix_trans, prefix_length}
+use Rattle.st_event.proofs.Prefixes.{prefix_trans, prefix_length}
 use Rattle.st_service.specs.Asked.{asker, is_own, all_own}
 use Rattle.st_service.specs.Kept.{AllWithin, Grows}
 use Rattle.st_service.specs.Lines.{tagged, numbers}

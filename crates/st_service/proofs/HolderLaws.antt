@@ -4,7 +4,7 @@ use Rattle.std.proofs.lemmas.List.{length-map, length-set}
 use mathlib.Core.List.{IsPrefix}
 use Rattle.st_event.specs.declared.act.LogEntry.{LogEntry}
 use Rattle.st_board.specs.Published.{Published}
-use Rattle.st_board.proofs.Prefixes.{prefix_self}
+use Rattle.st_event.proofs.Prefixes.{prefix_self}
 use Rattle.st_service.specs.Kept.{Grows, Kept}
 use Rattle.st_service.specs.Made.{Made}
 use Rattle.st_service.specs.Passes.{Holder, no_reader}

@@ -29,7 +29,7 @@ use Rattle.st_world.specs.declared.world.rounds.Going.{Going}
 use Rattle.st_world.specs.declared.world.rounds.Going.TheVariants.{On, Full}
 use Rattle.st_world.proofs.CommitLaws.{bases_may, tickets_stay}
 use Rattle.st_world.proofs.RunLaws.{entered}
-use Rattle.st_board.proofs.Prefixes.{prefix_self, prefix_trans}
+use Rattle.st_event.proofs.Prefixes.{prefix_self, prefix_trans}
 use Rattle.st_service.specs.declared.work.Work.{Work}
 use Rattle.st_service.specs.declared.work.Work.TheVariants.{OneAct, Commit, Turn}
 use Rattle.st_service.specs.Awaits.{BeginsFor, ChecksFor, WentOn, checked_of}

@@ -19,7 +19,7 @@ use Rattle.st_world.proofs.RunLaws.{beginning-self}
 use Rattle.std.specs.Borrow.{Bor}
 use Rattle.st_control.specs.Basis.{JudgedView}
 use Rattle.st_board.specs.Published.{Published}
-use Rattle.st_board.proofs.Prefixes.{prefix_self, prefix_trans}
+use Rattle.st_event.proofs.Prefixes.{prefix_self, prefix_trans}
 use Rattle.st_service.specs.declared.work.Work.{Work}
 use Rattle.st_service.specs.declared.work.Work.TheVariants.{Commit}
 use Rattle.st_service.specs.Rooms.{Adds, IsRoom, RoomView}

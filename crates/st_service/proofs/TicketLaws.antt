@@ -5,7 +5,7 @@ use Rattle.std.specs.Prelude.{Option, Some, None, slice_get}
 use Rattle.std.specs.Option.{option_or}
 use mathlib.Core.List.{IsPrefix}
 use Rattle.st_event.specs.declared.journal.Entry.{Entry}
-use Rattle.st_board.proofs.Prefixes.{prefix_shorter, prefix_length}
+use Rattle.st_event.proofs.Prefixes.{prefix_shorter, prefix_length}
 use Rattle.st_service.specs.declared.line.Batch.{Batch}
 use Rattle.st_service.specs.Lines.{flat, tagged, numbers}
 use Rattle.st_service.specs.Made.{Made}

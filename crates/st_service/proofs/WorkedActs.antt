@@ -26,7 +26,7 @@ use Rattle.st_control.specs.Basis.{JudgedView}
 use Rattle.st_world.specs.Acts.{ActFits, course_of}
 use Rattle.st_world.specs.Rounds.{Course, course_from}
 use Rattle.st_world.specs.declared.world.rounds.Going.TheVariants.{On}
-use Rattle.st_board.proofs.Prefixes.{prefix_length, prefix_whole}
+use Rattle.st_event.proofs.Prefixes.{prefix_length, prefix_whole}
 use Rattle.st_service.specs.declared.acts.Acted.TheVariants.{Done, JournalFull}
 use Rattle.st_service.specs.declared.work.Part.{Part}
 use Rattle.st_service.specs.declared.work.Part.TheVariants.{Whole, Update, Monitor}

@@ -11,7 +11,7 @@ use Rattle.st_event.specs.Services.{entry_after}
 use Rattle.st_world.specs.Rounds.{Course, course_from, turn, unsettled}
 use Rattle.st_world.specs.declared.world.rounds.Going.TheVariants.{On, Full}
 use Rattle.st_world.specs.declared.world.rounds.Rounded.TheVariants.{Did, JournalFull}
-use Rattle.st_board.proofs.Prefixes.{prefix_trans, prefix_length, prefix_shorter, prefix_whole}
+use Rattle.st_event.proofs.Prefixes.{prefix_trans, prefix_length, prefix_shorter, prefix_whole}
 use Rattle.st_service.specs.declared.awaits.Checked.TheVariants.{Over, Went, Full as full_before}
 use Rattle.st_service.specs.declared.work.Part.TheVariants.{Whole, Update, Monitor}
 use Rattle.st_service.specs.Awaits.{WentOn, ChecksFor, Waits, WaitsOut, Awaits, Awaited}

@@ -11,7 +11,7 @@ use Rattle.st_event.specs.declared.journal.TheConstants.{MAX_ENTRIES}
 use Rattle.st_board.specs.Published.{Published}
 use Rattle.st_world.specs.Rounds.{Course, course_from, enter_all}
 use Rattle.st_world.specs.declared.world.rounds.Going.TheVariants.{On, Full}
-use Rattle.st_board.proofs.Prefixes.{prefix_self}
+use Rattle.st_event.proofs.Prefixes.{prefix_self}
 use Rattle.st_service.specs.Kept.{AllWithin, Grows, Kept}
 use Rattle.st_service.specs.Lines.{tagged, numbers}
 use Rattle.st_service.specs.Made.{Made, past_in, maker}

@@ -8,7 +8,7 @@ use Rattle.st_event.specs.declared.reply.Reply.TheVariants.{Decided as decided_r
 use Rattle.st_event.specs.Proposals.{deciders}
 use Rattle.st_event.specs.Replies.{receipt_of}
 use Rattle.st_world.specs.declared.world.commits.Committed.TheVariants.{Did, Gone, JournalFull}
-use Rattle.st_board.proofs.Prefixes.{prefix_length}
+use Rattle.st_event.proofs.Prefixes.{prefix_length}
 use Rattle.st_service.specs.declared.offlock.OffLock.TheVariants.{Decided, Gone as was_gone, Idle, JournalFull as met_full}
 use Rattle.st_service.specs.Made.{Made, past_in}
 use Rattle.st_service.specs.OffLock.{ChecksOff, CommitsIn, IsVerdictOf, WasOldest, verdict_entry}

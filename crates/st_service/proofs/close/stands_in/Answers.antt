@@ -6,7 +6,7 @@ use Rattle.logbook.specs.declared.tokens.Seen.{Seen}
 use Rattle.st_service.specs.declared.line.Batch.{Batch}
 use Rattle.st_service.specs.declared.line.Law.{Law}
 use Rattle.st_service.specs.Lines.{flat}
-use Rattle.st_board.proofs.Prefixes.{prefix_shorter}
+use Rattle.st_event.proofs.Prefixes.{prefix_shorter}
 use Rattle.st_service.proofs.ClosingLaws.{when_true}
 use Rattle.st_service.proofs.Lines.{flat_prefix}
 use Rattle.st_service.proofs.Mines.{mine_longer}

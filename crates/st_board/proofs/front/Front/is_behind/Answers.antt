@@ -2,7 +2,7 @@ use Rattle.std.proofs.Common.{◌≤◌, List, length, ap, subst, sym, ◌∙◌
 use Rattle.std.proofs.lemmas.Bool.{ltb-true, ltb-false}
 use mathlib.Core.List.{IsPrefix}
 use Rattle.st_board.specs.declared.post.Post.{Post}
-use Rattle.st_board.proofs.Prefixes.{prefix_shorter, prefix_whole}
+use Rattle.st_event.proofs.Prefixes.{prefix_shorter, prefix_whole}
 use Rattle.st_board.proofs.Fronts.{ended_whole}
 use Rattle.st_board.proofs.front.Front.is_behind.Goals as goal
 

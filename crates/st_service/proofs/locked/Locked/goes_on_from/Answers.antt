@@ -5,7 +5,7 @@ use mathlib.Core.List.{IsPrefix}
 use Rattle.logbook.specs.declared.tokens.Seen.{Seen}
 use Rattle.st_service.specs.declared.line.Batch.{Batch}
 use Rattle.st_service.specs.declared.line.Law.{Law}
-use Rattle.st_board.proofs.Prefixes.{prefix_shorter}
+use Rattle.st_event.proofs.Prefixes.{prefix_shorter}
 use Rattle.st_service.proofs.ClosingLaws.{when_true}
 use Rattle.st_service.proofs.Lines.{flat_prefix}
 use Rattle.st_service.proofs.locked.Locked.goes_on_from.Goals as goal

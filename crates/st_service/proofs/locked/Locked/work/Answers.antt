@@ -8,7 +8,7 @@ use Rattle.st_event.specs.Legal.{IsLegal}
 use Rattle.st_event.proofs.Accepting.{legal_within}
 use Rattle.st_board.specs.Published.{Published}
 use Rattle.st_world.specs.declared.world.rounds.Going.{Going}
-use Rattle.st_board.proofs.Prefixes.{prefix_self}
+use Rattle.st_event.proofs.Prefixes.{prefix_self}
 use Rattle.st_service.specs.declared.place.Place.{Place}
 use Rattle.st_service.specs.Lines.{flat}
 use Rattle.st_service.specs.Made.{IsMine, past_in}

@@ -16,7 +16,7 @@ use Rattle.st_service.specs.Kept.{Kept}
 use Rattle.st_service.specs.Lines.{flat}
 use Rattle.st_service.specs.Made.{past_in}
 use Rattle.st_service.specs.Passes.{Holder, reader_at, no_reader}
-use Rattle.st_board.proofs.Prefixes.{prefix_self}
+use Rattle.st_event.proofs.Prefixes.{prefix_self}
 use Rattle.st_service.proofs.HoldLaws.{look_grows}
 use Rattle.st_service.proofs.HolderLaws.{holder, kept_set}
 use Rattle.st_service.proofs.Mines.{kept_all, item_was, item_is}

@@ -6,7 +6,7 @@ use Rattle.st_service.specs.declared.line.Law.{Law}
 use Rattle.st_service.specs.Made.{IsMine}
 use Rattle.st_service.specs.Lines.{flat}
 use Rattle.st_service.specs.Tickets.{latest_in}
-use Rattle.st_board.proofs.Prefixes.{prefix_shorter}
+use Rattle.st_event.proofs.Prefixes.{prefix_shorter}
 use Rattle.st_service.proofs.Lines.{flat_prefix}
 use Rattle.st_service.proofs.Mines.{mine_longer}
 use Rattle.st_service.proofs.TicketLaws.{latest_longer}

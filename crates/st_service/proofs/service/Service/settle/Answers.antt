@@ -10,7 +10,7 @@ use Rattle.st_wire.specs.declared.line.WireLine.{WireLine}
 use Rattle.st_world.specs.Rounds.{unsettled}
 use Rattle.st_world.specs.declared.world.rounds.Going.{Going}
 use Rattle.st_world.proofs.RunLaws.{unsettled_fit}
-use Rattle.st_board.proofs.Prefixes.{prefix_self}
+use Rattle.st_event.proofs.Prefixes.{prefix_self}
 use Rattle.st_service.specs.declared.work.Part.TheVariants.{Whole}
 use Rattle.st_service.specs.Kept.{Kept}
 use Rattle.st_service.specs.Made.{Made, past_in}
