@@ -23,8 +23,7 @@ pub enum Outcome {
 pub fn open_world(alloc: Global, topo: GroupTopo) -> Result<World, AllocError>
     ensures { IfOk result (λ world. world.history ≡ record { group = topo; past = [] }) }
 {
-    let plan = LossPlan::from_lines(alloc, Vec::new(alloc));
-    World::start(alloc, topo, plan)
+    World::start(alloc, topo, LossPlan::none(alloc))
 }
 
 /// What a verdict says.

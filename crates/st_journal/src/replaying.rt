@@ -82,8 +82,7 @@ pub fn replay(alloc: Global, topo: GroupTopo, entries: &[Entry]) -> Result<Repla
     requires fits { All (EventFits topo) entries.now }
     ensures { IfOk result (Replays topo entries.now) }
 {
-    let plan = LossPlan::from_lines(alloc, Vec::new(alloc));
-    let mut world = World::start(alloc, topo, plan)?;
+    let mut world = World::start(alloc, topo, LossPlan::none(alloc))?;
     let first = first_wrong(alloc, &mut world, entries);
     match unless_wrong(world, first)? {
         Ok(world) => Ok(Replayed::Legal(world)),

@@ -108,8 +108,7 @@ impl Playback {
             failed: None,
         };
         let told = vec![in alloc; none; topo.entity_count() as usize]?;
-        let plan = LossPlan::from_lines(alloc, Vec::new(alloc));
-        let world = Box::new(alloc, World::start(alloc, topo, plan)?)?;
+        let world = Box::new(alloc, World::start(alloc, topo, LossPlan::none(alloc))?)?;
         Ok(Playback {
             world,
             told,

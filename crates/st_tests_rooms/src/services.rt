@@ -119,8 +119,7 @@ fn day<J: Naming + Send + Sync, L: Ledger + Send + Sync, R: Threads + Wait + Syn
 fn opening(alloc: Global, topo: &GroupTopo) -> Result<World, AllocError>
     ensures { IfOk result (λ world. world.history ≡ record { group = topo.now; past = [] }) }
 {
-    let plan = LossPlan::from_lines(alloc, Vec::new(alloc));
-    World::start(alloc, topo.copy(alloc)?, plan)
+    World::start(alloc, topo.copy(alloc)?, LossPlan::none(alloc))
 }
 
 /// The same, as a test calls it.

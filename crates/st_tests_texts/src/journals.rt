@@ -86,8 +86,7 @@ fn is_printed(rt: &impl Abort, given: &Setting, text: &str, printed: &str) -> Re
 fn opened(alloc: Global, topo: &GroupTopo) -> Result<World, Fail>
     ensures { IfOk result (λ world. world.history.group ≡ topo.now) }
 {
-    let plan = LossPlan::from_lines(alloc, Vec::new(alloc));
-    Ok(World::start(alloc, topo.copy(alloc)?, plan)?)
+    Ok(World::start(alloc, topo.copy(alloc)?, LossPlan::none(alloc))?)
 }
 
 /// Whether each event may be entered.

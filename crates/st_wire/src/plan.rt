@@ -1,7 +1,7 @@
 //! The loss plan of a group: which messages arrive at which turn. A document states its lines, and a round asks it after each
 //! message that it sends.
 
-ghost use Rattle.std.specs.Prelude.{◌≡◌, IfOk, length};
+ghost use Rattle.std.specs.Prelude.{◌≡◌, [], IfOk, length};
 ghost use Rattle.std.specs.List.{list_any};
 ghost use Rattle.st_wire.specs.Deliveries.{deliveries as deliveries_lem, own_delivery as own_delivery_lem, keeps_back as keeps_back_lem, brought_at as brought_at_lem};
 
@@ -47,11 +47,18 @@ fn brought_at(line: WireLine, kind: WireKind, m: u32) -> Option<u32>
 }
 
 impl LossPlan {
-    /// The plan of these lines; with none each message arrives at its own turn.
+    /// The plan of these lines.
     pub fn from_lines(alloc: Global, lines: Vec<WireLine>) -> LossPlan
         ensures { result ≡ lines.items }
     {
         LossPlan { alloc, lines }
+    }
+
+    /// The plan of no lines: each message arrives at its own turn.
+    pub fn none(alloc: Global) -> LossPlan
+        ensures { result ≡ [] }
+    {
+        LossPlan::from_lines(alloc, Vec::new(alloc))
     }
 
     /// How many lines the plan has. At a turn at most one message more arrives.

@@ -10,8 +10,8 @@ use Rattle.st_player.proofs.playback.Playback.start.Goals as goal
 pub invariant_of-result : goal.invariant_of-result
 invariant_of-result c =
     let told = c.in_ok-told.told.items in
-    let asked = c.new-3.result.items in
+    let asked = c.new-2.result.items in
     let all = c.in_ok-told.ensures.items_if_clones_equal (λ y is. is) in
     let many = ap (λ (ts : List Told). length ts) all ∙ none_long c.entity_count.result ∙ c.entity_count.ensures ∙ entities_count c.args.topo in
     subst (λ (h : History). IsPlayback h told asked) (sym (ap (λ (w : World). w.history) c.in_ok-world.ensures.ok ∙ c.in_ok-start.ensures.history))
-    (record { told_is = none_told c.args.topo told c.entity_count.result all many; asked_is = c.new-3.ensures.items })
+    (record { told_is = none_told c.args.topo told c.entity_count.result all many; asked_is = c.new-2.ensures.items })
