@@ -56,6 +56,7 @@ impl Incidence {
         requires device { device < length topo.now.devices }
         ensures { result ≡ last_at topo.now.links (length topo.now.links) device }
     {
+        // Only looked at, for the proof: these are the links whose last is asked for.
         let _links = topo.link_count();
         self.last[device as usize]
     }
