@@ -60,7 +60,8 @@ use Rattle.st_event.proofs.Targets.{legal_orderly, overlays_are_accepted}
 use Rattle.st_entry.specs.Keywords.{reply_word}
 use Rattle.st_journal.specs.EntryWords.{replies_of, reply_among}
 use Rattle.st_journal.specs.ReadingBack.{IsByApp}
-use Rattle.st_world.proofs.RangeLaws.{target_in_range, value_in_range}
+use Rattle.st_world.proofs.RangeLaws.{target_in_range}
+use Rattle.st_net.proofs.RangeLaws.{value_in_range}
 use Rattle.st_world.proofs.WorldLaws.{few_tickets, few_commands, few_reports, low_numbers}
 use Rattle.st_journal.proofs.PrintedEvents.{event_keyword}
 use Rattle.st_journal.proofs.PrintedReplies.{Ascends, LackFits, BrokenFits, CauseFits, VerdictFits, HolderFits, ReplyFits, reply_keyword}

@@ -15,3 +15,4 @@ pub mod Sound
 pub mod SameLists
 pub mod GroupLaws
 pub mod DemandLaws
+pub mod RangeLaws

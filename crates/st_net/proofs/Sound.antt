@@ -24,11 +24,11 @@ use Rattle.st_net.proofs.PairSteps.{at_place, one_place, was_promised_last, or_n
 use Rattle.st_net.proofs.Tests.{at_most_is, more_is}
 
 -- nothing of two is nothing of each
-fault_none : (a b : Option TopoFault) → fault_or a b ≡ None → (a ≡ None) × (b ≡ None)
+pub fault_none : (a b : Option TopoFault) → fault_or a b ≡ None → (a ≡ None) × (b ≡ None)
 fault_none None b is = (refl, is)
 fault_none (Some f) b is = cc
 
-place_none : (a b : Option ℕ) → place_or a b ≡ None → (a ≡ None) × (b ≡ None)
+pub place_none : (a b : Option ℕ) → place_or a b ≡ None → (a ≡ None) × (b ≡ None)
 place_none None b is = (refl, is)
 place_none (Some f) b is = cc
 
@@ -36,7 +36,8 @@ mapped_none : {A B : Type 0} (f : A → B) (o : Option A) → option_map f o ≡
 mapped_none f None is = refl
 mapped_none f (Some x) is = cc
 
-limit_none : (o : Option Limit) (place : ℕ) (later : Option TopoFault) → limit_or o place later ≡ None → (o ≡ None) × (later ≡ None)
+-- nothing of a part's limit and of what follows it
+pub limit_none : (o : Option Limit) (place : ℕ) (later : Option TopoFault) → limit_or o place later ≡ None → (o ≡ None) × (later ≡ None)
 limit_none None place later is = (refl, is)
 limit_none (Some l) place later is = cc
 
