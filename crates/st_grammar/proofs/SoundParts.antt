@@ -5,19 +5,19 @@ use Rattle.std.specs.List.{AllByRecursion}
 use Rattle.std.proofs.lemmas.List.Elements.{recursion_from_All}
 use Rattle.std.proofs.lemmas.Bool.Decides.{nat_tests}
 use Rattle.st_net.proofs.Tests.{both, neither}
+use Rattle.st_net.proofs.Sound.{fault_none, place_none, limit_none}
 use Rattle.st_net.proofs.NameSteps.{all_new}
 use Rattle.st_net.specs.declared.entity.Row.{Row}
 use Rattle.st_net.specs.declared.parts.Parts.{Parts}
 use Rattle.st_net.specs.declared.parts.DevicePart.{DevicePart}
 use Rattle.st_net.specs.declared.parts.LinkPart.{LinkPart}
 use Rattle.st_net.specs.declared.parts.PromisePart.{PromisePart}
-use Rattle.st_net.specs.declared.parts.Limit.{Limit}
 use Rattle.st_net.specs.declared.parts.Limit.TheVariants.{Devices, Tors, Links, Promises, Capacity, Percent, Opening}
 use Rattle.st_net.specs.declared.parts.TopoFault.{TopoFault}
 use Rattle.st_net.specs.declared.topo.TheConstants.{MAX_DEVICES, MAX_TORS, MAX_LINKS, MAX_PROMISES, MAX_CAPACITY, MAX_PERCENT}
 use Rattle.st_net.specs.Names.{is_among}
 use Rattle.st_net.specs.Groups.{are_device_vals, are_link_vals}
-use Rattle.st_net.specs.Faults.{device_names, link_names, first_link, first_promise, has_unknown_end, has_unknown_tor, is_loop, device_limit, link_limit, promise_limit, limit_or, tors_with, first_device_limit, first_link_limit, first_promise_limit, is_tor_name, is_bad_pair, was_promised, first_bad_pair, place_or, fault_or, promises_at, twice_of, unknown_of, loop_of, cross_of, limit_of, pair_of}
+use Rattle.st_net.specs.Faults.{device_names, link_names, first_link, first_promise, has_unknown_end, has_unknown_tor, is_loop, device_limit, link_limit, promise_limit, tors_with, first_device_limit, first_link_limit, first_promise_limit, is_tor_name, is_bad_pair, was_promised, first_bad_pair, fault_or, promises_at, twice_of, unknown_of, loop_of, cross_of, limit_of, pair_of}
 use Rattle.st_grammar.specs.Draft.{GroupDraft, tors}
 use Rattle.st_grammar.specs.Sound.{HasOwnEnds, IsSoundGroup}
 use Rattle.st_grammar.proofs.SoundGroups.{IsSoundDevice, IsSoundLink, IsSoundPromise, AreOtherPairs, IsSoundDraftGroup}
@@ -47,22 +47,9 @@ group_with name devices links promises noted = record {
 abbrev pub drafted : Parts → GroupDraft
 drafted p = group_with p.name p.devices p.links p.promises nothing_noted
 
--- nothing of two is nothing of each
-fault_none : (a b : Option TopoFault) → fault_or a b ≡ None → (a ≡ None) × (b ≡ None)
-fault_none None b is = (refl, is)
-fault_none (Some f) b is = absurd (cc)
-
-place_none : (a b : Option ℕ) → place_or a b ≡ None → (a ≡ None) × (b ≡ None)
-place_none None b is = (refl, is)
-place_none (Some f) b is = absurd (cc)
-
 mapped_none : (f : ℕ → TopoFault) (o : Option ℕ) → option_map f o ≡ None → o ≡ None
 mapped_none f None is = refl
 mapped_none f (Some x) is = absurd (cc)
-
-limit_none : (o : Option Limit) (place : ℕ) (later : Option TopoFault) → limit_or o place later ≡ None → (o ≡ None) × (later ≡ None)
-limit_none None place later is = (refl, is)
-limit_none (Some l) place later is = absurd (cc)
 
 found_none : (p : Bool) (at : ℕ) (rest : Option ℕ) → cond p (Some at) rest ≡ None → (p ≡ false) × (rest ≡ None)
 found_none true at rest is = absurd (cc)

@@ -8,23 +8,15 @@ use Rattle.st_net.specs.declared.parts.LinkPart.{LinkPart}
 use Rattle.st_net.specs.declared.parts.PromisePart.{PromisePart}
 use Rattle.st_net.specs.declared.parts.Limit.{Limit}
 use Rattle.st_net.specs.declared.parts.Limit.TheVariants.{Devices, Tors, Links, Promises, Capacity, Percent, Opening}
-use Rattle.st_net.specs.declared.parts.TopoFault.{TopoFault}
 use Rattle.st_net.specs.declared.topo.TheConstants.{MAX_DEVICES, MAX_LINKS, MAX_TORS, MAX_PROMISES, MAX_CAPACITY, MAX_PERCENT}
 use Rattle.st_net.specs.Groups.{are_device_vals, are_link_vals}
-use Rattle.st_net.specs.Faults.{device_limit, link_limit, promise_limit, limit_or, tors_with, first_device_limit, first_link_limit, first_promise_limit, fault_or, promises_at, twice_of, unknown_of, loop_of, cross_of, limit_of, pair_of, fault_of}
+use Rattle.st_net.specs.Faults.{device_limit, link_limit, promise_limit, tors_with, first_device_limit, first_link_limit, first_promise_limit, fault_or, promises_at, twice_of, unknown_of, loop_of, cross_of, limit_of, pair_of, fault_of}
 use Rattle.st_grammar.specs.declared.doc.Doc.{Doc}
 use Rattle.st_grammar.specs.declared.doc.Script.{Script}
 use Rattle.st_grammar.specs.declared.limits.TheConstants.{MAX_ACTS}
 use Rattle.st_grammar.specs.Sound.{IsSoundDoc}
+use Rattle.st_net.proofs.Sound.{fault_none, limit_none}
 use Rattle.st_net.proofs.Tests.{more_is}
-
-fault_none : (a b : Option TopoFault) → fault_or a b ≡ None → (a ≡ None) × (b ≡ None)
-fault_none None b is = (refl, is)
-fault_none (Some f) b is = cc
-
-limit_none : (o : Option Limit) (place : ℕ) (later : Option TopoFault) → limit_or o place later ≡ None → (o ≡ None) × (later ≡ None)
-limit_none None place later is = (refl, is)
-limit_none (Some l) place later is = cc
 
 not_taken : (p : Bool) (l : Limit) (rest : Option Limit) → (if p then Some l else rest) ≡ None → p ≡ false
 not_taken true l rest is = cc
