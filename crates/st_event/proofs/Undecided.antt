@@ -15,10 +15,11 @@ use Rattle.st_event.proofs.Targets.{legal_orderly}
 
 -- numbered items of a list without its first ones
 
-get_dropped : {X : Type 0} (n : ℕ) (xs : List X) (k : ℕ) → slice_get (drop n xs) k ≡ slice_get xs (n + k)
-get_dropped zero xs k = refl
-get_dropped (suc n) [] k = refl
-get_dropped (suc n) (x ∷ xs) k = get_dropped n xs k
+get_dropped : {X : Type 0} (n : ℕ) (xs : List X) (k at : ℕ) → at ≡ n + k → slice_get (drop n xs) k ≡ slice_get xs at
+get_dropped zero xs k at is = let same : k ≡ at = omega (arith, is) in ap (slice_get xs) same
+get_dropped (suc n) [] k at is = refl
+get_dropped (suc n) (x ∷ xs) k zero is = absurd (omega (arith, is))
+get_dropped (suc n) (x ∷ xs) k (suc at) is = get_dropped n xs k at (omega (arith, is))
 
 numbered_at : {X : Type 0} (xs : List X) (n : ℕ) (b : Bool) → (n == 0) ≡ b → 0 < n → (if b then None else slice_get xs (pred n)) ≡ slice_get xs (pred n)
 numbered_at xs n true none low = let is : n ≡ 0 = grind (arith, nat_tests) in absurd (omega (arith, is, low))
@@ -29,8 +30,9 @@ numbered xs n low = numbered_at xs n (n == 0) refl low
 
 nth_dropped : {X : Type 0} (n : ℕ) (xs : List X) (k : ℕ) → 0 < k → nth (drop n xs) k ≡ nth xs (n + k)
 nth_dropped n xs k low =
-    let at : n + pred k ≡ pred (n + k) = omega (arith, low) in
-    numbered (drop n xs) k low ∙ get_dropped n xs (pred k) ∙ ap (slice_get xs) at ∙ sym (numbered xs (n + k) (omega (arith, low)))
+    numbered (drop n xs) k low
+    ∙ get_dropped n xs (pred k) (pred (n + k)) (omega (arith, low))
+    ∙ sym (numbered xs (n + k) (omega (arith, low)))
 
 above_zero : {X : Type 0} (xs : List X) (n : ℕ) (x : X) (b : Bool) → (n == 0) ≡ b → (if b then None else slice_get xs (pred n)) ≡ Some x → 0 < n
 above_zero xs n x true is some = cc
