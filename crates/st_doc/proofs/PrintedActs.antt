@@ -19,13 +19,13 @@ use Rattle.st_net.specs.declared.topo.TheConstants.{MAX_ROWS}
 use Rattle.st_net.specs.Names.{is_name, is_among, place_of}
 use Rattle.st_net.specs.Entities.{is_var_of}
 use Rattle.st_net.specs.Groups.{Group, IsEntityOf, name_of, are_new}
-use Rattle.st_net.specs.Ranges.{RowFits, RowsFit, is_health_of, IsVariableOf, IsChangeOf, IsOn}
+use Rattle.st_net.specs.Ranges.{RowFits, RowsFit, is_health_of, IsVariableOf, IsChangeOf, IsOn, most_health}
 use Rattle.st_net.specs.Faults.{group_of, device_names, link_names, device_opening, link_opening}
 use Rattle.st_event.specs.declared.act.Act.{Act}
 use Rattle.st_event.specs.declared.act.Act.TheVariants.{Propose, Await, Settle, Lock, Unlock, Read, ReadAt, Fail, Poll}
 use Rattle.st_token.specs.ReadingBack.{IsNamed, IsPrintable}
 use Rattle.st_token.proofs.PrintedRows.{IsOwnValue, rows_again, rows_words, values_again, values_words, free_of_none}
-use Rattle.st_token.specs.Spelling.{known_name_in, most_health, is_comment}
+use Rattle.st_token.specs.Spelling.{known_name_in, is_comment}
 use Rattle.st_token.specs.Words.{prio_word, variable_word}
 use Rattle.st_token.proofs.PrintedTokens.{each, name_word, number_is_word, prio_is_word, variable_is_word, literal, known_name_again, entity_again, number_again, within_again, prio_again, variable_again}
 use Rattle.st_grammar.specs.declared.keyword.Keyword.TheVariants as keywords

@@ -15,8 +15,8 @@ use Rattle.st_net.specs.declared.parts.LinkPart.{LinkPart}
 use Rattle.st_net.specs.declared.parts.EndPart.{EndPart}
 use Rattle.st_net.specs.Names.{is_name, is_among}
 use Rattle.st_net.specs.Faults.{device_names, link_names}
-use Rattle.st_token.specs.declared.health.TheConstants.{DEVICE_HEALTH, LINK_HEALTH}
-use Rattle.st_token.specs.Spelling.{most_health}
+use Rattle.st_net.specs.Ranges.{most_health}
+use Rattle.st_net.specs.declared.range.TheConstants.{DEVICE_HEALTH, LINK_HEALTH}
 use Rattle.st_token.proofs.PrintedTokens.{each, name_word, number_is_word, literal, within_again}
 use Rattle.st_grammar.specs.Draft.{GroupDraft, Draft, device_told, link_told, with_health, has_health, is_told}
 use Rattle.st_grammar.specs.Spelling.{entity_named}
@@ -103,7 +103,7 @@ module _ (gs : List GroupDraft) (p : Parts) (s : IsSoundDraftGroup (drafted p)) 
   abbrev with_device_healths : List DevicePart → List DevicePart → List ℕ → Draft
   with_device_healths front left told = sections gs (group_with p.name (front ++ map opened_device left) (map opened_link p.links) p.promises (noted told []))
 
-  device_by : (front : List DevicePart) (d : DevicePart) (behind : List DevicePart) (told : List ℕ) (b : Bool) → (d.health == DEVICE_HEALTH) ≡ b → is_name d.name ≡ true → is_among d.name (device_names front) ≡ false → nat_le d.health 5 ≡ true → AreLess (length front) told
+  device_by : (front : List DevicePart) (d : DevicePart) (behind : List DevicePart) (told : List ℕ) (b : Bool) → (d.health == DEVICE_HEALTH) ≡ b → is_name d.name ≡ true → is_among d.name (device_names front) ≡ false → nat_le d.health DEVICE_HEALTH ≡ true → AreLess (length front) told
       → (t : List ℕ) × Prints (with_device_healths front (d ∷ behind) told) (if b then [] else health_words d.name d.health ∷ []) (sections gs (group_with p.name (front ++ d ∷ map opened_device behind) (map opened_link p.links) p.promises (noted t []))) × AreLess (length front + 1) t
   device_by front d behind told true is spelled fresh most all =
       let same : opened_device d ≡ d = ap (λ k. record d { health = k }) (sym (equal_numbers d.health DEVICE_HEALTH is)) in (
@@ -137,7 +137,7 @@ module _ (gs : List GroupDraft) (p : Parts) (s : IsSoundDraftGroup (drafted p)) 
   abbrev with_link_healths : List ℕ → List LinkPart → List LinkPart → List ℕ → Draft
   with_link_healths devices front left told = sections gs (group_with p.name p.devices (map told_link front ++ map opened_link left) p.promises (noted devices told))
 
-  link_by : (devices : List ℕ) (front : List LinkPart) (l : LinkPart) (behind : List LinkPart) (told : List ℕ) (b : Bool) → (l.health == LINK_HEALTH) ≡ b → is_name l.name ≡ true → is_among l.name (device_names p.devices) ≡ false → is_among l.name (link_names front) ≡ false → nat_le l.health 1 ≡ true → AreLess (length front) told
+  link_by : (devices : List ℕ) (front : List LinkPart) (l : LinkPart) (behind : List LinkPart) (told : List ℕ) (b : Bool) → (l.health == LINK_HEALTH) ≡ b → is_name l.name ≡ true → is_among l.name (device_names p.devices) ≡ false → is_among l.name (link_names front) ≡ false → nat_le l.health LINK_HEALTH ≡ true → AreLess (length front) told
       → (t : List ℕ) × Prints (with_link_healths devices front (l ∷ behind) told) (if b then [] else health_words l.name l.health ∷ []) (sections gs (group_with p.name p.devices (map told_link front ++ told_link l ∷ map opened_link behind) p.promises (noted devices t))) × AreLess (length front + 1) t
   link_by devices front l behind told true is spelled no_device no_link most all =
       let same : opened_link l ≡ told_link l = ap (λ k. record (opened_link l) { health = k }) (sym (equal_numbers l.health LINK_HEALTH is)) in (

@@ -20,7 +20,7 @@ use Rattle.st_net.specs.Names.{is_name, place_of, is_among}
 use Rattle.st_net.specs.Groups.{are_device_vals, are_link_vals}
 use Rattle.st_net.specs.Ranges.{is_device_value, is_link_value, is_in_range, is_free_of}
 use Rattle.st_net.specs.Faults.{device_names, link_names}
-use Rattle.st_token.specs.declared.health.TheConstants.{DEVICE_HEALTH}
+use Rattle.st_net.specs.declared.range.TheConstants.{DEVICE_HEALTH}
 use Rattle.st_token.proofs.PrintedTokens.{each, row_of, assignment_is_word, literal, ranged, new_assignment_again}
 use Rattle.st_grammar.specs.Draft.{GroupDraft, Draft, device_default, link_default, device_opened, link_opened, with_open}
 use Rattle.st_grammar.specs.Spelling.{entity_named}

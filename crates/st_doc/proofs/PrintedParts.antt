@@ -14,7 +14,7 @@ use Rattle.st_net.specs.declared.topo.TheConstants.{MAX_DEVICES, MAX_TORS, MAX_L
 use Rattle.st_net.specs.Names.{is_name, place_of, is_among}
 use Rattle.st_net.specs.Groups.{are_new, are_names}
 use Rattle.st_net.specs.Faults.{device_names, link_names, is_tor, is_tor_name, is_bad_pair, was_promised}
-use Rattle.st_token.proofs.NameLemmas.{found_spelled}
+use Rattle.st_net.proofs.NameLemmas.{found_spelled}
 use Rattle.st_token.proofs.PrintedTokens.{name_word, number_is_word, literal, new_name_again, within_again}
 use Rattle.st_grammar.specs.Draft.{GroupDraft, Draft, is_entity_name, tors, with_device, with_link, with_promise}
 use Rattle.st_grammar.specs.Sections.{has_device_room, new_device, device_of, device_line, new_link, link_of, link_line, promise_of, promise_line}

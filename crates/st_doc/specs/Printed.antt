@@ -19,7 +19,7 @@ use Rattle.st_wire.specs.declared.line.WireKind.TheVariants.{Command, Report}
 use Rattle.st_wire.specs.declared.line.WireLine.{WireLine}
 use Rattle.st_wire.specs.declared.line.WireLine.TheVariants.{Drop, Repeat, Hold}
 use Rattle.st_token.specs.Words.{prio_word, value_word, assignment_word, variable_word}
-use Rattle.st_token.specs.declared.health.TheConstants.{DEVICE_HEALTH, LINK_HEALTH}
+use Rattle.st_net.specs.declared.range.TheConstants.{DEVICE_HEALTH, LINK_HEALTH}
 use Rattle.st_grammar.specs.declared.doc.Doc.{Doc}
 use Rattle.st_grammar.specs.declared.doc.Script.{Script}
 

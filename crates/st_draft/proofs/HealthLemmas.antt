@@ -6,8 +6,8 @@ use Rattle.st_net.specs.declared.entity.Entity.TheVariants.{Device, Link}
 use Rattle.st_net.specs.declared.parts.DevicePart.{DevicePart}
 use Rattle.st_net.specs.declared.parts.LinkPart.{LinkPart}
 use Rattle.st_net.specs.declared.parts.PromisePart.{PromisePart}
+use Rattle.st_net.specs.declared.pairs.Pair.{Pair}
 use Rattle.st_net.specs.Faults.{device_names}
-use Rattle.st_token.specs.declared.pairs.Pair.{Pair}
 use Rattle.st_grammar.specs.Draft.{GroupDraft, IsEntityIn, with_health, device_told, link_told}
 use Rattle.st_grammar.proofs.HealthLemmas.{told_device_names, told_link_names, told_devices_count, told_links_count, told_tors}
 use Rattle.st_draft.specs.GroupInside.{HasIndexes, HasPairs, HasKnownEnds}

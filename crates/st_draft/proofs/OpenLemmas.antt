@@ -8,9 +8,9 @@ use Rattle.st_net.specs.declared.entity.Entity.TheVariants.{Device, Link}
 use Rattle.st_net.specs.declared.parts.DevicePart.{DevicePart}
 use Rattle.st_net.specs.declared.parts.LinkPart.{LinkPart}
 use Rattle.st_net.specs.declared.parts.PromisePart.{PromisePart}
+use Rattle.st_net.specs.declared.pairs.Pair.{Pair}
 use Rattle.st_net.specs.Entities.{device_value_set, link_value_set, value_set}
 use Rattle.st_net.specs.Faults.{device_names}
-use Rattle.st_token.specs.declared.pairs.Pair.{Pair}
 use Rattle.st_grammar.specs.Draft.{GroupDraft, IsEntityIn, opened, device_opened, link_opened}
 use Rattle.st_grammar.proofs.OpenLemmas.{device_names_kept, link_names_kept, devices_kept, links_kept, tors_kept}
 use Rattle.st_draft.specs.GroupInside.{HasIndexes, HasPairs, HasKnownEnds}

@@ -5,13 +5,13 @@ use Rattle.std.specs.List.{AllByRecursion}
 use Rattle.std.proofs.lemmas.List.{map_push}
 use Rattle.std.proofs.lemmas.Slice.Eq.{bytes_eq-Decides}
 use Rattle.st_net.proofs.Tests.{equal_self, equal_numbers}
+use Rattle.st_net.proofs.NameLemmas.{place_kept, among_kept}
 use Rattle.st_net.specs.declared.parts.DevicePart.{DevicePart}
 use Rattle.st_net.specs.declared.parts.PromisePart.{PromisePart}
+use Rattle.st_net.specs.declared.pairs.Pair.{Pair}
 use Rattle.st_net.specs.Names.{place_of, is_among}
 use Rattle.st_net.specs.Faults.{device_names, number_of, was_promised}
-use Rattle.st_token.proofs.NameLemmas.{place_kept, among_kept}
-use Rattle.st_token.specs.declared.pairs.Pair.{Pair}
-use Rattle.st_token.specs.Pairs.{has_pair, pair_of}
+use Rattle.st_net.specs.Pairs.{has_pair, is_paired}
 use Rattle.st_draft.specs.GroupInside.{pair_by, HasKnownEnds, HasPairs}
 
 -- the first name is the one, or it stands further on
@@ -65,7 +65,7 @@ no_place m x ns p known = no (bytes_eq m x) refl
 
 -- whether a pair was promised, by the places of two names
 abbrev pub promised_by : Option ℕ → Option ℕ → List Pair → Bool
-promised_by (Some a) (Some b) pairs = has_pair a b pairs || has_pair b a pairs
+promised_by (Some a) (Some b) pairs = is_paired a b pairs
 promised_by (Some a) None pairs = false
 promised_by None q pairs = false
 
@@ -154,6 +154,9 @@ pub new_pair : (devices now : List DevicePart) (ps before : List PromisePart) (p
     → n ≡ number_of (device_names now) x → m ≡ number_of (device_names now) y → HasKnownEnds (device_names now) p → was_promised p.a p.b before ≡ false → has_pair n m pairs ≡ false
 new_pair devices now ps before pairs p x y n m had d q a b e f known none =
     rw (e, f, a, b, ← d) (not_promised devices ps pairs p had (subst (λ (ds : List DevicePart). HasKnownEnds (device_names ds) p) (sym d) known) (subst (λ (qs : List PromisePart). was_promised p.a p.b qs ≡ false) (sym q) none))
+
+abbrev pair_of : ℕ → ℕ → Pair
+pair_of a b = record { a = a; b = b }
 
 pub pair_kept : (devices now : List DevicePart) (ps more : List PromisePart) (pairs after : List Pair) (p : PromisePart) (x y : List ℕ) (n m : ℕ) → HasPairs devices ps pairs → devices ≡ now → x ≡ p.a → y ≡ p.b
     → n ≡ number_of (device_names now) x → m ≡ number_of (device_names now) y → HasKnownEnds (device_names now) p → more ≡ ps ++ p ∷ [] → after ≡ pairs ++ pair_of n m ∷ [] → HasPairs devices more after

@@ -4,11 +4,10 @@ use Rattle.std.specs.List.{AllByRecursion}
 use Rattle.st_net.specs.declared.parts.DevicePart.{DevicePart}
 use Rattle.st_net.specs.declared.parts.LinkPart.{LinkPart}
 use Rattle.st_net.specs.declared.parts.PromisePart.{PromisePart}
+use Rattle.st_net.specs.declared.pairs.Pair.{Pair}
 use Rattle.st_net.specs.declared.topo.TheConstants.{MAX_DEVICES, MAX_LINKS}
 use Rattle.st_net.specs.Names.{is_among}
 use Rattle.st_net.specs.Faults.{device_names, link_names, number_of}
-use Rattle.st_token.specs.declared.pairs.Pair.{Pair}
-use Rattle.st_token.specs.Pairs.{pair_of}
 use Rattle.st_grammar.specs.Draft.{GroupDraft, tors}
 use Rattle.st_draft.specs.declared.group.Group.TheInside.{Inside}
 
@@ -34,7 +33,7 @@ pub record HasIndexes (devices : List DevicePart) (named : List (List ℕ)) (cou
 
 -- the places of a promise's devices
 abbrev pub pair_by : List (List ℕ) → PromisePart → Pair
-pair_by names p = pair_of (number_of names p.a) (number_of names p.b)
+pair_by names p = record { a = number_of names p.a; b = number_of names p.b }
 
 -- both ends of a promise are declared
 pub record HasKnownEnds (names : List (List ℕ)) (p : PromisePart) : Type 0 where

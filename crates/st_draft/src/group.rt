@@ -12,9 +12,9 @@ mod parts;
 
 use crate::numbers::Numbers;
 use st_grammar::PartWord;
-use st_net::{DevicePart, Entity, Items, LinkPart, Name, Parts, PromisePart};
+use st_net::{DevicePart, Entity, Items, LinkPart, Name, Names, Pairs, Parts, PromisePart};
 use st_text::Token;
-use st_token::{FaultKind, LineError, NamedEntities, Names, Pairs, RowSet, name_in};
+use st_token::{FaultKind, LineError, NamedEntities, RowSet, name_in};
 use st_wire::WireLine;
 use std::alloc::{AllocError, Global};
 use std::marker::Model;

@@ -1,7 +1,7 @@
 //! The names that entries say: of applications and of entities, by their numbers.
 
-ghost use Rattle.std.specs.Prelude.{◌≡◌, IsTrue, ◌↔◌};
-ghost use Rattle.st_net.specs.Groups.{IsEntityOf, name_of};
+ghost use Rattle.std.specs.Prelude.{◌≡◌};
+ghost use Rattle.st_net.specs.Groups.{name_of};
 ghost use Rattle.st_entry.specs.Words.{app_word, holder_word};
 
 use st_net::{AppId, Entity, GroupTopo, Name};
@@ -26,21 +26,11 @@ pub fn holder_name(apps: &[Name], holder: Option<AppId>) -> &[u8]
     }
 }
 
-/// Whether an entity is one of the group.
-fn is_entity_of(topo: &GroupTopo, entity: Entity) -> bool
-    ensures { IsTrue result ↔ IsEntityOf topo.now entity }
-{
-    match entity {
-        Entity::Device(place) => place < topo.device_count(),
-        Entity::Link(place) => place < topo.link_count(),
-    }
-}
-
 /// The name of an entity; no bytes where it is not of the group.
 pub fn entity_name(topo: &GroupTopo, entity: Entity) -> &[u8]
     ensures { result.now ≡ name_of topo.now entity }
 {
-    if is_entity_of(topo, entity) {
+    if topo.has(entity) {
         topo.name_of(entity).bytes()
     } else {
         topo.is_sound();

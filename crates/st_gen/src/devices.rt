@@ -8,8 +8,7 @@ ghost use Rattle.st_gen.specs.Generated.{IsPods};
 
 use crate::names::name_at;
 use crate::step::Step;
-use st_net::{DevicePart, Items, Vals};
-use st_token::DEVICE_HEALTH;
+use st_net::{DEVICE_HEALTH, DevicePart, Items, Vals};
 use std::alloc::{AllocError, Global};
 
 /// The values that a device opens with.

@@ -8,8 +8,7 @@ ghost use Rattle.st_gen.specs.Generated.{IsPods};
 
 use crate::names::name_at;
 use crate::step::Step;
-use st_net::{EndPart, Items, LinkPart, Vals};
-use st_token::LINK_HEALTH;
+use st_net::{EndPart, Items, LINK_HEALTH, LinkPart, Vals};
 use std::alloc::{AllocError, Global};
 
 /// The values that a link opens with.

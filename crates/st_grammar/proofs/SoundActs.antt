@@ -15,7 +15,7 @@ use Rattle.st_net.specs.declared.entity.Row.{Row}
 use Rattle.st_net.specs.declared.parts.Parts.{Parts}
 use Rattle.st_net.specs.declared.topo.TheConstants.{MAX_ROWS}
 use Rattle.st_net.specs.Groups.{Group, IsEntityOf}
-use Rattle.st_net.specs.Ranges.{RowFits, RowsFit, is_health_of, is_free_of, are_apart, IsVariableOf, IsOn, IsChangeOf}
+use Rattle.st_net.specs.Ranges.{RowFits, RowsFit, is_free_of, are_apart, IsVariableOf, IsOn, IsChangeOf, most_health}
 use Rattle.st_net.specs.Faults.{group_of, device_opening, link_opening, device_names}
 use Rattle.st_event.specs.declared.act.Act.{Act}
 use Rattle.st_event.specs.declared.act.Act.TheVariants as acts
@@ -23,7 +23,7 @@ use Rattle.st_wire.specs.declared.line.WireLine.{WireLine}
 use Rattle.st_wire.specs.declared.line.WireLine.TheVariants as wires
 use Rattle.st_token.specs.declared.fault.FaultKind.TheVariants as kinds
 use Rattle.st_token.specs.Places.{cut_at}
-use Rattle.st_token.specs.Spelling.{name_in, known_name_in, entity_in, number_in, number_within, number_from, number_above, prio_in, most_health}
+use Rattle.st_token.specs.Spelling.{name_in, known_name_in, entity_in, number_in, number_within, number_from, number_above, prio_in}
 use Rattle.st_token.specs.Variables.{new_assignment_in, var_named, var_in, assigned_in, variable_by, variable_in, dotted_variable_in, undotted_variable_in, new_value_in, rows_in, values_in}
 use Rattle.st_token.specs.Counts.{one_of, two_of, three_of, four_of, three_and_more_of, one_and_some_of}
 use Rattle.st_token.proofs.PrintedTokens.{each}
@@ -225,10 +225,6 @@ some_and : {X : Type 0} (o : Option X) (P Q : X → Type 0) → ((x : X) → P x
 some_and None P Q f p = p
 some_and (Some x) P Q f p = f x p
 
-health_in : (e : Entity) (h : ℕ) → nat_le h (most_health e) ≡ true → is_health_of e h ≡ true
-health_in (Device i) h r = r
-health_in (Link i) h r = r
-
 fail_good : (d : Draft) (args : List (List ℕ)) (act : Act) → fail_of d args ≡ Ok act → IsSoundAct (map parts_of (groups_of d)) act
 unfolding fail_of
 fail_good d args act is =
@@ -243,7 +239,7 @@ fail_good d args act is =
     (some_and (slice_get (map parts_of (groups_of d)) e.0.0) (λ parts. IsEntityOf (group_of parts) e.0.1) (λ parts. IsChangeOf e.0.1 health.0 rows.0 (group_of parts))
     (λ parts within. record {
       entity_in = within;
-      health_range = health_in e.0.1 health.0 range.1;
+      health_range = range.1;
       own = All-from_recursion (IsOn e.0.1) rows.0 (each (IsRowOf e.0.1) (IsOn e.0.1) (value_own e.0.1) rows.0 read.own);
       each = All-from_recursion (RowFits (group_of parts)) rows.0 (each (IsRowOf e.0.1) (RowFits (group_of parts)) (value_fits (group_of parts) e.0.1 within) rows.0 read.own);
       apart = read.apart;

@@ -9,6 +9,7 @@ use Rattle.st_net.specs.declared.parts.LinkPart.{LinkPart}
 use Rattle.st_net.specs.declared.parts.PromisePart.{PromisePart}
 use Rattle.st_net.specs.declared.parts.TopoFault.{TopoFault}
 use Rattle.st_net.specs.declared.topo.TheConstants.{MAX_DEVICES, MAX_TORS, MAX_LINKS, MAX_PROMISES, MAX_CAPACITY, MAX_PERCENT}
+use Rattle.st_net.specs.declared.range.TheConstants.{DEVICE_HEALTH, LINK_HEALTH}
 use Rattle.st_net.specs.Names.{place_of, is_among, is_name}
 use Rattle.st_net.specs.Groups.{are_new, are_names, are_device_vals, are_link_vals}
 use Rattle.st_net.specs.Faults.{device_names, link_names, first_twice, first_link, first_promise, has_unknown_end, has_unknown_tor, is_loop, is_cross, device_limit, limit_or, tors_with, first_device_limit, first_link_limit, first_promise_limit, is_tor, is_tor_name, was_promised, first_bad_pair, fault_of}
@@ -18,7 +19,7 @@ use Rattle.st_grammar.specs.Sound.{IsSoundWire}
 
 pub record IsSoundDevice (d : DevicePart) : Type 0 where
   pub vals : are_device_vals d.vals ≡ true
-  pub health : nat_le d.health 5 ≡ true
+  pub health : nat_le d.health DEVICE_HEALTH ≡ true
 
 pub record IsSoundLink (names : List (List ℕ)) (l : LinkPart) : Type 0 where
   pub a_own : l.a.group ≡ None
@@ -28,7 +29,7 @@ pub record IsSoundLink (names : List (List ℕ)) (l : LinkPart) : Type 0 where
   pub apart : bytes_eq l.a.name l.b.name ≡ false
   pub capacity : (nat_le 1 l.capacity && nat_le l.capacity MAX_CAPACITY) ≡ true
   pub vals : are_link_vals l.vals ≡ true
-  pub health : nat_le l.health 1 ≡ true
+  pub health : nat_le l.health LINK_HEALTH ≡ true
 
 pub record IsSoundPromise (devices : List DevicePart) (p : PromisePart) : Type 0 where
   pub a_tor : is_tor_name devices p.a ≡ true

@@ -12,11 +12,11 @@ use Rattle.st_net.specs.Groups.{entity_or}
 use Rattle.std.proofs.lemmas.List.{length-map}
 use Rattle.st_net.specs.declared.topo.TheConstants.{MAX_LINKS, MAX_PROMISES, MAX_CAPACITY, MAX_PERCENT}
 use Rattle.st_net.specs.Names.{place_of, is_among}
-use Rattle.st_net.specs.Ranges.{is_in_range, is_free_of}
+use Rattle.st_net.specs.Ranges.{is_in_range, is_free_of, most_health}
 use Rattle.st_net.specs.Faults.{device_names, link_names, is_bad_pair}
 use Rattle.st_token.specs.declared.fault.FaultKind.TheVariants as kinds
 use Rattle.st_token.specs.Places.{cut_at}
-use Rattle.st_token.specs.Spelling.{name_in, new_name_in, number_within, entity_in, most_health}
+use Rattle.st_token.specs.Spelling.{name_in, new_name_in, number_within, entity_in}
 use Rattle.st_token.specs.Variables.{dotted_in, undotted_in, assignment_by, assignment_in, new_assignment_in}
 use Rattle.st_token.specs.Counts.{one_of, two_of, three_of, four_of}
 use Rattle.st_token.proofs.ReadTokens.{came_from, chose, refused, chosen, was_some, new_name, number_range, place_below, assigned_range}

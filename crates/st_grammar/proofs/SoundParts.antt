@@ -15,6 +15,7 @@ use Rattle.st_net.specs.declared.parts.PromisePart.{PromisePart}
 use Rattle.st_net.specs.declared.parts.Limit.TheVariants.{Devices, Tors, Links, Promises, Capacity, Percent, Opening}
 use Rattle.st_net.specs.declared.parts.TopoFault.{TopoFault}
 use Rattle.st_net.specs.declared.topo.TheConstants.{MAX_DEVICES, MAX_TORS, MAX_LINKS, MAX_PROMISES, MAX_CAPACITY, MAX_PERCENT}
+use Rattle.st_net.specs.declared.range.TheConstants.{DEVICE_HEALTH, LINK_HEALTH}
 use Rattle.st_net.specs.Names.{is_among}
 use Rattle.st_net.specs.Groups.{are_device_vals, are_link_vals}
 use Rattle.st_net.specs.Faults.{device_names, link_names, first_link, first_promise, has_unknown_end, has_unknown_tor, is_loop, device_limit, link_limit, promise_limit, tors_with, first_device_limit, first_link_limit, first_promise_limit, is_tor_name, is_bad_pair, was_promised, first_bad_pair, fault_or, promises_at, twice_of, unknown_of, loop_of, cross_of, limit_of, pair_of}
@@ -107,8 +108,8 @@ few_devices : (at t : ℕ) (ds : List DevicePart) → first_device_limit at t ds
 few_devices at t [] is = record { sound = tt; few = λ low. omega arith; few_tors = λ low. omega arith }
 few_devices at t (d ∷ ds) is =
     let parts = limit_none (device_limit at t d) at (first_device_limit (at + 1) (tors_with t d) ds) is in
-    let one = device_choice (nat_le MAX_DEVICES at) (d.tor && nat_le MAX_TORS t) (are_device_vals d.vals && nat_le d.health 5) parts.0 in
-    let opens = both (are_device_vals d.vals) (nat_le d.health 5) one.2 in
+    let one = device_choice (nat_le MAX_DEVICES at) (d.tor && nat_le MAX_TORS t) (are_device_vals d.vals && nat_le d.health DEVICE_HEALTH) parts.0 in
+    let opens = both (are_device_vals d.vals) (nat_le d.health DEVICE_HEALTH) one.2 in
     let rest = few_devices (at + 1) (tors_with t d) ds parts.1 in
     let less : at < MAX_DEVICES = under MAX_DEVICES at one.0 in
     record {
@@ -126,7 +127,7 @@ link_choice false true false is = absurd (cc)
 pub record HasFineLimits (l : LinkPart) : Type 0 where
   pub capacity : (nat_le 1 l.capacity && nat_le l.capacity MAX_CAPACITY) ≡ true
   pub vals : are_link_vals l.vals ≡ true
-  pub health : nat_le l.health 1 ≡ true
+  pub health : nat_le l.health LINK_HEALTH ≡ true
 
 pub record AreFewLinks (number : ℕ) (ls : List LinkPart) : Type 0 where
   pub fine : AllByRecursion HasFineLimits ls
@@ -136,8 +137,8 @@ few_links : (before number : ℕ) (ls : List LinkPart) → first_link_limit befo
 few_links before number [] is = record { fine = tt; few = λ low. omega arith }
 few_links before number (l ∷ ls) is =
     let parts = limit_none (link_limit number l) (before + number) (first_link_limit before (number + 1) ls) is in
-    let one = link_choice (nat_le MAX_LINKS number) (nat_le 1 l.capacity && nat_le l.capacity MAX_CAPACITY) (are_link_vals l.vals && nat_le l.health 1) parts.0 in
-    let opens = both (are_link_vals l.vals) (nat_le l.health 1) one.2 in
+    let one = link_choice (nat_le MAX_LINKS number) (nat_le 1 l.capacity && nat_le l.capacity MAX_CAPACITY) (are_link_vals l.vals && nat_le l.health LINK_HEALTH) parts.0 in
+    let opens = both (are_link_vals l.vals) (nat_le l.health LINK_HEALTH) one.2 in
     let rest = few_links before (number + 1) ls parts.1 in
     let less : number < MAX_LINKS = under MAX_LINKS number one.0 in
     record {

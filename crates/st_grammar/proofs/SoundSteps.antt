@@ -14,13 +14,13 @@ use Rattle.st_net.specs.declared.parts.DevicePart.{DevicePart}
 use Rattle.st_net.specs.declared.parts.LinkPart.{LinkPart}
 use Rattle.st_net.specs.declared.parts.PromisePart.{PromisePart}
 use Rattle.st_net.specs.declared.topo.TheConstants.{MAX_DEVICES, MAX_TORS, MAX_LINKS, MAX_PROMISES, MAX_PERCENT}
+use Rattle.st_net.specs.declared.range.TheConstants.{DEVICE_HEALTH, LINK_HEALTH}
 use Rattle.st_net.specs.Entities.{device_value_set, link_value_set}
-use Rattle.st_net.specs.Ranges.{is_device_value, is_link_value, is_in_range}
+use Rattle.st_net.specs.Ranges.{is_device_value, is_link_value, is_in_range, most_health}
 use Rattle.st_net.specs.Names.{place_of, is_among, is_name}
 use Rattle.st_net.specs.Groups.{are_new, are_device_vals, are_link_vals}
 use Rattle.st_net.specs.Faults.{device_names, link_names, is_tor, is_tor_name, was_promised, is_bad_pair}
-use Rattle.st_token.specs.Spelling.{most_health}
-use Rattle.st_token.proofs.NameLemmas.{names_added, among_kept, place_kept}
+use Rattle.st_net.proofs.NameLemmas.{names_added, among_kept, place_kept}
 use Rattle.st_token.proofs.PrintedTokens.{each}
 use Rattle.st_grammar.specs.Draft.{GroupDraft, is_entity_name, empty_group, with_device, with_link, with_promise, opened, device_opened, link_opened, with_health, device_told, link_told, with_wire, tors}
 use Rattle.st_wire.specs.declared.line.WireLine.{WireLine}
@@ -294,12 +294,12 @@ opened_sound g (Link i) v x r s = record {
 }
 
 -- one health
-devices_told : (ds : List DevicePart) (i h : ℕ) → nat_le h 5 ≡ true → AllByRecursion IsSoundDevice ds → AllByRecursion IsSoundDevice (device_told ds i h)
+devices_told : (ds : List DevicePart) (i h : ℕ) → nat_le h DEVICE_HEALTH ≡ true → AllByRecursion IsSoundDevice ds → AllByRecursion IsSoundDevice (device_told ds i h)
 devices_told [] i h r all = tt
 devices_told (d ∷ ds) zero h r all = (record { vals = all.0.vals; health = r }, all.1)
 devices_told (d ∷ ds) (suc i) h r all = (all.0, devices_told ds i h r all.1)
 
-links_told : (names : List (List ℕ)) (ls : List LinkPart) (i h : ℕ) → nat_le h 1 ≡ true → AllByRecursion (IsSoundLink names) ls → AllByRecursion (IsSoundLink names) (link_told ls i h)
+links_told : (names : List (List ℕ)) (ls : List LinkPart) (i h : ℕ) → nat_le h LINK_HEALTH ≡ true → AllByRecursion (IsSoundLink names) ls → AllByRecursion (IsSoundLink names) (link_told ls i h)
 links_told names [] i h r all = tt
 links_told names (l ∷ ls) zero h r all = (record { a_own = all.0.a_own; b_own = all.0.b_own; a_known = all.0.a_known; b_known = all.0.b_known; apart = all.0.apart; capacity = all.0.capacity; vals = all.0.vals; health = r }, all.1)
 links_told names (l ∷ ls) (suc i) h r all = (all.0, links_told names ls i h r all.1)

@@ -3,6 +3,7 @@
 use Rattle.std.specs.Prelude.{ℕ, List, [], nat_le, length, if◌then◌else◌, Result, Ok, Err, ok_or, slice_get}
 use Rattle.st_net.specs.declared.entity.Entity.{Entity}
 use Rattle.st_net.specs.declared.topo.TheConstants.{MAX_ROWS}
+use Rattle.st_net.specs.Ranges.{most_health}
 use Rattle.st_wire.specs.declared.line.WireLine.{WireLine}
 use Rattle.st_wire.specs.declared.line.WireLine.TheVariants as wires
 use Rattle.st_event.specs.declared.act.Act.{Act}
@@ -10,7 +11,7 @@ use Rattle.st_event.specs.declared.act.Act.TheVariants as acts
 use Rattle.st_token.specs.declared.fault.FaultKind.{FaultKind}
 use Rattle.st_token.specs.declared.fault.FaultKind.TheVariants as kinds
 use Rattle.st_token.specs.Steps.{◌>>=◌}
-use Rattle.st_token.specs.Spelling.{known_name_in, entity_in, most_health, number_in, number_within, number_from, number_above, prio_in}
+use Rattle.st_token.specs.Spelling.{known_name_in, entity_in, number_in, number_within, number_from, number_above, prio_in}
 use Rattle.st_token.specs.Variables.{rows_in, values_in, variable_in}
 use Rattle.st_token.specs.Counts.{one_of, two_of, three_of, four_of, one_and_some_of, three_and_more_of}
 use Rattle.st_grammar.specs.declared.keyword.WireWord.{WireWord}

@@ -9,11 +9,12 @@ use Rattle.st_net.specs.declared.parts.LinkPart.{LinkPart}
 use Rattle.st_net.specs.declared.parts.PromisePart.{PromisePart}
 use Rattle.st_net.specs.declared.topo.TheConstants.{MAX_DEVICES, MAX_TORS, MAX_LINKS, MAX_PROMISES, MAX_CAPACITY, MAX_PERCENT}
 use Rattle.st_net.specs.Faults.{is_bad_pair}
+use Rattle.st_net.specs.Ranges.{most_health}
 use Rattle.st_token.specs.declared.fault.FaultKind.{FaultKind}
 use Rattle.st_token.specs.declared.fault.FaultKind.TheVariants as kinds
-use Rattle.st_token.specs.declared.health.TheConstants.{DEVICE_HEALTH, LINK_HEALTH}
+use Rattle.st_net.specs.declared.range.TheConstants.{DEVICE_HEALTH, LINK_HEALTH}
 use Rattle.st_token.specs.Steps.{◌>>=◌}
-use Rattle.st_token.specs.Spelling.{new_name_in, most_health, number_within}
+use Rattle.st_token.specs.Spelling.{new_name_in, number_within}
 use Rattle.st_token.specs.Variables.{new_assignment_in}
 use Rattle.st_token.specs.Counts.{one_of, two_of, three_of, four_of}
 use Rattle.st_grammar.specs.declared.keyword.PartWord.{PartWord}

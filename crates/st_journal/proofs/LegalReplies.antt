@@ -75,11 +75,11 @@ device_is (d ∷ ds) (suc i) are low = device_is ds i are.1 (omega arith)
 
 opening_health : (g : Group) (e : Entity) → IsSound g → IsEntityOf g e → health_of g e ≤ 5
 opening_health g (Device i) sound own = (device_is g.devices i sound.devices own).health
-opening_health g (Link i) sound own = omega (arith, (is_link_at (length g.devices) g.links i sound.links own).health)
+opening_health g (Link i) sound own = let low : health_of g (Link i) ≤ 1 = (is_link_at (length g.devices) g.links i sound.links own).health in omega arith
 
 health_small : (e : Entity) (health : ℕ) → is_health_of e health ≡ true → health ≤ 5
-health_small (Device i) health is = grind (arith, nat_tests)
-health_small (Link i) health is = grind (arith, nat_tests)
+health_small (Device i) health is = let low : nat_le health 5 ≡ true = is in grind (arith, nat_tests)
+health_small (Link i) health is = let low : nat_le health 1 ≡ true = is in grind (arith, nat_tests)
 
 health_if : (b : Bool) (made before : ℕ) → made ≤ 5 → before ≤ 5 → (if b then made else before) ≤ 5
 health_if true made before few less = few

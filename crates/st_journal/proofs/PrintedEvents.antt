@@ -22,11 +22,10 @@ use Rattle.st_net.specs.declared.topo.TheConstants.{MAX_ROWS}
 use Rattle.st_net.specs.Names.{is_name}
 use Rattle.st_net.specs.Entities.{vars_of}
 use Rattle.st_net.specs.Groups.{Group, IsSound, IsEntityOf, name_of, find_in, no_vals}
-use Rattle.st_net.specs.Ranges.{RowFits, RowsFit, is_in_range, are_in_range, is_health_of}
+use Rattle.st_net.specs.Ranges.{RowFits, RowsFit, is_in_range, are_in_range, is_health_of, most_health}
 use Rattle.st_event.specs.declared.event.Event.{Event}
 use Rattle.st_event.specs.declared.event.Event.TheVariants.{Submit, Check, Lock, Unlock, Send, Deliver, Finish, Report as make_report, Hear, Fail}
 use Rattle.st_event.specs.Legal.{Fits, FailFits}
-use Rattle.st_token.specs.Spelling.{most_health}
 use Rattle.st_token.specs.Variables.{rows_in}
 use Rattle.st_token.specs.Words.{prio_word, value_word}
 use Rattle.st_token.specs.ReadingBack.{IsPrintable}
@@ -228,8 +227,8 @@ vals_again (Link i) vals range =
     rw (value_again (Link i) LinkPower vals.v0 second.0, value_again (Link i) Iface vals.v1 second.1) (ap Ok (two_kept vals.v0 vals.v1 vals.v2 vals.v3 two three))
 
 healthy : (e : Entity) (health : ℕ) → is_health_of e health ≡ true → (health < 2 ^ 32) × ((nat_le 0 health && nat_le health (most_health e)) ≡ true)
-healthy (Device i) health level = (grind (arith, nat_tests), rw (at_most 0 health (omega arith), level) refl)
-healthy (Link i) health level = (grind (arith, nat_tests), rw (at_most 0 health (omega arith), level) refl)
+healthy (Device i) health level = let low : nat_le health 5 ≡ true = level in (grind (arith, nat_tests), rw (at_most 0 health (omega arith), level) refl)
+healthy (Link i) health level = let low : nat_le health 1 ≡ true = level in (grind (arith, nat_tests), rw (at_most 0 health (omega arith), level) refl)
 
 -- a failure names one value at least
 fail_by : (g : Group) (e : Entity) (vals : Vals) (health : ℕ) → IsSound g → FailFits g e vals health → (token : List ℕ) (tokens : Words) → value_words e vals ≡ token ∷ tokens → fail_of g (name_of g e ∷ decimal health ∷ token ∷ tokens) ≡ Ok (Fail e vals health)

@@ -15,7 +15,7 @@ use Rattle.st_net.specs.declared.topo.TheConstants.{MAX_ROWS}
 use Rattle.st_net.specs.Names.{place_of}
 use Rattle.st_net.specs.Entities.{vars_of, value_set}
 use Rattle.st_net.specs.Groups.{Group, IsSound, IsEntityOf, entity_or, find_in, no_vals, are_device_vals, are_link_vals}
-use Rattle.st_net.specs.Ranges.{RowFits, is_in_range, are_in_range, is_health_of, are_apart, is_free_of}
+use Rattle.st_net.specs.Ranges.{RowFits, is_in_range, are_in_range, are_apart, is_free_of, most_health}
 use Rattle.st_net.proofs.Tests.{both}
 use Rattle.st_event.specs.declared.event.Event.{Event}
 use Rattle.st_event.specs.declared.event.Event.TheVariants.{Submit, Check, Lock, Unlock, Send, Deliver, Finish, Report as make_report, Hear, Fail}
@@ -25,7 +25,7 @@ use Rattle.st_entry.specs.declared.keyword.EventWord.TheVariants as events
 use Rattle.st_token.specs.declared.fault.FaultKind.TheVariants as kinds
 use Rattle.st_token.specs.Places.{cut_at}
 use Rattle.st_token.specs.Counts.{none_of, one_of, three_of, one_and_some_of, two_and_some_of}
-use Rattle.st_token.specs.Spelling.{name_in, entity_in, number_in, number_within, most_health, prio_in}
+use Rattle.st_token.specs.Spelling.{name_in, entity_in, number_in, number_within, prio_in}
 use Rattle.st_token.specs.Variables.{dotted_in, undotted_in, assignment_by, assignment_in, new_assignment_in, rows_in, number_of_var_in, value_by, value_in}
 use Rattle.st_token.proofs.ReadTokens.{came_from, chose, chosen, was_some, number_range, place_below, assigned_range, some_tokens}
 use Rattle.st_token.proofs.RowLemmas.{apart_last}
@@ -210,10 +210,6 @@ vals_range (Link i) tokens all is =
     let b = one_read (Link i) _ Iface [] a.1 all a.3 in
     subst (λ (v : Vals). are_link_vals v ≡ true) (none_left (Link i) _ all b.1 b.3) (rw (a.2, b.2) refl)
 
-health_range : (e : Entity) (n : ℕ) → nat_le n (most_health e) ≡ true → is_health_of e n ≡ true
-health_range (Device i) n is = is
-health_range (Link i) n is = is
-
 fail_fits : (g : Group) (args : List (List ℕ)) (event : Event) → IsSound g → fail_of g args ≡ Ok event → FitsIfFew g event
 unfolding fail_of
 fail_fits g args event s is =
@@ -223,7 +219,7 @@ fail_fits g args event s is =
     let vals = came_from (vals_in e.0 no_vals (vars_of e.0) words.0.2) _ event health.2 in
     let made : Fail e.0 vals.0 health.0 ≡ event = cc in
     let level = both (nat_le 0 health.0) (nat_le health.0 (most_health e.0)) (number_range 0 (most_health e.0) health.0 words.0.1 health.1) in
-    subst (FitsIfFew g) made (λ few. record { entity = entity_within g words.0.0 e.0 s e.1; range = vals_range e.0 words.0.2 vals.0 vals.1; level = health_range e.0 health.0 level.1 })
+    subst (FitsIfFew g) made (λ few. record { entity = entity_within g words.0.0 e.0 s e.1; range = vals_range e.0 words.0.2 vals.0 vals.1; level = level.1 })
 
 -- the event of any word
 pub event_fits : (g : Group) (apps args : List (List ℕ)) (word : EventWord) (event : Event) → IsSound g → event_of g apps word args ≡ Ok event → FitsIfFew g event

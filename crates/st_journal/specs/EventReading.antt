@@ -8,13 +8,14 @@ use Rattle.st_net.specs.declared.entity.Vals.{Vals}
 use Rattle.st_net.specs.declared.topo.TheConstants.{MAX_ROWS}
 use Rattle.st_net.specs.Entities.{vars_of, value_set}
 use Rattle.st_net.specs.Groups.{Group, find_in, no_vals}
+use Rattle.st_net.specs.Ranges.{most_health}
 use Rattle.st_event.specs.declared.event.Event.{Event}
 use Rattle.st_event.specs.declared.event.Event.TheVariants.{Submit, Check, Lock, Unlock, Send, Deliver, Finish, Report as make_report, Hear, Fail}
 use Rattle.st_token.specs.declared.fault.FaultKind.{FaultKind}
 use Rattle.st_token.specs.declared.fault.FaultKind.TheVariants as kinds
 use Rattle.st_token.specs.Steps.{◌>>=◌}
 use Rattle.st_token.specs.Counts.{none_of, one_of, three_of, one_and_some_of, two_and_some_of}
-use Rattle.st_token.specs.Spelling.{known_name_in, entity_in, number_in, number_within, most_health, prio_in}
+use Rattle.st_token.specs.Spelling.{known_name_in, entity_in, number_in, number_within, prio_in}
 use Rattle.st_token.specs.Variables.{value_in, rows_in}
 use Rattle.st_entry.specs.declared.keyword.EventWord.{EventWord}
 use Rattle.st_entry.specs.declared.keyword.EventWord.TheVariants as events

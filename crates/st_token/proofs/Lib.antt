@@ -1,6 +1,4 @@
-mod PairLemmas
 pub mod RowLemmas
-pub mod NameLemmas
 pub mod PrintedTokens
 pub mod FirstBad
 pub mod FoundNames

@@ -12,13 +12,13 @@ use Rattle.st_net.specs.declared.entity.Entity.TheVariants.{Device, Link}
 use Rattle.st_net.specs.declared.entity.Var.{Var}
 use Rattle.st_net.specs.declared.entity.Var.TheVariants.{Power, Firmware, Config, Routing, LinkPower, Iface}
 use Rattle.st_net.specs.declared.entity.Row.{Row}
+use Rattle.st_net.specs.declared.pairs.Pair.{Pair}
+use Rattle.st_net.specs.Pairs.{has_pair}
 use Rattle.st_net.specs.Entities.{place_of, is_same_entity, is_same_var}
 use Rattle.st_net.specs.Groups.{Group, IsEntityOf}
 use Rattle.st_net.specs.Ranges.{is_in_range, is_free_of, are_apart, RowFits}
 use Rattle.st_token.specs.RowsInside.{number_of, variable_of, HasVariables}
 use Rattle.st_token.specs.Variables.{IsInRange}
-use Rattle.st_token.specs.declared.pairs.Pair.{Pair}
-use Rattle.st_token.specs.Pairs.{has_pair}
 
 and_false : (b : Bool) → (b && false) ≡ false
 and_false true = refl
@@ -103,14 +103,14 @@ row_added rows more variables now row had m n p free = record {
   apart = rw m (apart_last rows row had.apart free);
 }
 
--- what the index answers, by the numbers that it is asked for
-pub free_is : (row : Row) (rows now : List Row) (variables : List Pair) (n p : ℕ) (has : Bool) → HasVariables rows variables → rows ≡ now → n ≡ number_of row.entity → p ≡ place_of row.var
-    → has ≡ has_pair n p variables → IsInRange row → not has ≡ is_free_of row.entity row.var now
-free_is row rows now variables n p has had r e v h range = rw (h, e, v, had.index, ← r) (free_by_index row rows range had.range)
+-- what the index answers, by the pair that it is asked for
+pub free_is : (row : Row) (rows now : List Row) (variables : List Pair) (pair : Pair) (has : Bool) → HasVariables rows variables → rows ≡ now → pair ≡ variable_of row
+    → has ≡ has_pair pair.a pair.b variables → IsInRange row → not has ≡ is_free_of row.entity row.var now
+free_is row rows now variables pair has had r e h range = rw (h, e, had.index, ← r) (free_by_index row rows range had.range)
 
-pub not_set : (row : Row) (rows now : List Row) (variables : List Pair) (n p : ℕ) → HasVariables rows variables → rows ≡ now → n ≡ number_of row.entity → p ≡ place_of row.var
-    → IsInRange row → is_free_of row.entity row.var now ≡ true → has_pair n p variables ≡ false
-not_set row rows now variables n p had r e v range free = turned (has_pair n p variables) (free_is row rows now variables n p (has_pair n p variables) had r e v refl range ∙ free)
+pub not_set : (row : Row) (rows now : List Row) (variables : List Pair) (pair : Pair) → HasVariables rows variables → rows ≡ now → pair ≡ variable_of row
+    → IsInRange row → is_free_of row.entity row.var now ≡ true → has_pair pair.a pair.b variables ≡ false
+not_set row rows now variables pair had r e range free = turned (has_pair pair.a pair.b variables) (free_is row rows now variables pair (has_pair pair.a pair.b variables) had r e refl range ∙ free)
 
 -- what the rows of a set keep
 pub all_in_range : (rows now : List Row) (variables : List Pair) → HasVariables rows variables → rows ≡ now → All IsInRange now

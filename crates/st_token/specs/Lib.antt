@@ -4,7 +4,6 @@ pub mod Counts
 pub mod Spelling
 pub mod Variables
 pub mod Words
-pub mod Pairs
 pub mod RowsInside
 pub mod Reading
 pub mod ReadingBack

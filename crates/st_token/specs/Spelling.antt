@@ -2,11 +2,9 @@
 use Rattle.std.specs.Prelude.{ℕ, List, [], ◌∷◌, Bool, false, ◌==◌, ◌&&◌, nat_le, nat_lt, if◌then◌else◌, Option, Result, Ok, Err, ok_or, bytes_eq, codes}
 use Rattle.st_text.specs.Numbers.{number_of}
 use Rattle.st_net.specs.declared.entity.Entity.{Entity}
-use Rattle.st_net.specs.declared.entity.Entity.TheVariants.{Device, Link}
 use Rattle.st_net.specs.declared.entity.Prio.{Prio}
 use Rattle.st_net.specs.declared.entity.Prio.TheVariants.{Low, High}
 use Rattle.st_net.specs.Names.{is_name, place_of}
-use Rattle.st_token.specs.declared.health.TheConstants.{DEVICE_HEALTH, LINK_HEALTH}
 use Rattle.st_token.specs.declared.fault.FaultKind.{FaultKind}
 use Rattle.st_token.specs.declared.fault.FaultKind.TheVariants as kinds
 use Rattle.st_token.specs.Steps.{◌>>=◌}
@@ -53,11 +51,6 @@ unfoldable pub number_above : ℕ → List ℕ → Result ℕ FaultKind
 number_above low token = do
   n ← number_in token
   if nat_lt low n then Ok n else Err kinds.Number
-
--- the greatest health of an entity
-abbrev pub most_health : Entity → ℕ
-most_health (Device i) = DEVICE_HEALTH
-most_health (Link i) = LINK_HEALTH
 
 -- `low` or `high`
 abbrev pub prio_in : List ℕ → Result Prio FaultKind

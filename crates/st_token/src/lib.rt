@@ -5,9 +5,6 @@
 mod counts;
 mod entities;
 mod fault;
-mod health;
-mod names;
-mod pairs;
 mod reading;
 pub mod reading_back;
 mod row_set;
@@ -18,9 +15,6 @@ mod words;
 pub use counts::{four_of, one_of, three_of, two_of};
 pub use entities::{NamedEntities, assignment_in, new_assignment_in, rows_in, variable_in};
 pub use fault::{FaultKind, LineError, LineFault};
-pub use health::{DEVICE_HEALTH, LINK_HEALTH, most_health};
-pub use names::Names;
-pub use pairs::{Pair, Pairs};
 pub use reading::{TakesLines, take_lines};
 pub use row_set::RowSet;
 pub use spelling::{

@@ -3,11 +3,10 @@
 ghost use Rattle.std.specs.Prelude.{◌≡◌, ◌++◌, [], ◌∷◌, All, OnOk, OnErr, true};
 ghost use Rattle.st_net.specs.Entities.{place_of};
 ghost use Rattle.st_net.specs.Ranges.{is_free_of, is_in_range, are_apart};
-ghost use Rattle.st_token.specs.RowsInside.{number_of};
+ghost use Rattle.st_token.specs.RowsInside.{number_of, variable_of};
 ghost use Rattle.st_token.specs.Variables.{IsInRange};
 
-use crate::pairs::Pairs;
-use st_net::{Entity, Row, Var};
+use st_net::{Entity, Pair, Pairs, Row, Var};
 use std::alloc::{AllocError, Global};
 use std::marker::Model;
 
@@ -53,6 +52,16 @@ fn place_of(var: Var) -> u32
     }
 }
 
+/// The number of a row's entity, and the place of its variable.
+fn variable_of(row: &Row) -> Pair
+    ensures { result ≡ variable_of row.now }
+{
+    Pair {
+        a: number_of(row.entity),
+        b: place_of(row.var),
+    }
+}
+
 impl RowSet {
     /// No rows.
     pub fn new(alloc: Global) -> RowSet
@@ -69,7 +78,7 @@ impl RowSet {
         requires { is_in_range row.now.entity row.now.var row.now.value ≡ true }
         ensures { result ≡ is_free_of row.now.entity row.now.var self.now }
     {
-        !self.variables.has(number_of(row.entity), place_of(row.var))
+        !self.variables.has(variable_of(row))
     }
 
     /// Adds a row on another variable at the end. At `Err` nothing has changed.
@@ -80,12 +89,9 @@ impl RowSet {
         ensures err { OnErr result (self.new ≡ self.old) }
     {
         self.rows.reserve(1)?;
-        self.variables
-            .add(number_of(row.entity), place_of(row.var))?;
-        match self.rows.push(row) {
-            Ok(()) => Ok(()),
-            Err(_) => unreachable!(),
-        }
+        self.variables.add(variable_of(&row))?;
+        self.rows.push_reserved(row);
+        Ok(())
     }
 
     /// The rows, in order.

@@ -7,8 +7,7 @@ ghost use Rattle.st_token.specs.Steps.{Gives};
 ghost use Rattle.st_token.specs.Spelling.{name_in, new_name_in, known_name_in, number_in, number_within, number_from, number_above, prio_in, word_in, is_comment};
 
 use crate::fault::{FaultKind, LineError};
-use crate::names::Names;
-use st_net::{Name, Prio};
+use st_net::{Name, Names, Prio};
 use st_text::number;
 use std::alloc::Global;
 

@@ -70,10 +70,7 @@ fn enter_last(journal: &mut Vec<Entry>, event: Event, reply: Reply)
     ensures entry { journal.new.items ≡ journal.old.items ++ record { event = event; reply = reply } ∷ [] }
     ensures room { vec_capacity journal.old ≤ vec_capacity journal.new }
 {
-    match journal.push(Entry { event, reply }) {
-        Ok(()) => {}
-        Err(_) => unreachable!(),
-    }
+    journal.push_reserved(Entry { event, reply });
 }
 
 /// Makes room in a journal for one more entry, and gives that one's number. None comes where it has as many entries as it may have.

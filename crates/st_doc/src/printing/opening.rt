@@ -5,9 +5,9 @@ ghost use Rattle.st_text.specs.Words.{text_of};
 ghost use Rattle.st_doc.specs.Printed.{open_line, device_opens, link_opens, health_line, device_healths, link_healths};
 
 use crate::printing::words::print_line;
-use st_net::{DevicePart, LinkPart, Parts, Var};
+use st_net::{DEVICE_HEALTH, DevicePart, LINK_HEALTH, LinkPart, Parts, Var};
 use st_text::{Text, Word};
-use st_token::{DEVICE_HEALTH, LINK_HEALTH, var_word};
+use st_token::var_word;
 use std::alloc::AllocError;
 
 /// The value of a variable that no line sets.

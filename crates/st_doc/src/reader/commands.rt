@@ -11,11 +11,11 @@ use crate::reader::Reader;
 use st_draft::wire_kind_in;
 use st_event::{Act, Rows};
 use st_grammar::{ActWord, MAX_ACTS, MAX_ROUNDS, MAX_WIRE_LINES, WireWord};
-use st_net::{Entity, MAX_ROWS};
+use st_net::{Entity, MAX_ROWS, most_health};
 use st_text::Token;
 use st_token::{
-    FaultKind, LineError, NamedEntities, four_of, most_health, number_above, number_from,
-    number_in, number_within, one_of, prio_in, rows_in, three_of, two_of, values_in, variable_in,
+    FaultKind, LineError, NamedEntities, four_of, number_above, number_from, number_in,
+    number_within, one_of, prio_in, rows_in, three_of, two_of, values_in, variable_in,
 };
 use st_wire::WireLine;
 use std::alloc::AllocError;

@@ -11,9 +11,9 @@ ghost use Rattle.st_grammar.specs.Lines.{begun_name, into_group, group_line, app
 use crate::reader::Reader;
 use st_draft::Group;
 use st_grammar::{MAX_APPS, MAX_GROUPS, PartWord, Script};
-use st_net::{Items, Name};
+use st_net::{Items, Name, Names};
 use st_text::Token;
-use st_token::{FaultKind, LineError, Names, known_name_in, new_name_in, one_of};
+use st_token::{FaultKind, LineError, known_name_in, new_name_in, one_of};
 use std::alloc::{AllocError, Global};
 
 /// The name of a new section, where there are at most so many.
@@ -80,13 +80,10 @@ impl Reader {
     {
         self.groups.reserve(1)?;
         self.group_index.add(&name)?;
-        match self.group.replace(Group::begin(self.alloc, name)) {
-            None => Ok(()),
-            Some(ended) => match self.groups.push(ended) {
-                Ok(()) => Ok(()),
-                Err(_) => unreachable!(),
-            },
+        if let Some(ended) = self.group.replace(Group::begin(self.alloc, name)) {
+            self.groups.push_reserved(ended);
         }
+        Ok(())
     }
 
     /// Takes a `group` line.
@@ -108,13 +105,10 @@ impl Reader {
     {
         self.apps.reserve(1)?;
         self.app_index.add(&name)?;
-        match self.app.replace(empty_script(self.alloc, name)) {
-            None => Ok(()),
-            Some(ended) => match self.apps.push(ended) {
-                Ok(()) => Ok(()),
-                Err(_) => unreachable!(),
-            },
+        if let Some(ended) = self.app.replace(empty_script(self.alloc, name)) {
+            self.apps.push_reserved(ended);
         }
+        Ok(())
     }
 
     /// Takes an `app` line.

@@ -9,11 +9,10 @@ ghost use Rattle.st_grammar.specs.Spelling.{untold_in};
 ghost use Rattle.st_grammar.specs.Sections.{open_of, open_line, health_of, health_line};
 
 use crate::group::Group;
-use st_net::{Entity, Row};
+use st_net::{Entity, Row, most_health};
 use st_text::Token;
 use st_token::{
-    FaultKind, LineError, NamedEntities, most_health, new_assignment_in, number_within, one_of,
-    two_of,
+    FaultKind, LineError, NamedEntities, new_assignment_in, number_within, one_of, two_of,
 };
 use std::alloc::AllocError;
 

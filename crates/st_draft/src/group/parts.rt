@@ -13,13 +13,12 @@ ghost use Rattle.st_grammar.specs.Sections.{device_of, device_line, has_device_r
 use crate::group::Group;
 use crate::spelling::is_tor_word;
 use st_net::{
-    DevicePart, EndPart, LinkPart, MAX_CAPACITY, MAX_DEVICES, MAX_LINKS, MAX_PERCENT, MAX_PROMISES,
-    MAX_TORS, Name, PromisePart, Vals,
+    DEVICE_HEALTH, DevicePart, EndPart, LINK_HEALTH, LinkPart, MAX_CAPACITY, MAX_DEVICES,
+    MAX_LINKS, MAX_PERCENT, MAX_PROMISES, MAX_TORS, Name, Pair, PromisePart, Vals,
 };
 use st_text::Token;
 use st_token::{
-    DEVICE_HEALTH, FaultKind, LINK_HEALTH, LineError, cut_at, four_of, name_in, new_name_in,
-    number_within, three_of, two_of,
+    FaultKind, LineError, cut_at, four_of, name_in, new_name_in, number_within, three_of, two_of,
 };
 use std::alloc::AllocError;
 
@@ -92,10 +91,8 @@ impl Group {
         self.devices.reserve(1)?;
         self.device_names.add(&device.name)?;
         self.tors += count_of(device.tor);
-        match self.devices.push(device) {
-            Ok(()) => Ok(()),
-            Err(_) => unreachable!(),
-        }
+        self.devices.push_reserved(device);
+        Ok(())
     }
 
     /// Takes a `device` line.
@@ -170,10 +167,8 @@ impl Group {
     {
         self.links.reserve(1)?;
         self.link_names.add(&link.name)?;
-        match self.links.push(link) {
-            Ok(()) => Ok(()),
-            Err(_) => unreachable!(),
-        }
+        self.links.push_reserved(link);
+        Ok(())
     }
 
     /// Takes a `link` line.
@@ -203,7 +198,10 @@ impl Group {
         ensures { result ≡ was_promised a.now b.now self.now.promises }
     {
         match (self.device_names.find(a), self.device_names.find(b)) {
-            (Some(a), Some(b)) => self.pairs.has_either(a as u32, b as u32),
+            (Some(a), Some(b)) => self.pairs.has_either(Pair {
+                a: a as u32,
+                b: b as u32,
+            }),
             _ => false,
         }
     }
@@ -259,11 +257,9 @@ impl Group {
         let a = self.place(promise.a.bytes());
         let b = self.place(promise.b.bytes());
         self.promises.reserve(1)?;
-        self.pairs.add(a, b)?;
-        match self.promises.push(promise) {
-            Ok(()) => Ok(()),
-            Err(_) => unreachable!(),
-        }
+        self.pairs.add(Pair { a, b })?;
+        self.promises.push_reserved(promise);
+        Ok(())
     }
 
     /// Takes a `promise` line.

@@ -10,11 +10,11 @@ ghost use Rattle.st_journal.specs.EventReading.{app_in as app_in_lem, vals_in as
 
 use st_entry::EventWord;
 use st_event::{Event, Rows};
-use st_net::{AppId, Entity, GroupTopo, MAX_ROWS, Name, Vals, Var};
+use st_net::{AppId, Entity, GroupTopo, MAX_ROWS, Name, Vals, Var, most_health};
 use st_text::Token;
 use st_token::{
-    FaultKind, LineError, NamedEntities, known_name_among, most_health, number_in, number_within,
-    one_of, prio_in, rows_in, three_of, two_of, value_in,
+    FaultKind, LineError, NamedEntities, known_name_among, number_in, number_within, one_of,
+    prio_in, rows_in, three_of, two_of, value_in,
 };
 use std::alloc::Global;
 

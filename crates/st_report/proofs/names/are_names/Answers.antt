@@ -2,7 +2,7 @@ use Rattle.std.proofs.Common.{◌≡◌, ◌∙◌, ℕ, ◌+◌, ◌<◌, List,
 use Rattle.std.proofs.lemmas.List.{take_all, take_more}
 use Rattle.st_net.specs.Groups.{are_names}
 use Rattle.st_net.specs.Names.{is_name}
-use Rattle.st_token.proofs.NameLemmas.{names_added}
+use Rattle.st_net.proofs.NameLemmas.{names_added}
 use Rattle.st_report.proofs.names.are_names.Goals as goal
 
 -- one more name

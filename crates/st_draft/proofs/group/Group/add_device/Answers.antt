@@ -12,9 +12,9 @@ pub invariant_of-self-2 : goal.invariant_of-self-2
 invariant_of-self-2 c =
     let devices = ap (λ (g : GroupDraft). g.devices) c.self.view_is in (
       device_added _ _ _ _ _ _ _ _ c.args.device c.self.invariant.0
-          (rw (c.in-Ok.ensures.items, c.in_ok-reserve.ensures.items) refl)
+          (rw (c.push_reserved.ensures.items, c.in_ok-reserve.ensures.items) refl)
           (rw c.in_ok-add.ensures.ok refl)
           (rw c.count_of.ensures.value refl)
           (rw devices c.requires.room),
-      pairs_with_device _ _ c.args.device _ _ (rw (c.in-Ok.ensures.items, c.in_ok-reserve.ensures.items) refl) c.self.invariant.1,
+      pairs_with_device _ _ c.args.device _ _ (rw (c.push_reserved.ensures.items, c.in_ok-reserve.ensures.items) refl) c.self.invariant.1,
     )

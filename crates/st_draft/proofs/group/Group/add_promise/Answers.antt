@@ -14,6 +14,6 @@ invariant_of-self-2 c = (
   pair_kept c.self.inside.devices.items _ c.self.inside.promises.items _ c.self.inside.pairs _ c.args.promise c.bytes.result.now c.bytes-2.result.now _ _ c.self.invariant.1
       (ap (λ (g : GroupDraft). g.devices) c.self.view_is) c.bytes.ensures.bytes c.bytes-2.ensures.bytes c.place-a.ensures c.place-b.ensures
       (record { a = c.requires.a_known; b = c.requires.b_known })
-      (rw (c.in-Ok.ensures.items, c.in_ok-reserve.ensures.items) refl)
+      (rw (c.push_reserved.ensures.items, c.in_ok-reserve.ensures.items) refl)
       c.in_ok-add.ensures.ok,
 )
