@@ -3,10 +3,10 @@ use Rattle.std.specs.Prelude.{◌≡◌, ℕ, ◌+◌, ◌≤◌, [], length, So
 use Rattle.st_net.specs.Numbered.{nth}
 use Rattle.st_event.specs.declared.event.Event.TheVariants.{Check}
 use Rattle.st_event.specs.declared.reply.Reply.TheVariants.{Decided as decided_reply}
-use Rattle.st_control.specs.declared.control.Begin.{Begin}
-use Rattle.st_control.specs.declared.control.Begin.TheVariants.{Basis, Idle}
-use Rattle.st_control.specs.declared.control.Commit.{Commit}
-use Rattle.st_control.specs.declared.control.Commit.TheVariants.{Decided, Gone}
+use Rattle.st_control.specs.declared.control.commits.Begin.{Begin}
+use Rattle.st_control.specs.declared.control.commits.Begin.TheVariants.{Basis, Idle}
+use Rattle.st_control.specs.declared.control.commits.Commit.{Commit}
+use Rattle.st_control.specs.declared.control.commits.Commit.TheVariants.{Decided, Gone}
 use Rattle.st_control.specs.Basis.{IsBasisOf}
 use Rattle.st_control.specs.Control.{ControlView, Moves}
 

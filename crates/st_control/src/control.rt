@@ -1,6 +1,6 @@
 //! The checker of one group. What it keeps is enough to answer an event as the group's whole journal calls for.
 
-ghost use Rattle.std.specs.Prelude.{◌≡◌, ◌↔◌, option_map, ℕ, ◌<◌, ◌≤◌, ◌^◌, ◌+◌, length, map, IfOk, IfSome, IsTrue, OnErr, OnOk};
+ghost use Rattle.std.specs.Prelude.{◌≡◌, option_map, ℕ, ◌<◌, ◌≤◌, ◌^◌, ◌+◌, length, map, IfOk, IfSome, OnErr, OnOk};
 ghost use Rattle.std.specs.Arc.{arc_value};
 ghost use Rattle.st_net.specs.declared.entity.Entity.{Entity};
 ghost use Rattle.st_net.specs.Groups.{IsEntityOf, promise_of};
@@ -19,11 +19,12 @@ ghost use Rattle.st_store.specs.Store.{IsStart as is_start_store, IsStoreOf, pro
 ghost use Rattle.st_control.specs.Control.{IsSameButRuns, Moves, Sends, Hears, OldChangesNothing, IsStart, standing_in, reply_of_put, reply_of_check, reply_of_grant, reply_of_release};
 ghost use Rattle.st_control.specs.Verdict.{IsDue, IsLatest, first_broken_without, sure_without, AreJudgedIn, IsJudgedIn};
 ghost use Rattle.st_promise.specs.Book.{AreKept, IsBookOf};
-ghost use Rattle.st_control.specs.Commits.{Begins, MayCommit, Commits};
 ghost use Rattle.st_net.specs.InOrder.{entity_count, stamp_in};
 ghost use Rattle.st_control.specs.Sure.{MarksShown};
 
-use crate::basis::{Basis, Judged};
+pub mod commits;
+
+use crate::basis::Judged;
 use crate::send::{SendStep, governing_row, shows_other};
 use crate::settled::Shown;
 use crate::stamps::{opening_stamps, stamp_all};
@@ -48,24 +49,6 @@ pub enum Check {
     Decided(Receipt),
     /// Nothing waits.
     Idle,
-}
-
-/// The answer to a begin.
-#[derive(Drop)]
-pub enum Begin {
-    /// What the oldest proposal is judged on.
-    Basis(Basis),
-    /// Nothing waits.
-    Idle,
-}
-
-/// The answer to a commit.
-#[derive(Drop)]
-pub enum Commit {
-    /// The judged proposal was decided.
-    Decided(Receipt),
-    /// The entry of this number had decided it before.
-    Gone { entry: u32 },
 }
 
 /// What stands against a proposal, as far as it was judged, and the entities that its rows alter.
@@ -525,76 +508,6 @@ impl Control {
             told: Check::Decided(told),
             kept: Check::Decided(kept),
         })
-    }
-
-    /// What the oldest proposal that waits is judged on, in copies but for the group, which is shared, so that it can be judged while the
-    /// checker goes on. `Idle` comes exactly where nothing waits.
-    pub fn begin_check(&self) -> Result<Begin, AllocError>
-        ensures { IfOk result (Begins self.now) }
-    {
-        let _version = self.store.version();
-        let Some(oldest) = self.store.oldest() else {
-            return Ok(Begin::Idle);
-        };
-        let rows = oldest.rows.as_slice();
-        let changed = changed(self.alloc, &self.topo, self.store.target(), rows)?;
-        let SureSets { sure, after } = self.sure_sets(&changed)?;
-        let topo = Arc::try_clone(&self.shared)?;
-        let needs = self.book.needs().to_vec(self.alloc)?;
-        let known = self.book.shown_in(&self.topo, &after)?;
-        let ticket = oldest.ticket;
-        Ok(Begin::Basis(Basis::new(topo, needs, ticket, sure, after, known)))
-    }
-
-    /// Whether a proposal that was judged away from the checker may be committed: it was given a ticket here, and each lower ticket is
-    /// decided.
-    pub fn may_commit(&self, judged: &Judged) -> bool
-        ensures { IsTrue result ↔ MayCommit self.now judged.now.ticket }
-    {
-        let _version = self.store.version();
-        if self.store.decided(judged.ticket()).is_some() {
-            return true;
-        }
-        match self.store.oldest() {
-            Some(oldest) => oldest.ticket == judged.ticket(),
-            None => false,
-        }
-    }
-
-    /// Decides the judged proposal, which is the oldest that waits, as entry number `entry`, and gives the receipt twice, as `check_twice`
-    /// does. The verdict is that of how the checker stands now, whatever was judged. At `Err` nothing has changed but the count of runs.
-    pub fn commit_twice(
-        &mut self,
-        entry: u32,
-        judged: &Judged,
-    ) -> Result<Twice<Receipt>, AllocError>
-        requires oldest { judged.now.ticket ≡ length self.old.store.decided + 1 }
-        requires given { judged.now.ticket ≤ self.old.store.tickets }
-        ensures ok { IfOk result (λ receipts. Moves self.old self.new entry check_event (decided_reply receipts.told)) }
-        ensures ticket { IfOk result (λ receipts. receipts.told.ticket ≡ judged.now.ticket) }
-        ensures kept { IfOk result (λ receipts. receipts.kept ≡ receipts.told) }
-        ensures err { OnErr result (IsSameButRuns self.old self.new) }
-        ensures runs { self.old.flows_run ≤ self.new.flows_run }
-    {
-        let _version = self.store.version();
-        self.decide_oldest_twice(entry, Some(judged))
-    }
-
-    /// Decides a proposal that was judged away from the checker, as entry number `entry`. It was given a ticket here, and each lower ticket
-    /// is decided. `Gone` comes exactly where it is decided too, and changes nothing. Else the verdict is that of how the checker stands
-    /// now, whatever was judged. At `Err` nothing has changed but the count of runs.
-    pub fn commit(&mut self, entry: u32, judged: &Judged) -> Result<Commit, AllocError>
-        requires { MayCommit self.old judged.now.ticket }
-        ensures ok { IfOk result (Commits self.old self.new entry judged.now.ticket) }
-        ensures err { OnErr result (IsSameButRuns self.old self.new) }
-        ensures runs { self.old.flows_run ≤ self.new.flows_run }
-    {
-        if let Some(entry) = self.store.decided(judged.ticket()) {
-            return Ok(Commit::Gone { entry });
-        }
-        let _version = self.store.version();
-        let receipt = self.decide_oldest(entry, Some(judged))?;
-        Ok(Commit::Decided(receipt))
     }
 
     /// What an entity is to be sent, so that it becomes as the target has it. `Settled` comes exactly where it is settled. Else the

@@ -12,7 +12,8 @@ mod sure;
 mod twice;
 
 pub use basis::{Basis, Judged, judge_basis};
-pub use control::{Begin, Check, Commit, Control};
+pub use control::commits::{Begin, Commit};
+pub use control::{Check, Control};
 pub use replies::{check_reply, grant_reply, keep_reply, put_reply, release_reply};
 pub use send::SendStep;
 pub use st_store::{Keep, Put};

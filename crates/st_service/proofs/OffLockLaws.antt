@@ -18,8 +18,8 @@ use Rattle.st_event.specs.Legal.{IsLegal}
 use Rattle.st_event.specs.Replies.{check_reply, receipt_of}
 use Rattle.st_event.specs.Services.{entry_after}
 use Rattle.st_event.proofs.Standings.{length-deciders}
-use Rattle.st_control.specs.declared.control.Begin.{Begin}
-use Rattle.st_control.specs.declared.control.Begin.TheVariants.{Basis, Idle}
+use Rattle.st_control.specs.declared.control.commits.Begin.{Begin}
+use Rattle.st_control.specs.declared.control.commits.Begin.TheVariants.{Basis, Idle}
 use Rattle.st_control.specs.Basis.{BasisView, JudgedView, IsJudgedOf}
 use Rattle.st_world.specs.Commits.{Begins, Commits, IsBasisAt, MayCommit}
 use Rattle.st_world.specs.Rounds.{Course, course_from, enter, is_full}

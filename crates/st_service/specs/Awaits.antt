@@ -7,8 +7,8 @@ use Rattle.st_event.specs.declared.journal.Entry.{Entry}
 use Rattle.st_event.specs.declared.journal.TheConstants.{MAX_ENTRIES, MAX_PENDING}
 use Rattle.st_event.specs.Proposals.{deciders}
 use Rattle.st_event.specs.Services.{entry_after}
-use Rattle.st_control.specs.declared.control.Begin.{Begin}
-use Rattle.st_control.specs.declared.control.Begin.TheVariants.{Basis, Idle}
+use Rattle.st_control.specs.declared.control.commits.Begin.{Begin}
+use Rattle.st_control.specs.declared.control.commits.Begin.TheVariants.{Basis, Idle}
 use Rattle.st_world.specs.declared.world.commits.Committed.{Committed}
 use Rattle.st_world.specs.declared.world.commits.Committed.TheVariants.{Did, Gone, JournalFull}
 use Rattle.st_world.specs.Commits.{IsBasisAt}

@@ -11,8 +11,8 @@ use Rattle.st_event.specs.declared.journal.Entry.{Entry}
 use Rattle.st_event.specs.Proposals.{proposals, proposals_after, deciders, deciders_after, first_rows}
 use Rattle.st_event.specs.Standing.{Standing, sure_in}
 use Rattle.st_store.specs.Store.{StoreView, IsWaiting, IsNeverGiven}
-use Rattle.st_control.specs.declared.control.Begin.{Begin}
-use Rattle.st_control.specs.declared.control.Begin.TheVariants.{Basis, Idle}
+use Rattle.st_control.specs.declared.control.commits.Begin.{Begin}
+use Rattle.st_control.specs.declared.control.commits.Begin.TheVariants.{Basis, Idle}
 use Rattle.st_control.specs.Commits.{Begins as ControlBegins}
 use Rattle.st_world.specs.Machine.{MachineView}
 use Rattle.st_world.specs.World.{Agrees}

@@ -11,8 +11,8 @@ use Rattle.st_event.specs.History.{History}
 use Rattle.st_event.specs.Observed.{sure, sure_after}
 use Rattle.st_event.specs.Proposals.{proposals, pending, deciders, first_rows}
 use Rattle.st_control.specs.Basis.{BasisView}
-use Rattle.st_control.specs.declared.control.Begin.{Begin}
-use Rattle.st_control.specs.declared.control.Begin.TheVariants.{Basis, Idle}
+use Rattle.st_control.specs.declared.control.commits.Begin.{Begin}
+use Rattle.st_control.specs.declared.control.commits.Begin.TheVariants.{Basis, Idle}
 use Rattle.st_world.specs.World.{Steps}
 use Rattle.st_world.specs.declared.world.Stepped.TheVariants.{Did as did_step}
 use Rattle.st_world.specs.declared.world.commits.Committed.{Committed}

@@ -1,7 +1,7 @@
 -- A check for a ticket is the hold that shows it pending, and the hold that commits the oldest one.
 use Rattle.std.proofs.Common.{ℕ, sym, subst, ◌∙◌, arith}
-use Rattle.st_control.specs.declared.control.Begin.{Begin}
-use Rattle.st_control.specs.declared.control.Begin.TheVariants.{Basis, Idle}
+use Rattle.st_control.specs.declared.control.commits.Begin.{Begin}
+use Rattle.st_control.specs.declared.control.commits.Begin.TheVariants.{Basis, Idle}
 use Rattle.st_service.specs.declared.awaits.Checked.{Checked}
 use Rattle.st_service.specs.Awaits.{BeginsFor, ChecksFor}
 use Rattle.st_service.specs.Made.{past_in}

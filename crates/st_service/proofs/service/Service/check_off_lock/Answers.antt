@@ -1,7 +1,7 @@
 -- A check off the lock is the hold that takes a basis, and the hold that commits its ticket.
 use Rattle.std.proofs.Common.{ℕ, sym, subst, ◌∙◌, arith}
-use Rattle.st_control.specs.declared.control.Begin.{Begin}
-use Rattle.st_control.specs.declared.control.Begin.TheVariants.{Idle}
+use Rattle.st_control.specs.declared.control.commits.Begin.{Begin}
+use Rattle.st_control.specs.declared.control.commits.Begin.TheVariants.{Idle}
 use Rattle.st_world.specs.Commits.{Begins, IsBasisAt}
 use Rattle.st_service.specs.declared.offlock.OffLock.{OffLock}
 use Rattle.st_service.specs.Made.{past_in}
