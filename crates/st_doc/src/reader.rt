@@ -14,6 +14,7 @@ mod sections;
 
 use st_draft::Group;
 use st_grammar::{Keyword, Script, keyword_of, phase_of};
+use st_net::Names;
 use st_text::{Token, has_allowed_bytes, tokens};
 use st_token::{FaultKind, LineError, TakesLines, is_comment, known_name_in};
 use std::alloc::Global;
