@@ -1,6 +1,6 @@
 -- One entry more keeps a world consistent. `items` is the journal as the code keeps it, the oldest entry first.
-use Rattle.std.proofs.Common.{◌≡◌, ℕ, ◌+◌, ◌-◌, ◌<◌, ◌≤◌, List, [], ◌∷◌, ◌++◌, length, take, drop, refl, ap, sym, ◌∙◌, subst, arith, length-append}
-use Rattle.std.specs.Prelude.{Bool, true, false, if◌then◌else◌, reverse}
+use Rattle.std.proofs.Common.{◌≡◌, ℕ, ◌+◌, ◌-◌, ◌<◌, ◌≤◌, List, [], ◌∷◌, ◌++◌, length, take, drop, Option, Some, refl, ap, sym, ◌∙◌, subst, arith, length-append}
+use Rattle.std.specs.Prelude.{Bool, true, false, if◌then◌else◌, reverse, IfSome}
 use Rattle.std.proofs.lemmas.List.{reverse-append, reverse-reverse, length-reverse, take_all}
 use Rattle.std.proofs.Math.Seq.{drop-append_seam}
 use Rattle.st_net.specs.declared.entity.Entity.{Entity}
@@ -27,6 +27,7 @@ use Rattle.st_event.specs.Proposals.{proposals, proposals_after, target}
 use Rattle.st_event.specs.Replies.{reply as reply_to}
 use Rattle.st_event.specs.Standing.{Standing, Wires, standing_of, wires_of, standing_after, wires_after, reply_in}
 use Rattle.st_event.specs.Versions.{value_at, versions_after}
+use Rattle.st_event.proofs.Accepting.{legal_within}
 use Rattle.st_event.proofs.Agreement.{agree_throughout}
 use Rattle.st_event.proofs.Made.{report_now}
 use Rattle.st_event.proofs.Promises.{keeps_throughout}
@@ -97,6 +98,24 @@ below_next m items agrees =
       numbers = λ e. let counted : (agent_in g m.agents e).number ≡ number past e = ap (λ (w : Wires). (w.agent e).number) agrees.wires in omega (arith, counted, same, low_numbers past e);
     }
 
+-- the number of the next entry, and so there is room for one
+next_number : (items : List Entry) (next : Option ℕ) (n : ℕ) → next ≡ Some n → IfSome next (λ k. k ≡ length items + 1) → n ≡ length items + 1
+next_number items next n is number = subst (λ (o : Option ℕ). IfSome o (λ k. k ≡ length items + 1)) is number
+
+next_fits : (next : Option ℕ) (n : ℕ) → next ≡ Some n → IfSome next (λ k. k ≤ MAX_ENTRIES) → n ≤ MAX_ENTRIES
+next_fits next n is few = subst (λ (o : Option ℕ). IfSome o (λ k. k ≤ MAX_ENTRIES)) is few
+
+-- everything is below that number
+pub below_number : (m : MachineView) (items : List Entry) (next : Option ℕ) (n : ℕ) → Agrees m items → next ≡ Some n → IfSome next (λ k. k ≡ length items + 1) → IsBelow n m
+below_number m items next n agrees is number = subst (λ (k : ℕ). IsBelow k m) (sym (next_number items next n is number)) (below_next m items agrees)
+
+-- and what is answered under it is answered as the next entry, for which there is room
+pub answered_next : (m l : MachineView) (items : List Entry) (next : Option ℕ) (n : ℕ) (event : Event) (answer : Reply) → next ≡ Some n → IfSome next (λ k. k ≡ length items + 1) → IfSome next (λ k. k ≤ MAX_ENTRIES) → Answers m l n event answer → (length items < MAX_ENTRIES) × Answers m l (length items + 1) event answer
+answered_next m l items next n event answer is number few moves =
+    let at = next_number items next n is number in
+    let fits = next_fits next n is few in
+    (omega (arith, at, fits), subst (λ (k : ℕ). Answers m l k event answer) at moves)
+
 -- a world at its opening has the empty journal
 pub agrees_start : (g : Group) (m : MachineView) (items : List Entry) → IsOpening g m → items ≡ [] → Agrees m items
 agrees_start g m items start none = record {
@@ -166,13 +185,13 @@ kept m items sound agrees = keeps_throughout m.checker.group (reverse items) sou
 pub agree : (m : MachineView) (items : List Entry) → Agrees m items → AtEach (AgentsAgree m.checker.group) (reverse items)
 agree m items agrees = agree_throughout m.checker.group (reverse items) agrees.legal
 
--- no journal has more entries than may be; one that has as many is full
-few_entries : (g : Group) (past : List Entry) → IsLegal g past → length past ≤ MAX_ENTRIES
-few_entries g [] legal = omega arith
-few_entries g (entry ∷ past) legal = let room = legal.0.room in omega (arith, room)
+-- a journal has no more entries than it may have
+pub few_items : (g : Group) (items : List Entry) → IsLegal g (reverse items) → length items ≤ MAX_ENTRIES
+few_items g items legal = omega (arith, legal_within g (reverse items) legal, length-reverse items)
 
+-- and one that has as many is full
 pub is_full : (m : MachineView) (items : List Entry) → Agrees m items → MAX_ENTRIES ≤ length items → length (reverse items) ≡ MAX_ENTRIES
-is_full m items agrees many = let few = few_entries m.checker.group (reverse items) agrees.legal in omega (arith, few, many, length-reverse items)
+is_full m items agrees many = omega (arith, few_items m.checker.group items agrees.legal, many, length-reverse items)
 
 -- the agent that is found for an entity is that of the journal
 pub agent_is : (m : MachineView) (items : List Entry) (e : Entity) (g : Group) (agents : List AgentState) (found : AgentState) → Agrees m items → g ≡ m.checker.group → agents ≡ m.agents → found ≡ record { entity = e; agent = agent_in g agents e } → found ≡ record { entity = e; agent = agent_of m.checker.group (reverse items) e }

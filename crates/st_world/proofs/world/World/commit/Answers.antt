@@ -1,5 +1,5 @@
-use Rattle.std.proofs.Common.{◌≡◌, ℕ, ◌+◌, ◌<◌, ◌≤◌, [], ◌∷◌, ◌++◌, length, ap, arith, refl, rules, subst, sym, ◌∙◌}
-use Rattle.std.specs.Prelude.{Option, IfSome, reverse, ◌⊎◌}
+use Rattle.std.proofs.Common.{◌≡◌, ℕ, ◌+◌, ◌<◌, ◌≤◌, [], ◌∷◌, ◌++◌, length, ap, refl, rules, subst, sym, ◌∙◌}
+use Rattle.std.specs.Prelude.{reverse, ◌⊎◌}
 use Rattle.st_event.specs.declared.event.Event.TheVariants.{Check}
 use Rattle.st_event.specs.declared.reply.Reply.TheVariants.{Decided}
 use Rattle.st_event.specs.declared.journal.TheConstants.{MAX_ENTRIES}
@@ -7,10 +7,9 @@ use Rattle.st_event.specs.Proposals.{deciders}
 use Rattle.st_control.specs.Control.{ControlView}
 use Rattle.st_store.specs.Store.{IsWaiting, IsNeverGiven}
 use Rattle.st_world.specs.Commits.{MayCommit}
-use Rattle.st_world.specs.Machine.{Answers}
 use Rattle.st_world.specs.World.{WorldView}
 use Rattle.st_world.proofs.CommitLaws.{still_open}
-use Rattle.st_world.proofs.WorldLaws.{agrees_next, enters, is_full}
+use Rattle.st_world.proofs.WorldLaws.{answered_next, agrees_next, enters, is_full}
 use Rattle.st_world.proofs.world.World.commit.Goals as goal
 
 pub returns-in_default-2-clause-ok : goal.returns-in_default-2-clause-ok
@@ -25,16 +24,12 @@ returns-in_default-2-clause-ok c =
 
 pub invariant_of-self-2 : goal.invariant_of-self-2
 invariant_of-self-2 c =
-    let number : c.in-Some-2.entry ≡ length c.self.inside.journal.items + 1 = subst (λ (next : Option ℕ). IfSome next (λ n. n ≡ length c.self.inside.journal.items + 1)) c.in-Some-2.is c.in_ok-entry.ensures.number in
-    let few : c.in-Some-2.entry ≤ MAX_ENTRIES = subst (λ (next : Option ℕ). IfSome next (λ n. n ≤ MAX_ENTRIES)) c.in-Some-2.is c.in_ok-entry.ensures.few in
-    let moves = subst (λ (n : ℕ). Answers c.self.inside.machine c.commit.new.self n Check (Decided c.in_ok-told.field-0.told)) number c.in_ok-told.ensures.ok in
+    let made = answered_next c.self.inside.machine c.commit.new.self c.self.inside.journal.items _ c.in-Some-2.entry Check (Decided c.in_ok-told.field-0.told) c.in-Some-2.is c.in_ok-entry.ensures.number c.in_ok-entry.ensures.few c.in_ok-told.ensures.ok in
     let pushed : c.enter_last.new.journal.items ≡ c.self.inside.journal.items ++ record { event = Check; reply = Decided c.in_ok-told.field-0.told } ∷ [] = rw (c.enter_last.ensures.entry, c.next_entry.ensures.items, c.in_ok-told.ensures.kept) refl in
-    agrees_next c.self.inside.machine c.commit.new.self c.self.inside.journal.items c.enter_last.new.journal.items Check (Decided c.in_ok-told.field-0.told) c.self.invariant (omega (arith, number, few)) tt moves pushed
+    agrees_next c.self.inside.machine c.commit.new.self c.self.inside.journal.items c.enter_last.new.journal.items Check (Decided c.in_ok-told.field-0.told) c.self.invariant made.0 tt made.1 pushed
 
 pub returns-clause-ok : goal.returns-clause-ok
 returns-clause-ok c =
-    let number : c.in-Some-2.entry ≡ length c.self.inside.journal.items + 1 = subst (λ (next : Option ℕ). IfSome next (λ n. n ≡ length c.self.inside.journal.items + 1)) c.in-Some-2.is c.in_ok-entry.ensures.number in
-    let few : c.in-Some-2.entry ≤ MAX_ENTRIES = subst (λ (next : Option ℕ). IfSome next (λ n. n ≤ MAX_ENTRIES)) c.in-Some-2.is c.in_ok-entry.ensures.few in
-    let moves = subst (λ (n : ℕ). Answers c.self.inside.machine c.commit.new.self n Check (Decided c.in_ok-told.field-0.told)) number c.in_ok-told.ensures.ok in
+    let made = answered_next c.self.inside.machine c.commit.new.self c.self.inside.journal.items _ c.in-Some-2.entry Check (Decided c.in_ok-told.field-0.told) c.in-Some-2.is c.in_ok-entry.ensures.number c.in_ok-entry.ensures.few c.in_ok-told.ensures.ok in
     let pushed : c.enter_last.new.journal.items ≡ c.self.inside.journal.items ++ record { event = Check; reply = Decided c.in_ok-told.field-0.told } ∷ [] = rw (c.enter_last.ensures.entry, c.next_entry.ensures.items, c.in_ok-told.ensures.kept) refl in
-    (c.in_ok-told.ensures.ticket, rw (← c.self.view_is) (enters c.self.inside.machine c.commit.new.self c.self.inside.journal.items c.enter_last.new.journal.items Check (Decided c.in_ok-told.field-0.told) c.self.invariant (omega (arith, number, few)) tt moves pushed))
+    (c.in_ok-told.ensures.ticket, rw (← c.self.view_is) (enters c.self.inside.machine c.commit.new.self c.self.inside.journal.items c.enter_last.new.journal.items Check (Decided c.in_ok-told.field-0.told) c.self.invariant made.0 tt made.1 pushed))

@@ -1,17 +1,16 @@
-use Rattle.std.proofs.Common.{◌≡◌, length, reverse, ap, arith}
-use Rattle.std.proofs.lemmas.List.{length-reverse}
-use Rattle.st_event.proofs.Accepting.{legal_within}
+use Rattle.std.proofs.Common.{◌≡◌, ◌≤◌, List, length, reverse, ap, sym, subst, arith}
+use Rattle.st_event.specs.declared.journal.Entry.{Entry}
+use Rattle.st_event.specs.declared.journal.TheConstants.{MAX_ENTRIES}
+use Rattle.st_event.specs.Legal.{IsLegal}
 use Rattle.st_world.specs.World.{WorldView}
+use Rattle.st_world.proofs.WorldLaws.{few_items}
 use Rattle.st_world.proofs.world.World.entries.Goals as goal
 
+few_made : (w : WorldView) (items : List Entry) → IsLegal w.history.group w.history.past → reverse items ≡ w.history.past → length items ≤ MAX_ENTRIES
+few_made w items legal same = few_items w.history.group items (subst (IsLegal w.history.group) (sym same) legal)
+
 pub overflow_cast-result : goal.overflow_cast-result
-overflow_cast-result c =
-    let within = legal_within c.args.self.now.history.group c.args.self.now.history.past c.is_legal.ensures.legal in
-    let same : length (reverse c.self.inside.journal.items) ≡ length c.args.self.now.history.past = ap (λ (w : WorldView). length w.history.past) c.self.view_is in
-    omega (arith, within, same, length-reverse c.self.inside.journal.items, c.len.ensures)
+overflow_cast-result c = omega (arith, c.len.ensures, few_made c.args.self.now c.self.inside.journal.items c.is_legal.ensures.legal (ap (λ (w : WorldView). w.history.past) c.self.view_is))
 
 pub returns-clause-few : goal.returns-clause-few
-returns-clause-few c =
-    let within = legal_within c.args.self.now.history.group c.args.self.now.history.past c.is_legal.ensures.legal in
-    let same : length (reverse c.self.inside.journal.items) ≡ length c.args.self.now.history.past = ap (λ (w : WorldView). length w.history.past) c.self.view_is in
-    omega (arith, within, same, length-reverse c.self.inside.journal.items, c.len.ensures)
+returns-clause-few c = omega (arith, c.len.ensures, few_made c.args.self.now c.self.inside.journal.items c.is_legal.ensures.legal (ap (λ (w : WorldView). w.history.past) c.self.view_is))
