@@ -76,7 +76,8 @@ HasFew s = HasFewPending s.history.past
 act_few : (app : AppId) (act : Act) (s : GroupState) → HasFew s → HasFew (act_on app act s)
 act_few app act s is = course-keeps s.history.group IsFewIn (enter_few s.history.group) app act s.lines (course_from s.history.past) is
 
-changed_all : {X : Type 0} (P : X → Type 0) (n : ℕ) (f : X → X) (xs : List X) → ((x : X) → P x → P (f x)) → All P xs → All P (changed_at n f xs)
+-- a group that is changed keeps what each keeps
+pub changed_all : {X : Type 0} (P : X → Type 0) (n : ℕ) (f : X → X) (xs : List X) → ((x : X) → P x → P (f x)) → All P xs → All P (changed_at n f xs)
 changed_all P n f [] keeps all = all
 changed_all P zero f (x ∷ xs) keeps all = All-cons P (f x) xs (keeps x (All-head P x xs all)) (All-tail P x xs all)
 changed_all P (suc n) f (x ∷ xs) keeps all = All-cons P x (changed_at n f xs) (All-head P x xs all) (changed_all P n f xs keeps (All-tail P x xs all))

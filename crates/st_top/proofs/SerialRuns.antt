@@ -4,7 +4,7 @@ use Rattle.std.specs.Prelude.{All, IfSome, map, reverse, slice_get, slice_index_
 use Rattle.std.specs.List.{cons_option, filter_map, list_any}
 use Rattle.std.proofs.lemmas.Bool.Decides.{nat_tests}
 use Rattle.std.proofs.lemmas.List.{reverse-append, length-map}
-use Rattle.std.proofs.lemmas.List.Elements.{All-nil, All-cons, All-append}
+use Rattle.std.proofs.lemmas.List.Elements.{All-nil, All-cons, All-head, All-tail, All-append}
 use Rattle.std.proofs.lemmas.Option.{slice_get_within}
 use Rattle.st_net.specs.declared.entity.AppId.{AppId}
 use Rattle.st_net.specs.declared.entity.Entity.{Entity}
@@ -46,8 +46,9 @@ use Rattle.st_replay.specs.Replaying.{app_names}
 use Rattle.st_serial.specs.declared.schedule.Place.{Place}
 use Rattle.st_serial.specs.Kept.{AreKept, groups_of}
 use Rattle.st_serial.specs.Schedule.{schedule}
-use Rattle.st_serial.specs.Serial.{Checked, GroupState, Run, act_in, act_of, act_on, all_decided, all_opened, asked_done, changed_at, checks_in, journals_from, opening_run, place_done, places_done, scripts_done, serial_end, serial_run, state_at, with_checked, with_group}
+use Rattle.st_serial.specs.Serial.{Checked, GroupState, Run, act_in, act_of, act_on, all_decided, all_opened, asked_done, checks_in, journals_from, opened, opening_run, place_done, places_done, scripts_done, serial_end, serial_run, state_at, with_checked, with_group}
 use Rattle.st_serial.proofs.Lists.{by_test}
+use Rattle.st_serial.proofs.Waiting.{changed_all}
 use Rattle.st_top.specs.Answer.{AreOfScripts, Results}
 use Rattle.st_top.specs.PrintedRuns.{IsRun, SerialRunsAreReplayed}
 use Rattle.st_top.proofs.PrintedRuns.{printed_runs_are_replayed}
@@ -273,13 +274,7 @@ module _ (apps : List (List ℕ)) where
     asked : AreAsked s.history.past
 
   abbrev AreWell : List GroupState → Type 0
-  AreWell [] = Unit {0}
-  AreWell (s ∷ ss) = IsWell s × AreWell ss
-
-  changed_well : (n : ℕ) (f : GroupState → GroupState) (ss : List GroupState) → ((s : GroupState) → IsWell s → IsWell (f s)) → AreWell ss → AreWell (changed_at n f ss)
-  changed_well n f [] keeps well = tt
-  changed_well zero f (s ∷ ss) keeps well = (keeps s well.0, well.1)
-  changed_well (suc n) f (s ∷ ss) keeps well = (well.0, changed_well n f ss keeps well.1)
+  AreWell = All IsWell
 
   act_well : (app : AppId) (act : Act) (s : GroupState) → app.0 < length apps → IsWell s → IsWell (act_on app act s)
   act_well app act s low well = record {
@@ -296,7 +291,7 @@ module _ (apps : List (List ℕ)) where
     where
       done : (act : Option Act) → RunIsWell (asked_done n act run)
       done None = well
-      done (Some act) = changed_well (group_number act) (act_on (record { 0 = n }) act) run.groups
+      done (Some act) = changed_all IsWell (group_number act) (act_on (record { 0 = n }) act) run.groups
           (λ s is-well. act_well (record { 0 = n }) act s (omega (arith, count, slice_get_within scripts n script is)) is-well) well
 
   places_well : (scripts : List Script) (places : List Place) (run : Run) → length scripts ≡ length apps → RunIsWell run → RunIsWell (places_done scripts places run)
@@ -307,28 +302,30 @@ module _ (apps : List (List ℕ)) where
       (asked_well scripts place.app place.act (slice_get scripts place.app) run count refl well))
 
   opened_well : (groups : List Parts) (wires : List (List WireLine)) → All AreSoundWires wires → AreWell (all_opened groups wires)
-  opened_well [] wires sound = tt
-  opened_well (parts ∷ groups) [] sound = tt
-  opened_well (parts ∷ groups) (lines ∷ wires) sound = (
-    record { lines = (sound 0 lines (omega arith)).each; asked = All-nil (IsAsked apps) },
-    opened_well groups wires (λ k d low. sound (suc k) d (omega (arith, low))),
-  )
+  opened_well [] wires sound = All-nil IsWell
+  opened_well (parts ∷ groups) [] sound = All-nil IsWell
+  opened_well (parts ∷ groups) (lines ∷ wires) sound =
+      All-cons IsWell (opened parts lines) (all_opened groups wires)
+      (record { lines = (sound 0 lines (omega arith)).each; asked = All-nil (IsAsked apps) })
+      (opened_well groups wires (λ k d low. sound (suc k) d (omega (arith, low))))
 
   -- the checks behind the scripts
 
   decided_well : (n : ℕ) (ss : List GroupState) → AreWell ss → AreWell (all_decided n ss).groups
-  decided_well n [] well = tt
+  decided_well n [] well = All-nil IsWell
   decided_well n (s ∷ ss) well =
       let course = checks_in s in
-      let here : IsWell (state_at s course) = record { lines = well.0.lines; asked = checks_asked s.history.group is_something MAX_PENDING (course_from s.history.past) well.0.asked } in
+      let before = All-head IsWell s ss well in
+      let later = All-tail IsWell s ss well in
+      let here : IsWell (state_at s course) = record { lines = before.lines; asked = checks_asked s.history.group is_something MAX_PENDING (course_from s.history.past) before.asked } in
       by_test (λ (c : Checked). AreWell c.groups) course.stopped (record { groups = state_at s course ∷ ss; full = Some n }) (with_group (state_at s course) (all_decided (n + 1) ss))
-      (here, well.1) (here, decided_well (n + 1) ss well.1)
+      (All-cons IsWell (state_at s course) ss here later) (All-cons IsWell (state_at s course) (all_decided (n + 1) ss).groups here (decided_well (n + 1) ss later))
 
   journals_asked : (n : ℕ) (ss : List GroupState) → AreWell ss → All (λ (journal : Journal). All (IsAsked apps) journal.entries) (journals_from n ss)
   journals_asked n [] well = All-nil (λ (journal : Journal). All (IsAsked apps) journal.entries)
   journals_asked n (s ∷ ss) well =
       let journal : Journal = record { group = n; entries = reverse s.history.past } in
-      All-cons (λ (journal : Journal). All (IsAsked apps) journal.entries) journal (journals_from (n + 1) ss) (reversed (IsAsked apps) s.history.past well.0.asked) (journals_asked (n + 1) ss well.1)
+      All-cons (λ (journal : Journal). All (IsAsked apps) journal.entries) journal (journals_from (n + 1) ss) (reversed (IsAsked apps) s.history.past (All-head IsWell s ss well).asked) (journals_asked (n + 1) ss (All-tail IsWell s ss well))
 
   pub serial_asked : (doc : Doc) → IsSoundDoc doc → length doc.apps ≡ length apps → All (λ (journal : Journal). All (IsAsked apps) journal.entries) (serial_run doc)
   serial_asked doc sound count =
