@@ -48,6 +48,7 @@ group_with name devices links promises noted = record {
 abbrev pub drafted : Parts → GroupDraft
 drafted p = group_with p.name p.devices p.links p.promises nothing_noted
 
+-- what is no fault was not found
 mapped_none : (f : ℕ → TopoFault) (o : Option ℕ) → option_map f o ≡ None → o ≡ None
 mapped_none f None is = refl
 mapped_none f (Some x) is = absurd (cc)
