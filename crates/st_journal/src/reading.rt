@@ -1,7 +1,7 @@
 //! Journals are read here: the bytes are cut into lines, the reader takes them one after another, and the first bad one
 //! ends the reading.
 
-ghost use Rattle.std.specs.Prelude.{◌≡◌, ◌+◌, ◌<◌, ◌^◌, All, length, map, IfOk, MatchOption, Ok, Err};
+ghost use Rattle.std.specs.Prelude.{◌+◌, ◌<◌, ◌^◌, All, length, map, IfOk, MatchOption, Ok, Err};
 ghost use Rattle.std.specs.List.{AllByRecursion};
 ghost use Rattle.st_text.specs.Lines.{lines_of, line_in, IsLineWithin};
 ghost use Rattle.st_net.specs.Groups.{IsSound};

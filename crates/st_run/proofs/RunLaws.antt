@@ -12,6 +12,7 @@ use Rattle.st_event.specs.declared.journal.Entry.{Entry}
 use Rattle.st_event.specs.declared.journal.Journal.{Journal}
 use Rattle.st_event.specs.declared.journal.TheConstants.{MAX_ENTRIES, MAX_PENDING}
 use Rattle.st_event.specs.Legal.{IsLegal}
+use Rattle.st_event.proofs.Accepting.{legal_within}
 use Rattle.st_event.proofs.Promises.{keeps_throughout}
 use Rattle.st_wire.specs.declared.line.WireLine.{WireLine}
 use Rattle.st_event.proofs.Prefixes.{prefix_length}
@@ -66,14 +67,10 @@ entries_count g passes n entries front whole =
     let entry_of : Made → Entry = λ m. m.entry in
     omega (arith, told, length-reverse entries, length-reverse (map entry_of front), length-map front entry_of)
 
-legal_few : (g : Group) (past : List Entry) → IsLegal g past → length past ≤ MAX_ENTRIES
-legal_few g [] legal = omega arith
-legal_few g (entry ∷ past) legal = omega (arith, legal.0.room)
-
 whole_few : (g : Group) (passes : List Holder) (n : ℕ) (entries : List Entry) (front : List Made) → IsWhole g passes n entries front
     → length entries ≤ MAX_ENTRIES
 whole_few g passes n entries front whole =
-    let few = legal_few g (past_in front) whole.legal in
+    let few = legal_within g (past_in front) whole.legal in
     let told = ap (λ (es : List Entry). length es) whole.journal in
     omega (arith, few, told, length-reverse entries)
 

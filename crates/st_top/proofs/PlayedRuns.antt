@@ -10,6 +10,7 @@ use Rattle.st_event.specs.declared.journal.Entry.{Entry}
 use Rattle.st_event.specs.declared.journal.Journal.{Journal}
 use Rattle.st_event.specs.declared.journal.TheConstants.{MAX_ENTRIES}
 use Rattle.st_event.specs.Legal.{Fits, IsLegal}
+use Rattle.st_event.proofs.Accepting.{legal_within}
 use Rattle.st_grammar.specs.declared.doc.Doc.{Doc}
 use Rattle.st_words.specs.declared.job.Form.{Form}
 use Rattle.st_journal.specs.JournalReading.{AreJournalsOf, IsJournalOf}
@@ -29,10 +30,6 @@ legal_at : (g : Group) (past : List Entry) (k : ℕ) (d : Entry) → IsLegal g p
 legal_at g [] k d legal low = absurd (omega (arith, low))
 legal_at g (entry ∷ past) zero d legal low = legal.0.fits
 legal_at g (entry ∷ past) (suc k) d legal low = legal_at g past k d legal.1 (omega (arith, low))
-
-legal_few : (g : Group) (past : List Entry) → IsLegal g past → length past ≤ MAX_ENTRIES
-legal_few g [] legal = omega arith
-legal_few g (entry ∷ past) legal = omega (arith, legal.0.room)
 
 -- a number that stands in a list of numbers of places
 pub numbered_at : (journals : List Journal) (count k : ℕ) (j : Journal) → AreNumbers (map (λ j. j.group) journals) count → k < count → (slice_index_or journals k j).group ≡ k
@@ -71,7 +68,7 @@ few_at : (groups : List Group) (journals : List Journal) (k : ℕ) (j : Journal)
 few_at [] [] k j legal low = absurd (omega (arith, low))
 few_at [] (journal ∷ journals) k j legal low = absurd legal
 few_at (g ∷ groups) [] k j legal low = absurd legal
-few_at (g ∷ groups) (journal ∷ journals) zero j legal low = omega (arith, legal_few g (reverse journal.entries) legal.0, length-reverse journal.entries)
+few_at (g ∷ groups) (journal ∷ journals) zero j legal low = omega (arith, legal_within g (reverse journal.entries) legal.0, length-reverse journal.entries)
 few_at (g ∷ groups) (journal ∷ journals) (suc k) j legal low = few_at groups journals k j legal.1 (omega (arith, low))
 
 pub all_few : (groups : List Group) (journals : List Journal) → AreLegal groups journals → All HasFewEntries journals

@@ -4,12 +4,12 @@
 ghost use Rattle.std.specs.Prelude.{ℕ, ◌≡◌, ◌<◌, true, length, MatchBool, slice_index_or};
 ghost use Rattle.st_net.specs.Entities.{is_var_of};
 ghost use Rattle.st_net.specs.Groups.{Group};
-ghost use Rattle.st_net.specs.Ranges.{is_health_of};
+ghost use Rattle.st_net.specs.Ranges.{is_health_of as is_health_of_lem};
 ghost use Rattle.st_service.specs.Acts.{CanDo};
 
 use st_crew::Gate;
 use st_event::Act;
-use st_net::{Entity, GroupTopo, Var};
+use st_net::{Entity, GroupTopo, Var, is_health_of};
 use st_service::{Acted, Naming, OffLock, Pass, Service};
 use st_world::{Rounded, group_number};
 use std::alloc::{AllocError, Global};
@@ -26,10 +26,10 @@ fn is_read(entity: Entity, var: Var) -> bool
 
 /// Whether this is a switch, and a health that it may have.
 fn is_switch_health(entity: Entity, health: u32) -> bool
-    ensures { MatchBool result (is_health_of entity health ≡ true) (Unit {0}) }
+    ensures { MatchBool result (is_health_of_lem entity health ≡ true) (Unit {0}) }
 {
     match entity {
-        Entity::Device(_) => health <= 5,
+        Entity::Device(_) => is_health_of(entity, health),
         Entity::Link(_) => false,
     }
 }
