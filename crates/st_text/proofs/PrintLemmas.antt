@@ -2,12 +2,12 @@
 use Rattle.std.proofs.Common.{◌≡◌, ℕ, ◌+◌, ◌<◌, List, [], ◌∷◌, ◌++◌, length, map, get_or, take, refl, sym, ◌∙◌, ap, append_assoc}
 use Rattle.std.specs.Prelude.{Result, Ok, Err, OnErr, OnOk}
 use Rattle.std.proofs.lemmas.List.{append-nil, take_more}
+use mathlib.Core.List.{IsPrefix}
 use Rattle.st_text.specs.Words.{ended, line_text, text_of, spaced, line}
-use Rattle.st_text.specs.Inside.{Begins}
 
 -- one text was added, and a beginning of what follows
-pub begun_next : (old mid new a : List ℕ) → mid ≡ old ++ a → Begins mid new → Begins old new
-begun_next old mid new a whole begun = record { more = a ++ begun.more; new_is = begun.new_is ∙ (ap (λ t. t ++ begun.more) whole ∙ append_assoc old a begun.more) }
+pub begun_next : (old mid new a : List ℕ) → mid ≡ old ++ a → IsPrefix mid new → IsPrefix old new
+begun_next old mid new a whole begun = (a ++ begun.0, sym (append_assoc old a begun.0) ∙ (ap (λ t. t ++ begun.0) (sym whole) ∙ begun.1))
 
 -- the whole of two texts
 pub both_added : (old mid new a b : List ℕ) → mid ≡ old ++ a → new ≡ mid ++ b → new ≡ old ++ (a ++ b)

@@ -31,6 +31,13 @@ impl Text {
         }
     }
 
+    /// A text of no bytes beside this one. It takes no memory.
+    pub fn empty(&self) -> Text
+        ensures { result ≡ [] }
+    {
+        Text::new(self.alloc)
+    }
+
     /// Adds these bytes as they are. `Err` is for want of memory alone, and leaves the text as it was.
     pub fn word(&mut self, bytes: &[u8]) -> Result<(), AllocError>
         ensures ok { OnOk result (self.new ≡ self.old ++ bytes.now) }
@@ -50,7 +57,7 @@ impl Text {
     }
 
     /// How many bytes there are.
-    pub fn len(&self) -> usize
+    pub(crate) fn len(&self) -> usize
         ensures { result ≡ length self.now }
     {
         self.bytes.len()

@@ -4,7 +4,8 @@
 ghost use Rattle.std.specs.Prelude.{◌≡◌, ◌++◌, ◌∷◌, [], OnOk, OnErr, map};
 ghost use Rattle.st_text.specs.Words.{spaced, line};
 ghost use Rattle.st_text.specs.Printed.{bytes_of, value_word, assignment_word, variable_word};
-ghost use Rattle.st_text.specs.Inside.{Begins, between};
+ghost use Rattle.st_text.specs.Inside.{between};
+ghost use mathlib.Core.List.{IsPrefix};
 
 use crate::printing::Text;
 use std::alloc::AllocError;
@@ -37,7 +38,7 @@ pub enum Word<'a> {
 /// Adds VAR=NUMBER. At `Err` a part of it may stand behind what the text held.
 fn add_value(var: &[u8], value: u32, out: &mut Text) -> Result<(), AllocError>
     ensures ok { OnOk result (out.new ≡ out.old ++ value_word var.now value) }
-    ensures err { OnErr result (Begins out.old out.new) }
+    ensures err { OnErr result (IsPrefix out.old out.new) }
 {
     out.word(var)?;
     out.word(b"=")?;
@@ -47,7 +48,7 @@ fn add_value(var: &[u8], value: u32, out: &mut Text) -> Result<(), AllocError>
 /// Adds NAME.VAR. At `Err` a part of it may stand behind what the text held.
 fn add_variable(name: &[u8], var: &[u8], out: &mut Text) -> Result<(), AllocError>
     ensures ok { OnOk result (out.new ≡ out.old ++ variable_word name.now var.now) }
-    ensures err { OnErr result (Begins out.old out.new) }
+    ensures err { OnErr result (IsPrefix out.old out.new) }
 {
     out.word(name)?;
     out.word(b".")?;
@@ -57,7 +58,7 @@ fn add_variable(name: &[u8], var: &[u8], out: &mut Text) -> Result<(), AllocErro
 /// Adds NAME.VAR=NUMBER. At `Err` a part of it may stand behind what the text held.
 fn add_assignment(name: &[u8], var: &[u8], value: u32, out: &mut Text) -> Result<(), AllocError>
     ensures ok { OnOk result (out.new ≡ out.old ++ assignment_word name.now var.now value) }
-    ensures err { OnErr result (Begins out.old out.new) }
+    ensures err { OnErr result (IsPrefix out.old out.new) }
 {
     out.word(name)?;
     out.word(b".")?;
@@ -67,7 +68,7 @@ fn add_assignment(name: &[u8], var: &[u8], value: u32, out: &mut Text) -> Result
 /// Adds a space and the word. At `Err` a part of them may stand behind what the text held.
 fn add_word(word: Word, out: &mut Text) -> Result<(), AllocError>
     ensures ok { OnOk result (out.new ≡ out.old ++ 32 ∷ bytes_of word.entry) }
-    ensures err { OnErr result (Begins out.old out.new) }
+    ensures err { OnErr result (IsPrefix out.old out.new) }
 {
     out.word(b" ")?;
     match word {
@@ -82,7 +83,7 @@ fn add_word(word: Word, out: &mut Text) -> Result<(), AllocError>
 /// Adds bytes, words, each behind a space, and more bytes. At `Err` a part of them may stand behind what the text held.
 fn add_between(head: &[u8], words: &[Word], end: &[u8], out: &mut Text) -> Result<(), AllocError>
     ensures ok { OnOk result (out.new ≡ out.old ++ between head.now words.now end.now) }
-    ensures err { OnErr result (Begins out.old out.new) }
+    ensures err { OnErr result (IsPrefix out.old out.new) }
 {
     out.word(head)?;
     for word in words {
