@@ -34,7 +34,7 @@ pub struct Input {
     pub end: ReadEnd,
 }
 
-/// Reads to the end, to a fault, or to one byte more than an input may have. A read that failed is not tried again.
+/// Reads to the end, to a fault, or to one byte more than an input may have. Reading ends at the first read that failed.
 /// After `Err`, for want of memory, the bytes that were read are lost, and no read failed.
 pub fn read_all<S: Source>(alloc: Global, source: &mut S) -> Result<Input, AllocError>
     ensures input { IfOk result (λ input. ReadsInput (S.left source.old) (S.left source.new)

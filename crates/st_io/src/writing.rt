@@ -17,7 +17,7 @@ pub enum Written {
     OutOfMemory,
 }
 
-/// Writes a text, piece by piece. A write that failed is not tried again. An empty text is written with no call of the sink.
+/// Writes a text, piece by piece. Writing ends at the first write that failed. An empty text is written with no call of the sink.
 pub fn write_all<K: Sink>(sink: &mut K, text: &[u8]) -> Written
     ensures written { Writes (K.held sink.old) (K.held sink.new)
         (K.faults sink.old) (K.faults sink.new) text.now result }
