@@ -11,11 +11,7 @@ use Rattle.st_net.specs.UpGraph.{is_up_link, IsWalk}
 use Rattle.st_net.specs.Cuts.{is_crossing, cut_value_from, with_number, least_over}
 use Rattle.st_net.specs.Promises.{Holds}
 use Rattle.st_net.specs.Sets.{IsWithin}
-
-pub both : (p q : Bool) → (p && q) ≡ true → (p ≡ true) × (q ≡ true)
-both true true is = (refl, refl)
-both true false is = cc
-both false q is = cc
+use Rattle.st_net.proofs.Tests.{both}
 
 up_more : (up more : Entity → Bool) (i : ℕ) (link : LinkOpening) → IsWithin up more → is_up_link up i link ≡ true → is_up_link more i link ≡ true
 up_more up more i link within is_up =

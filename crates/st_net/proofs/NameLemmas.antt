@@ -43,3 +43,9 @@ place_kept m n (k ∷ ns) e = step (bytes_eq m k) (place_of m ns) (place_of m (n
 
 pub among_kept : (m n : List ℕ) (ns : List (List ℕ)) → is_among m ns ≡ true → is_among m (ns ++ n ∷ []) ≡ true
 among_kept m n ns e = ap is_some (place_kept m n ns e) ∙ e
+
+-- a name that is not among others is not the first, and not among the rest
+pub not_first : (b : Bool) (o : Option ℕ) → is_some (cond b (Some 0) (option_map suc o)) ≡ false → (b ≡ false) × (is_some o ≡ false)
+not_first true o e = absurd (cc)
+not_first false None e = (refl, refl)
+not_first false (Some n) e = absurd (cc)

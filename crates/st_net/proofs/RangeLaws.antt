@@ -1,6 +1,6 @@
 -- Values in range: of rows that fit, of openings, and each variable of them.
 use Rattle.std.proofs.Common.{◌≡◌, ℕ, zero, suc, ◌<◌, ◌^◌, List, [], ◌∷◌, length, Option, Some, None, refl, subst, arith}
-use Rattle.std.specs.Prelude.{Bool, true, false, ◌&&◌, ◌==◌, nat_le, nat_lt, All, slice_index_or, if◌then◌else◌, unwrap_or}
+use Rattle.std.specs.Prelude.{Bool, true, false, ◌==◌, nat_le, nat_lt, All, slice_index_or, if◌then◌else◌, unwrap_or}
 use Rattle.std.proofs.lemmas.List.Elements.{All-head, All-tail}
 use Rattle.st_net.specs.declared.entity.Entity.{Entity}
 use Rattle.st_net.specs.declared.entity.Entity.TheVariants.{Device, Link}
@@ -14,16 +14,9 @@ use Rattle.st_net.specs.Entities.{is_same_entity, is_same_var, is_var_of, value_
 use Rattle.st_net.specs.Groups.{Group, IsSound, IsEntityOf, opening_of, are_device_vals, are_link_vals, AreDevices, AreLinks, no_device, no_link}
 use Rattle.st_net.specs.Merge.{is_on, first_of_two, row_on, last_write}
 use Rattle.st_net.specs.Ranges.{RowFits, is_device_value, is_link_value, is_in_range, are_in_range}
-use Rattle.st_net.proofs.Tests.{both, same_entity}
+use Rattle.st_net.proofs.Tests.{both, four_true, same_entity}
 
 -- values variable by variable
-
-four_true : (a b c d : Bool) → (a && b && c && d) ≡ true → (a ≡ true) × (b ≡ true) × (c ≡ true) × (d ≡ true)
-four_true true true true true e = (refl, refl, refl, refl)
-four_true false b c d e = cc
-four_true true false c d e = cc
-four_true true true false d e = cc
-four_true true true true false e = cc
 
 device_value_in : (vals : Vals) (v : Var) → (nat_le vals.v0 1 ≡ true) × (nat_lt vals.v1 (2 ^ 32) ≡ true) × (nat_lt vals.v2 (2 ^ 32) ≡ true) × (nat_le vals.v3 1 ≡ true) → is_var_of (Device 0) v ≡ true → is_device_value v (device_value vals v) ≡ true
 device_value_in vals Power each own = each.0

@@ -7,7 +7,8 @@ use Rattle.st_net.specs.declared.entity.Entity.{Entity}
 use Rattle.st_net.specs.declared.topo.LinkOpening.{LinkOpening}
 use Rattle.st_net.specs.Groups.{AreLinks}
 use Rattle.st_net.specs.Cuts.{cut_value, IsCut, with_number, all_over, cut_of, least_cut, is_in_least_side}
-use Rattle.st_net.proofs.CutLaws.{both, clip, clip_none, clip_in, clip_out}
+use Rattle.st_net.proofs.CutLaws.{clip, clip_none, clip_in, clip_out}
+use Rattle.st_net.proofs.Tests.{both}
 use Rattle.st_net.proofs.WalkLaws.{cut_rests, cut_of_rests, cut_of_cut}
 
 all_clip_at : (n : ℕ) (test : (ℕ → Bool) → Bool) (side : ℕ → Bool) (p : Bool) → side n ≡ p → test (clip n side) ≡ true → test (with_number (clip n side) n) ≡ true → test (clip (suc n) side) ≡ true

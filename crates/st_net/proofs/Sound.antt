@@ -21,7 +21,7 @@ use Rattle.std.proofs.lemmas.List.{length-map}
 use Rattle.st_net.specs.Faults.{device_names, link_names, first_twice, first_link, first_promise, is_own, is_unknown_end, has_unknown_end, has_unknown_tor, is_loop, is_cross, device_limit, link_limit, promise_limit, limit_or, tors_with, first_device_limit, first_link_limit, first_promise_limit, is_tor, is_tor_name, is_on_names, was_promised, is_bad_pair, first_bad_pair, place_or, fault_or, promises_at, number_of, device_opening, link_opening, promise_opening, twice_of, unknown_of, loop_of, cross_of, limit_of, pair_of, fault_of, group_of}
 use Rattle.st_net.proofs.NameSteps.{all_new}
 use Rattle.st_net.proofs.PairSteps.{at_place, one_place, was_promised_last, or_none, or_assoc}
-use Rattle.st_net.proofs.Tests.{at_most_is, more_is}
+use Rattle.st_net.proofs.Tests.{at_most_is, both, more_is, neither}
 
 -- nothing of two is nothing of each
 pub fault_none : (a b : Option TopoFault) → fault_or a b ≡ None → (a ≡ None) × (b ≡ None)
@@ -44,15 +44,6 @@ limit_none (Some l) place later is = cc
 found_none : (p : Bool) (at : ℕ) (rest : Option ℕ) → (if p then Some at else rest) ≡ None → (p ≡ false) × (rest ≡ None)
 found_none true at rest is = cc
 found_none false at rest is = (refl, is)
-
-both : (p q : Bool) → (p && q) ≡ true → (p ≡ true) × (q ≡ true)
-both true true is = (refl, refl)
-both true false is = cc
-both false q is = cc
-
-neither : (p q : Bool) → (p || q) ≡ false → (p ≡ false) × (q ≡ false)
-neither true q is = cc
-neither false q is = (refl, is)
 
 turned : (p : Bool) → not p ≡ false → p ≡ true
 turned true is = refl
@@ -266,18 +257,18 @@ fine_promises devices before made at start number (p ∷ ps) low tell unknown ba
     record { few = omega (arith, rest.few); are = (fine.1, rest.are); pairs = rw new rest.pairs }
 
 -- nothing of each fault
-record IsFaultless (parts : Parts) : Type 0 where
-  twice : first_twice [] 0 (device_names parts.devices ++ link_names parts.links) ≡ None
-  unknown_link : first_link (has_unknown_end parts.name (device_names parts.devices)) (length parts.devices) parts.links ≡ None
-  unknown_tor : first_promise (has_unknown_tor (device_names parts.devices)) (promises_at parts) parts.promises ≡ None
-  loops : first_link (is_loop parts.name) (length parts.devices) parts.links ≡ None
-  cross : first_link (is_cross parts.name) (length parts.devices) parts.links ≡ None
-  device_limits : first_device_limit 0 0 parts.devices ≡ None
-  link_limits : first_link_limit (length parts.devices) 0 parts.links ≡ None
-  promise_limits : first_promise_limit (promises_at parts) 0 parts.promises ≡ None
-  bad : first_bad_pair parts.devices [] (promises_at parts) parts.promises ≡ None
+pub record IsFaultless (parts : Parts) : Type 0 where
+  pub twice : first_twice [] 0 (device_names parts.devices ++ link_names parts.links) ≡ None
+  pub unknown_link : first_link (has_unknown_end parts.name (device_names parts.devices)) (length parts.devices) parts.links ≡ None
+  pub unknown_tor : first_promise (has_unknown_tor (device_names parts.devices)) (promises_at parts) parts.promises ≡ None
+  pub loops : first_link (is_loop parts.name) (length parts.devices) parts.links ≡ None
+  pub cross : first_link (is_cross parts.name) (length parts.devices) parts.links ≡ None
+  pub device_limits : first_device_limit 0 0 parts.devices ≡ None
+  pub link_limits : first_link_limit (length parts.devices) 0 parts.links ≡ None
+  pub promise_limits : first_promise_limit (promises_at parts) 0 parts.promises ≡ None
+  pub bad : first_bad_pair parts.devices [] (promises_at parts) parts.promises ≡ None
 
-faultless : (parts : Parts) → fault_of parts ≡ None → IsFaultless parts
+pub faultless : (parts : Parts) → fault_of parts ≡ None → IsFaultless parts
 faultless parts is =
     let one = fault_none (twice_of parts) (fault_or (unknown_of parts) (fault_or (loop_of parts) (fault_or (cross_of parts) (fault_or (limit_of parts) (pair_of parts))))) is in
     let two = fault_none (unknown_of parts) (fault_or (loop_of parts) (fault_or (cross_of parts) (fault_or (limit_of parts) (pair_of parts)))) one.1 in

@@ -23,6 +23,13 @@ both true true is = (refl, refl)
 both true false is = cc
 both false q is = cc
 
+pub four_true : (a b c d : Bool) → (a && b && c && d) ≡ true → (a ≡ true) × (b ≡ true) × (c ≡ true) × (d ≡ true)
+four_true true true true true e = (refl, refl, refl, refl)
+four_true false b c d e = cc
+four_true true false c d e = cc
+four_true true true false d e = cc
+four_true true true true false e = cc
+
 pub neither : (p q : Bool) → (p || q) ≡ false → (p ≡ false) × (q ≡ false)
 neither true q is = cc
 neither false q is = (refl, is)
@@ -108,3 +115,17 @@ nth_pushed_at xs x n false some is = let at : pred n ≡ length xs = omega arith
 -- the last item's number
 pub nth_pushed : {X : Type 0} (xs : List X) (x : X) (n : ℕ) → n ≡ length xs + 1 → nth (xs ++ x ∷ []) n ≡ Some x
 nth_pushed xs x n is = nth_pushed_at xs x n (n == 0) refl is
+
+numbered_at : {X : Type 0} (xs : List X) (n : ℕ) (b : Bool) → (n == 0) ≡ b → 0 < n → (if b then None else slice_get xs (pred n)) ≡ slice_get xs (pred n)
+numbered_at xs n true none low = let is : n ≡ 0 = grind (arith, nat_tests) in absurd (omega (arith, is, low))
+numbered_at xs n false some low = refl
+
+-- an item by its number, from 1
+pub numbered : {X : Type 0} (xs : List X) (n : ℕ) → 0 < n → nth xs n ≡ slice_get xs (pred n)
+numbered xs n low = numbered_at xs n (n == 0) refl low
+
+-- each place of a list has an item
+pub get_some : {X : Type 0} (xs : List X) (k : ℕ) → k < length xs → (x : X) × (slice_get xs k ≡ Some x)
+get_some [] k low = absurd (omega arith)
+get_some (x ∷ xs) zero low = (x, refl)
+get_some (x ∷ xs) (suc k) low = get_some xs k (omega arith)

@@ -8,8 +8,8 @@ use Rattle.st_net.specs.Groups.{no_link, IsLink, AreLinks}
 use Rattle.st_net.specs.UpGraph.{is_up_link, is_joint, Leads, IsWalk}
 use Rattle.st_net.specs.Cuts.{is_crossing, cut_value_from, cut_value, IsCut, with_number, cut_of, least_cut}
 use Rattle.st_net.specs.Promises.{Holds, is_held}
-use Rattle.st_net.proofs.CutLaws.{both, least_over-attained, least_over-below}
-use Rattle.st_net.proofs.Tests.{turned}
+use Rattle.st_net.proofs.CutLaws.{least_over-attained, least_over-below}
+use Rattle.st_net.proofs.Tests.{both, turned}
 
 -- an up link that crosses a set
 record Crosses (links : List LinkOpening) (up : Entity → Bool) (side : ℕ → Bool) (i : ℕ) : Type 0 where

@@ -14,7 +14,6 @@ pub mod Demands
 pub mod Faults
 pub mod Pairs
 pub mod Building
-pub mod NamesInside
 pub mod PairsInside
 pub mod Holders
 pub mod Agents

@@ -1,4 +1,4 @@
--- Pairs of ToRs by their numbers, and what they tell of promises.
+-- Of no concern to callers: pairs of ToRs by their numbers, and what they tell of promises.
 use Rattle.std.specs.Prelude.{◌≡◌, ℕ, List, Bool, true, not, ◌&&◌, Some, bytes_eq}
 use Rattle.st_net.specs.declared.pairs.Pair.{Pair}
 use Rattle.st_net.specs.declared.parts.DevicePart.{DevicePart}

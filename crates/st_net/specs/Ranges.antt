@@ -32,7 +32,7 @@ abbrev pub is_in_range : Entity → Var → ℕ → Bool
 is_in_range (Device i) = is_device_value
 is_in_range (Link i) = is_link_value
 
--- values in range, and a health
+-- values of an entity, each in range
 abbrev pub are_in_range : Entity → Vals → Bool
 are_in_range (Device i) = are_device_vals
 are_in_range (Link i) = are_link_vals
@@ -42,6 +42,7 @@ abbrev pub most_health : Entity → ℕ
 most_health (Device i) = DEVICE_HEALTH
 most_health (Link i) = LINK_HEALTH
 
+-- a health that the entity may have: from 0 to its greatest
 abbrev pub is_health_of : Entity → ℕ → Bool
 is_health_of e health = nat_le health (most_health e)
 

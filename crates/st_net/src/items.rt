@@ -58,9 +58,4 @@ impl<T: Drop> Items<T> {
     {
         self.items
     }
-
-    /// The memory that the list takes from.
-    pub fn alloc(&self) -> Global {
-        *self.items.allocator()
-    }
 }

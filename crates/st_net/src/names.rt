@@ -1,31 +1,29 @@
-//! Declared names with an index, numbered in the order of declaration: the names of a group's parts, and those of groups and of
-//! applications.
+//! Names that stand one after another and are found by an index: those of a group's devices, and of its links.
 
 ghost use Rattle.std.specs.Prelude.{◌≡◌, ◌++◌, [], ◌∷◌, ◌<◌, ◌↔◌, IsTrue, OnOk, OnErr, OnSome, IfOk, IfSome, length, slice_get, Some, false, true};
 ghost use Rattle.st_net.specs.Names.{place_of, is_among, is_name};
 
 use crate::name::Name;
-use indexmap::IndexSet;
+use crate::name_index::NameIndex;
 use std::alloc::{AllocError, Global};
 use std::marker::Model;
 
-/// Different names, each of which is found in about one step. Contracts see the list.
+/// Different names, each of which is found in about one step and stands at its place. Contracts see the list.
 #[derive(Drop)]
 pub struct Names {
     alloc: Global,
-    keys: IndexSet<Vec<u8>>,
+    index: NameIndex,
     names: Vec<Name>,
 }
 
 impl Model for Names {
-    ghost use Rattle.std.specs.Prelude.{ℕ, List, map};
-    ghost use Rattle.st_net.specs.NamesInside.{HasKeys};
+    ghost use Rattle.std.specs.Prelude.{◌≡◌, ℕ, List};
 
     ghost Value = { List (List ℕ) };
 
-    ghost view = { λ n. map (λ key. key.items) n.keys.keys };
+    ghost view = { λ n. n.index };
 
-    ghost invariant = { λ n. HasKeys (map (λ key. key.items) n.keys.keys) n.names.items };
+    ghost invariant = { λ n. n.names.items ≡ n.index };
 }
 
 /// Whether these are the same names in the same order.
@@ -50,7 +48,7 @@ impl Names {
     {
         Names {
             alloc,
-            keys: IndexSet::new(alloc),
+            index: NameIndex::new(alloc),
             names: Vec::new(alloc),
         }
     }
@@ -68,14 +66,14 @@ impl Names {
         ensures within { IfSome result (λ place. place < length self.now) }
         ensures spelled { OnSome result (is_name name.now ≡ true) }
     {
-        self.keys.get_index_of(name)
+        self.index.find(name)
     }
 
     /// Whether a name is among them.
     pub fn has(&self, name: &Name) -> bool
         ensures { result ≡ is_among name.now self.now }
     {
-        self.find(name.bytes()).is_some()
+        self.index.has(name)
     }
 
     /// The name at a place.
@@ -86,30 +84,33 @@ impl Names {
         &self.names[place]
     }
 
-    /// Adds a new name at the end. At `Err` nothing has changed.
+    /// Adds a new name at the end. `Err` is for want of memory alone, and nothing has changed then.
     pub fn add(&mut self, name: &Name) -> Result<(), AllocError>
         requires { is_among name.now self.old ≡ false }
         ensures ok { OnOk result (self.new ≡ self.old ++ name.now ∷ []) }
         ensures err { OnErr result (self.new ≡ self.old) }
     {
         let kept = name.copy(self.alloc)?;
-        let key = Vec::from_slice(self.alloc, name.bytes())?;
         self.names.reserve(1)?;
-        self.keys.insert(key)?;
+        self.index.add(name)?;
         self.names.push_reserved(kept);
         Ok(())
     }
 
-    /// Equal names.
+    /// Equal names. `Err` is for want of memory alone.
     pub fn copy(&self, alloc: Global) -> Result<Names, AllocError>
         ensures { IfOk result (λ copy. copy ≡ self.now) }
     {
-        let keys = self.keys.clone()?;
+        let index = self.index.copy(alloc)?;
         let mut names = Vec::new(alloc);
         for name in &self.names {
             names.push(name.copy(alloc)?)?;
         }
-        Ok(Names { alloc, keys, names })
+        Ok(Names {
+            alloc,
+            index,
+            names,
+        })
     }
 
     /// Whether these are the same names in the same order.

@@ -7,9 +7,10 @@ ghost use Rattle.st_net.specs.Ranges.{is_in_range as is_in_range_lem, are_in_ran
 use crate::entity::{Entity, Row, Vals, Var};
 use crate::topo::{GroupTopo, MAX_ROWS};
 
-/// The greatest health of a device and of a link: all works. The least is 0.
+/// The greatest health of a device: all works. The least is 0.
 pub const DEVICE_HEALTH: u32 = 5;
 
+/// The greatest health of a link: it works. The least is 0.
 pub const LINK_HEALTH: u32 = 1;
 
 /// The numbers of these limits, as laws: it does nothing.

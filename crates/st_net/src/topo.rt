@@ -15,18 +15,22 @@ use crate::promise::Promise;
 use std::alloc::{AllocError, Global};
 use std::marker::Model;
 
-/// The most devices, ToRs, links and promises of a group.
+/// The most devices of a group.
 pub const MAX_DEVICES: usize = 512;
 
+/// The most of these that are ToRs.
 pub const MAX_TORS: usize = 64;
 
+/// The most links of a group.
 pub const MAX_LINKS: usize = 4_096;
 
+/// The most promises of a group: one for each pair of ToRs.
 pub const MAX_PROMISES: usize = 2_016;
 
-/// The greatest capacity of a link, and the greatest percentage of a promise.
+/// The greatest capacity of a link.
 pub const MAX_CAPACITY: u32 = 1_000_000;
 
+/// The greatest percentage of a promise.
 pub const MAX_PERCENT: u32 = 100;
 
 /// The most rows of a proposal.
