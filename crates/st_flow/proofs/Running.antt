@@ -13,7 +13,7 @@ use Rattle.st_flow.specs.declared.search.Mark.{Mark}
 use Rattle.st_flow.specs.declared.search.Search.{Search}
 use Rattle.st_flow.specs.Network.{Network, IsEdge, FitsEdge}
 use Rattle.st_flow.specs.Residual.{other, room, no_edge, edge_at, amount_at, IsFull, IsClosed}
-use Rattle.st_flow.specs.Search.{no_mark, mark_at, reached, limit_of, IsSearching, IsRunning, IsScanned, Grows, Runs, IsOn}
+use Rattle.st_flow.specs.Search.{no_mark, mark_at, reached, limit_of, IsSearching, IsRunning, IsScanned, Grows, Runs, IsFurther}
 use Rattle.st_flow.specs.Rows.{IsRow}
 use Rattle.st_flow.proofs.Closed.{AllZip-at, AllZip-length, AllZip-from}
 use Rattle.st_flow.proofs.SearchLemmas.{IsLooking, IsVisiting, IsScanned-grows, level_cases}
@@ -171,5 +171,13 @@ Runs-next g es fs s row x k start next new new_queue look is end same same_next 
     let run = rw look.edges at (IsRunning-next g.nodes es fs s.start (limit_of s) s.next x s.marks.items s.queue.items new new_queue row was look.waiting look.node is.searching is.grows look.rows scanned) in
     rw (same, is.searching.search.start_width, same_next) run
 
-pub IsOn-more : (one two three : Search) → IsOn one two → IsOn two three → IsOn one three
-IsOn-more one two three first next = record { start = next.start ∙ first.start; limit = next.limit ∙ first.limit }
+pub IsFurther-more : (one two three : Search) → IsFurther one two → IsFurther two three → IsFurther one three
+IsFurther-more one two three first next = record { start = next.start ∙ first.start; limit = next.limit ∙ first.limit }
+
+-- a search that looks along the edges of one node was begun at the same start, for as much
+pub IsVisiting-further : (g : Network) (es : List Edge) (fs : List ℤ) (old now : Search) (row : List ℕ) (x i : ℕ) (marks : List Mark) (queue : List ℕ) →
+    now.start ≡ old.start → now.marks.items ≡ marks → IsVisiting g es fs old row x i marks queue → IsFurther old now
+IsVisiting-further g es fs old now row x i marks queue start same visiting = record {
+  start = start;
+  limit = ap (λ n. (mark_at now.marks.items n).width) start ∙ (ap (λ ms. (mark_at ms old.start).width) same ∙ visiting.searching.search.start_width);
+}

@@ -73,7 +73,7 @@ abbrev pub Runs : Network → List ℤ → Search → Type 0
 Runs g fs s = IsRunning g.nodes g.edges fs s.start (limit_of s) s.next s.marks.items s.queue.items
 
 -- the same search, further on
-pub record IsOn (old new : Search) : Type 0 where
+pub record IsFurther (old new : Search) : Type 0 where
   pub start : new.start ≡ old.start
   pub limit : limit_of new ≡ limit_of old
 

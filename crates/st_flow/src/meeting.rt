@@ -4,7 +4,7 @@ ghost use Rattle.std.specs.Prelude.{IfOk, OnOk, IfNone, IfSome};
 ghost use Rattle.std.specs.List.{AllZip};
 ghost use Rattle.st_flow.specs.Network.{FitsEdge};
 ghost use Rattle.st_flow.specs.Residual.{IsClosed};
-ghost use Rattle.st_flow.specs.Search.{reached, IsOn, IsRound, IsMeeting};
+ghost use Rattle.st_flow.specs.Search.{reached, IsFurther, IsRound, IsMeeting};
 
 use crate::direction::Direction;
 use crate::graph::Graph;
@@ -28,8 +28,8 @@ pub(crate) fn meet(
 ) -> Result<Option<Meeting>, AllocError>
     requires fits { AllZip FitsEdge g.now.edges amounts.now }
     requires round { IsRound g.now amounts.now near.old far.old }
-    ensures near { OnOk result (IsOn near.old near.new) }
-    ensures far { OnOk result (IsOn far.old far.new) }
+    ensures near { OnOk result (IsFurther near.old near.new) }
+    ensures far { OnOk result (IsFurther far.old far.new) }
     ensures round { OnOk result (IsRound g.now amounts.now near.new far.new) }
     ensures closed { IfOk result (λ met. IfNone met (IsClosed g.now.edges amounts.now (reached near.new.marks.items))) }
     ensures met { IfOk result (λ met. IfSome met (λ m. IsMeeting g.now.edges amounts.now near.new.marks.items far.new.marks.items m.edge m.from)) }

@@ -6,7 +6,7 @@ ghost use Rattle.std.specs.List.{AllZip};
 ghost use Rattle.std.specs.List.Sorted.{IsStrictlyIncreasing};
 ghost use Rattle.st_flow.specs.Network.{Network, FitsEdge, has};
 ghost use Rattle.st_flow.specs.Residual.{turned};
-ghost use Rattle.st_flow.specs.Search.{no_mark, mark_at, limit_of, reached, Runs, IsOn, IsApart, IsMeeting};
+ghost use Rattle.st_flow.specs.Search.{no_mark, mark_at, limit_of, reached, Runs, IsFurther, IsApart, IsMeeting};
 
 use crate::direction::Direction;
 use crate::graph::Graph;
@@ -87,7 +87,7 @@ impl Search {
         requires running { Runs g.now (turned direction amounts.now) self.old }
         requires waiting { self.old.next < length self.old.queue.items }
         requires apart { IsApart self.old.marks.items across.now }
-        ensures on { OnOk result (IsOn self.old self.new) }
+        ensures on { OnOk result (IsFurther self.old self.new) }
         ensures running { OnOk result (Runs g.now (turned direction amounts.now) self.new) }
         ensures apart { OnOk result (IsApart self.new.marks.items across.now) }
         ensures next { IfOk result (λ met. IfNone met (self.new.next ≡ self.old.next + 1)) }

@@ -1,6 +1,6 @@
 use Rattle.std.proofs.Common.{arith, All, ap}
 use Rattle.st_flow.specs.Network.{IsEdge}
-use Rattle.st_flow.proofs.Running.{IsRunning-closed, IsOn-more}
+use Rattle.st_flow.proofs.Running.{IsRunning-closed, IsFurther-more}
 use Rattle.st_flow.proofs.SearchLemmas.{IsApart-sym}
 use Rattle.st_flow.proofs.Meetings.{IsMeeting-across}
 use Rattle.st_flow.proofs.meeting.meet.Goals as goal
@@ -37,7 +37,7 @@ steps-preserved-then-waiting c =
     let done = c.in_ok-met.ensures in
     record {
       near = inv.near;
-      far = IsOn-more c.args.far.now c.steps.far _ inv.far done.on;
+      far = IsFurther-more c.args.far.now c.steps.far _ inv.far done.on;
       round = record {
         along = inv.round.along;
         against = done.running;
@@ -51,7 +51,7 @@ steps-preserved c =
     let inv = c.steps.invariant in
     let done = c.in_ok-met-2.ensures in
     record {
-      near = IsOn-more c.args.near.now c.steps.near _ inv.near done.on;
+      near = IsFurther-more c.args.near.now c.steps.near _ inv.near done.on;
       far = inv.far;
       round = record {
         along = done.running;

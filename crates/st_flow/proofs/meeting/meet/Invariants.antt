@@ -1,11 +1,11 @@
 use Rattle.std.proofs.Common.{◌+◌, ◌-◌}
-use Rattle.st_flow.specs.Search.{IsOn, IsRound}
+use Rattle.st_flow.specs.Search.{IsFurther, IsRound}
 use Rattle.st_flow.proofs.meeting.meet.Given as goal
 
 abbrev pub invariant-steps : goal.invariant-steps
 invariant-steps l = record {
-  near : IsOn l.fn.near l.near;
-  far : IsOn l.fn.far l.far;
+  near : IsFurther l.fn.near l.near;
+  far : IsFurther l.fn.far l.far;
   round : IsRound l.g l.amounts l.near l.far;
 }
 

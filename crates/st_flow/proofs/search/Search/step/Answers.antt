@@ -9,7 +9,7 @@ use Rattle.st_flow.proofs.Turned.{AllZip-turned, amount_at-turned}
 use Rattle.st_flow.proofs.Rows.{row_at-read, IsRead-of}
 use Rattle.st_flow.proofs.Pushing.{reached_in_range}
 use Rattle.st_flow.proofs.SearchLemmas.{IsLooking, IsVisiting-start, IsVisiting-skip, IsVisiting-found, other_in, Grows-level, IsApart-found}
-use Rattle.st_flow.proofs.Running.{Runs-node, Runs-kept, Runs-next}
+use Rattle.st_flow.proofs.Running.{IsVisiting-further, Runs-node, Runs-kept, Runs-next}
 use Rattle.st_flow.proofs.search.Search.step.Goals as goal
 
 pub bounds-rows-x : goal.bounds-rows-x
@@ -146,9 +146,7 @@ loop-i-preserved-then-room-eq0 c =
 
 -- an edge to a node of the search across
 pub returns-then-across-y-gt0-clause-on : goal.returns-then-across-y-gt0-clause-on
-returns-then-across-y-gt0-clause-on c =
-    let inv = c.loop-i.invariant in
-    record { start = inv.start; limit = rw inv.start inv.visiting.searching.search.start_width }
+returns-then-across-y-gt0-clause-on c = let inv = c.loop-i.invariant in IsVisiting-further _ _ _ _ _ _ _ _ _ _ inv.start refl inv.visiting
 
 pub returns-then-across-y-gt0-clause-running : goal.returns-then-across-y-gt0-clause-running
 returns-then-across-y-gt0-clause-running c =
@@ -210,9 +208,7 @@ loop-i-preserved c =
     }
 
 pub returns-clause-on : goal.returns-clause-on
-returns-clause-on c =
-    let inv = c.loop-i.invariant in
-    record { start = inv.start; limit = rw inv.start inv.visiting.searching.search.start_width }
+returns-clause-on c = let inv = c.loop-i.invariant in IsVisiting-further _ _ _ _ _ _ _ _ _ _ inv.start refl inv.visiting
 
 pub returns-clause-running : goal.returns-clause-running
 returns-clause-running c =
