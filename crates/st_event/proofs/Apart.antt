@@ -4,9 +4,9 @@ use Rattle.std.specs.Prelude.{Bool, true, false, ◌==◌, if◌then◌else◌}
 use Rattle.st_event.specs.declared.event.Event.{Event}
 use Rattle.st_event.specs.declared.journal.Entry.{Entry}
 use Rattle.st_net.specs.Groups.{Group}
-use Rattle.st_event.specs.Services.{entry_after, journal_by, GroupEvent, journals_after, journals_by, events_of}
+use Rattle.st_event.specs.Services.{journal_after, journal_by, GroupEvent, journals_after, journals_by, events_of}
 
-one_apart : (g : Group) (event : Event) (later : List Event) (past : List Entry) (own : Bool) → journal_by g later (if own then entry_after g past event ∷ past else past) ≡ journal_by g (if own then event ∷ later else later) past
+one_apart : (g : Group) (event : Event) (later : List Event) (past : List Entry) (own : Bool) → journal_by g later (if own then journal_after g event past else past) ≡ journal_by g (if own then event ∷ later else later) past
 one_apart g event later past true = refl
 one_apart g event later past false = refl
 

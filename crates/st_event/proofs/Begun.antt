@@ -1,5 +1,5 @@
 -- What a journal has given verdicts on, overlaid and accepted, each journal that goes on from it has first.
-use Rattle.std.proofs.Common.{List, [], ◌∷◌, ◌++◌, Option, Some, None, refl, subst}
+use Rattle.std.proofs.Common.{◌≤◌, List, [], ◌∷◌, ◌++◌, length, Option, Some, None, refl, subst, arith}
 use mathlib.Core.List.{IsPrefix}
 use Rattle.st_net.specs.declared.entity.Row.{Row}
 use Rattle.st_net.specs.Groups.{Group}
@@ -10,8 +10,9 @@ use Rattle.st_event.specs.declared.reply.Reply.TheVariants.{Decided}
 use Rattle.st_event.specs.declared.reply.Verdict.{Verdict}
 use Rattle.st_event.specs.declared.journal.Entry.{Entry}
 use Rattle.st_event.specs.Legal.{IsLegal}
-use Rattle.st_event.specs.Proposals.{accepted, first_rows, overlay_in, overlays, pending, verdicts, verdicts_after, with_overlay, with_verdict_of}
-use Rattle.st_event.proofs.Prefixes.{prefix_self, prefix_trans}
+use Rattle.st_event.specs.Proposals.{accepted, deciders, first_rows, overlay_in, overlays, pending, verdicts, verdicts_after, with_overlay, with_verdict_of}
+use Rattle.st_event.proofs.Prefixes.{prefix_length, prefix_self, prefix_trans}
+use Rattle.st_event.proofs.Standings.{length-deciders}
 use Rattle.st_event.proofs.Targets.{overlays_are_accepted}
 
 -- an entry more leaves the verdicts and the overlays, or has one more behind them
@@ -28,6 +29,12 @@ pub verdicts_later : (more past : List Entry) → IsPrefix (verdicts past) (verd
 verdicts_later [] past = prefix_self (verdicts past)
 verdicts_later (e ∷ more) past = prefix_trans (verdicts past) (verdicts (more ++ past)) (verdicts (e ∷ more ++ past)) (verdicts_later more past) (verdicts_one e.event e.reply (verdicts (more ++ past)))
 
+-- so no fewer tickets are decided
+pub deciders_grow : (more past : List Entry) → length (deciders past) ≤ length (deciders (more ++ past))
+deciders_grow more past =
+    let few = prefix_length (verdicts past) (verdicts (more ++ past)) (verdicts_later more past) in
+    omega (arith, few, length-deciders past, length-deciders (more ++ past))
+
 overlaid_one : (o : Option (List Row)) (before : List (List Row)) → IsPrefix before (with_overlay o before)
 overlaid_one None before = prefix_self before
 overlaid_one (Some rows) before = (rows ∷ [], refl)
@@ -39,7 +46,8 @@ overlaid_later (e ∷ more) past = prefix_trans (overlays past) (overlays (more 
 
 -- what is accepted, which in a legal journal the target is overlaid with
 
-legal_begun : (g : Group) (more past : List Entry) → IsLegal g (more ++ past) → IsLegal g past
+-- what begins a legal journal is legal
+pub legal_begun : (g : Group) (more past : List Entry) → IsLegal g (more ++ past) → IsLegal g past
 legal_begun g [] past legal = legal
 legal_begun g (e ∷ more) past legal = legal_begun g more past legal.1
 

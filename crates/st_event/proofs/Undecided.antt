@@ -1,12 +1,10 @@
 -- A ticket that was given is pending exactly where no verdict decides it.
-use Rattle.std.proofs.Common.{◌≡◌, ℕ, zero, suc, ◌+◌, ◌-◌, ◌<◌, ◌≤◌, List, [], ◌∷◌, length, drop, Option, Some, None, refl, ap, sym, ◌∙◌, arith, length-drop}
+use Rattle.std.proofs.Common.{◌≡◌, ℕ, zero, suc, ◌+◌, ◌-◌, ◌<◌, ◌≤◌, List, [], ◌∷◌, length, drop, Some, None, refl, ap, sym, ◌∙◌, arith, length-drop}
 use Rattle.std.specs.Prelude.{Bool, true, false, ◌==◌, ◌↔◌, pred, slice_get, if◌then◌else◌}
-use Rattle.std.proofs.lemmas.Bool.Decides.{nat_tests}
-use Rattle.std.proofs.lemmas.Option.{slice_get_within}
 use Rattle.st_net.specs.Groups.{Group}
 use Rattle.st_net.specs.Numbered.{nth}
+use Rattle.st_net.proofs.Tests.{get_some, numbered}
 use Rattle.st_event.specs.declared.journal.Entry.{Entry}
-use Rattle.st_event.specs.declared.event.Proposal.{Proposal}
 use Rattle.st_event.specs.Legal.{IsLegal}
 use Rattle.st_event.specs.Laws.{IsPending}
 use Rattle.st_event.specs.Proposals.{deciders, pending, proposals, verdicts}
@@ -21,13 +19,6 @@ get_dropped (suc n) [] k at is = refl
 get_dropped (suc n) (x ∷ xs) k zero is = absurd (omega (arith, is))
 get_dropped (suc n) (x ∷ xs) k (suc at) is = get_dropped n xs k at (omega (arith, is))
 
-numbered_at : {X : Type 0} (xs : List X) (n : ℕ) (b : Bool) → (n == 0) ≡ b → 0 < n → (if b then None else slice_get xs (pred n)) ≡ slice_get xs (pred n)
-numbered_at xs n true none low = let is : n ≡ 0 = grind (arith, nat_tests) in absurd (omega (arith, is, low))
-numbered_at xs n false some low = refl
-
-numbered : {X : Type 0} (xs : List X) (n : ℕ) → 0 < n → nth xs n ≡ slice_get xs (pred n)
-numbered xs n low = numbered_at xs n (n == 0) refl low
-
 nth_dropped : {X : Type 0} (n : ℕ) (xs : List X) (k : ℕ) → 0 < k → nth (drop n xs) k ≡ nth xs (n + k)
 nth_dropped n xs k low =
     numbered (drop n xs) k low
@@ -38,11 +29,6 @@ above_zero : {X : Type 0} (xs : List X) (n : ℕ) (x : X) (b : Bool) → (n == 0
 above_zero xs n x true is some = cc
 above_zero xs zero x false is some = absurd cc
 above_zero xs (suc n) x false is some = omega arith
-
-get_some : {X : Type 0} (xs : List X) (k : ℕ) → k < length xs → (x : X) × (slice_get xs k ≡ Some x)
-get_some [] k low = absurd (omega arith)
-get_some (x ∷ xs) zero low = (x, refl)
-get_some (x ∷ xs) (suc k) low = get_some xs k (omega arith)
 
 -- tickets
 

@@ -1,7 +1,8 @@
 -- A service of several groups, and the journals that its events make.
-use Rattle.std.specs.Prelude.{ℕ, ◌==◌, List, [], ◌∷◌, if◌then◌else◌}
+use Rattle.std.specs.Prelude.{ℕ, ◌==◌, nat_lt, List, [], ◌∷◌, length, if◌then◌else◌}
 use Rattle.st_event.specs.declared.event.Event.{Event}
 use Rattle.st_event.specs.declared.journal.Entry.{Entry}
+use Rattle.st_event.specs.declared.journal.TheConstants.{MAX_ENTRIES}
 use Rattle.st_net.specs.Groups.{Group}
 use Rattle.st_event.specs.Replies.{reply}
 
@@ -9,10 +10,14 @@ use Rattle.st_event.specs.Replies.{reply}
 abbrev pub entry_after : Group → List Entry → Event → Entry
 entry_after g past event = record { event = event; reply = reply g past event }
 
--- a group's journal after these events, the first of them first
+-- a group's journal after one event: it is entered, unless the journal is full
+abbrev pub journal_after : Group → Event → List Entry → List Entry
+journal_after g event past = if nat_lt (length past) MAX_ENTRIES then entry_after g past event ∷ past else past
+
+-- and after these events, the first of them first
 abbrev pub journal_by : Group → List Event → List Entry → List Entry
 journal_by g [] past = past
-journal_by g (event ∷ events) past = journal_by g events (entry_after g past event ∷ past)
+journal_by g (event ∷ events) past = journal_by g events (journal_after g event past)
 
 -- an event of the group of a number
 pub record GroupEvent : Type 0 where
@@ -21,7 +26,7 @@ pub record GroupEvent : Type 0 where
 
 -- the journals after one event
 abbrev pub journals_after : (ℕ → Group) → GroupEvent → (ℕ → List Entry) → ℕ → List Entry
-journals_after groups at journals k = if at.group == k then entry_after (groups k) (journals k) at.event ∷ journals k else journals k
+journals_after groups at journals k = if at.group == k then journal_after (groups k) at.event (journals k) else journals k
 
 -- the journals of all groups after these events, the first of them first
 abbrev pub journals_by : (ℕ → Group) → List GroupEvent → (ℕ → List Entry) → ℕ → List Entry
