@@ -1,4 +1,4 @@
--- What a board keeps.
+-- Of no concern to callers: what a board keeps.
 use Rattle.std.specs.Prelude.{◌≡◌, [], drop}
 use Rattle.left_right.specs.Sides.{view}
 use Rattle.st_board.specs.declared.board.Board.TheInside.{Inside}

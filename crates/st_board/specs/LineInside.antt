@@ -1,4 +1,4 @@
--- The rule of a line, and what its steps tell.
+-- Of no concern to callers: the rule of a line, and what its steps tell.
 use Rattle.std.specs.Prelude.{ℕ, ◌≡◌, ◌==◌, true, List, [], ◌∷◌, ◌++◌, length, MatchBool}
 use Rattle.logbook.specs.Pages.{Cell, Step, View, Book, Named}
 use Rattle.st_board.specs.declared.post.Post.{Post}

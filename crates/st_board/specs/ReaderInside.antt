@@ -1,4 +1,4 @@
--- What a reader keeps.
+-- Of no concern to callers: what a reader keeps.
 use Rattle.std.specs.Prelude.{◌≡◌}
 use Rattle.left_right.specs.Sides.{view}
 use Rattle.st_board.specs.declared.reader.TargetReader.TheInside.{Inside}

@@ -1,4 +1,4 @@
--- What the rows that were merged last keep.
+-- Of no concern to callers: what the rows that were merged last keep.
 use Rattle.std.specs.Prelude.{◌≤◌, length, vec_capacity}
 use Rattle.st_board.specs.declared.recent.Recent.TheInside.{Inside}
 

@@ -1,4 +1,4 @@
--- The rule of what the writer shows.
+-- Of no concern to callers: the rule of what the writer shows.
 use Rattle.std.specs.Prelude.{◌≡◌, ◌⊎◌, ℕ, List, [], ◌∷◌, fold}
 use mathlib.Core.Option.{some}
 use lib.ListN.{get_elem?}

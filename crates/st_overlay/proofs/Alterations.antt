@@ -10,7 +10,7 @@ use Rattle.st_net.specs.declared.entity.Entity.TheVariants.{Device, Link}
 use Rattle.st_net.specs.Entities.{is_same_entity, is_same_var, is_same_vals, value_set, vals_by}
 use Rattle.st_net.specs.Groups.{Group, opening_of}
 use Rattle.st_net.specs.Merge.{row_on, target_with, vals_in, alters}
-use Rattle.st_net.specs.Sets.{Marks, IsMarkIn, MarksOf, HasSameMarks, set_with}
+use Rattle.st_net.specs.Sets.{Marks, IsMarkIn, MarksOf, set_with}
 use Rattle.st_net.proofs.Tests.{same_entity, same_vals_self, neither}
 use Rattle.st_overlay.specs.Values.{Values, IsIn, vals_at, value_in, IsTableOf}
 use Rattle.st_overlay.proofs.RowSets.{value_set-vals_by, target_with-push}
@@ -50,9 +50,6 @@ alters_by_table g t rows e of =
 -- and by the values with the rows and without them
 pub alters_by_vals : (g : Group) (t : Values) (rows : List Row) (e : Entity) (after before : Vals) (same b : Bool) → IsTableOf g t → after ≡ vals_by e (vals_at t e) (target_with (value_in t) rows e) → before ≡ vals_at t e → same ≡ is_same_vals after before → same ≡ b → alters g (value_in t) rows e ≡ not b
 alters_by_vals g t rows e after before same b of with_rows without is was = alters_by_table g t rows e of ∙ rw (← with_rows, ← without, ← is, was) refl
-
-pub marks_kept : (g : Group) (old new : Marks) → MarksOf g old → HasSameMarks old new → MarksOf g new
-marks_kept g old new marks same = record { devices = same.devices ∙ marks.devices; links = same.links ∙ marks.links }
 
 none_on : (rows : List Row) (e : Entity) (v : Var) → is_named rows e ≡ false → row_on rows e v ≡ None
 none_on [] e v none = refl

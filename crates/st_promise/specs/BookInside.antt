@@ -1,4 +1,4 @@
--- What the type of a book keeps of the flows, their index and the failing promises in it.
+-- Of no concern to callers: what the type of a book keeps of the flows, their index and the failing promises in it.
 use Rattle.std.specs.Prelude.{◌≡◌, ℕ, List, length, Vec, Option, IfSome}
 use Rattle.std.specs.declared.alloc.Global.{Global}
 use Rattle.st_net.specs.Groups.{Group}

@@ -1,4 +1,4 @@
--- The fields of a store, and what they keep.
+-- Of no concern to callers: the fields of a store, and what they keep.
 use Rattle.std.specs.Prelude.{◌≡◌, ℕ, ◌+◌, ◌≤◌, ◌<◌, List, length, map, slice_index_or, All}
 use Rattle.st_event.specs.declared.event.Proposal.{Proposal}
 use Rattle.st_event.specs.declared.journal.TheConstants.{MAX_PENDING}

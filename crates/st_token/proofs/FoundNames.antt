@@ -3,6 +3,7 @@ use Rattle.std.proofs.Common.{◌≡◌, ℕ, zero, suc, ◌<◌, List, [], ◌�
 use Rattle.std.specs.Prelude.{Bool, true, false, not, cond, Option, Some, None, option_map, is_some, bytes_eq, slice_index_or}
 use Rattle.std.proofs.lemmas.List.{append-nil, append_assoc}
 use Rattle.std.proofs.lemmas.Slice.Eq.{bytes_eq-Decides}
+use Rattle.st_net.proofs.NameLemmas.{not_first}
 use Rattle.st_net.proofs.Tests.{both, turned}
 use Rattle.st_net.specs.declared.entity.Entity.{Entity}
 use Rattle.st_net.specs.declared.entity.Entity.TheVariants.{Device, Link}
@@ -26,17 +27,12 @@ names_split (x ∷ xs) ys all =
     let rest = names_split xs ys parts.1 in
     (rw (parts.0, rest.0) refl, rest.1)
 
--- a name that is not among others and one more is not that one
-not_first : (b : Bool) (o : Option ℕ) → is_some (cond b (Some 0) (option_map suc o)) ≡ false → (b ≡ false) × (is_some o ≡ false)
-not_first true o e = absurd (cc)
-not_first false None e = (refl, refl)
-not_first false (Some n) e = absurd (cc)
-
 not_later : (b : Bool) (o : Option ℕ) → b ≡ false → is_some o ≡ false → is_some (cond b (Some 0) (option_map suc o)) ≡ false
 not_later true o e h = absurd (cc)
 not_later false None e h = refl
 not_later false (Some n) e h = absurd (cc)
 
+-- a name that is not among others and one more is not that one
 not_last : (m n : List ℕ) (before : List (List ℕ)) → is_among m (before ++ n ∷ []) ≡ false → (is_among m before ≡ false) × (bytes_eq m n ≡ false)
 not_last m n [] e = (refl, (not_first (bytes_eq m n) None e).0)
 not_last m n (b ∷ before) e =

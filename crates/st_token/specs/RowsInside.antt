@@ -1,4 +1,4 @@
--- What the index of a set of rows keeps.
+-- Of no concern to callers: what the index of a set of rows keeps.
 use Rattle.std.specs.Prelude.{◌≡◌, ℕ, List, map, true}
 use Rattle.std.specs.List.{AllByRecursion}
 use Rattle.st_net.specs.declared.entity.Entity.{Entity}

@@ -7,7 +7,7 @@ ghost use Rattle.st_token.specs.Steps.{Gives};
 ghost use Rattle.st_token.specs.Spelling.{name_in, new_name_in, known_name_in, number_in, number_within, number_from, number_above, prio_in, word_in, is_comment};
 
 use crate::fault::{FaultKind, LineError};
-use st_net::{Name, Names, Prio};
+use st_net::{Name, NameIndex, Prio};
 use st_text::number;
 use std::alloc::Global;
 
@@ -61,7 +61,7 @@ pub fn new_name_in(alloc: Global, taken: bool, token: &[u8]) -> Result<Name, Lin
 
 /// The place of a declared name, from 0. A name is copied only to say what is wrong with it.
 #[tactic(auto, unfolding(crate::specs::Spelling::known_name_in))]
-pub fn known_name_in(alloc: Global, names: &Names, token: &[u8]) -> Result<u32, LineError>
+pub fn known_name_in(alloc: Global, names: &NameIndex, token: &[u8]) -> Result<u32, LineError>
     requires { length names.now < 2 ^ 32 }
     ensures { Gives (λ place. place) result (known_name_in names.now token.now) }
 {

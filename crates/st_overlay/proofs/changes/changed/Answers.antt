@@ -4,7 +4,8 @@ use Rattle.std.specs.Prelude.{true, false}
 use Rattle.st_net.specs.Sets.{is_in}
 use Rattle.st_overlay.specs.Values.{value_in}
 use Rattle.st_overlay.proofs.RowSets.{no_row}
-use Rattle.st_overlay.proofs.Alterations.{altered_among_all, alters_by_vals, marks_kept, altered_next, unaltered_next}
+use Rattle.st_overlay.proofs.Alterations.{altered_among_all, alters_by_vals, altered_next, unaltered_next}
+use Rattle.st_net.proofs.SetLaws.{marks_kept}
 use Rattle.st_overlay.proofs.changes.changed.Goals as goal
 use Rattle.st_overlay.proofs.changes.changed.Goals.{then-not-is_same, else-not-is_same}
 
