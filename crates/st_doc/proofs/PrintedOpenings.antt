@@ -4,7 +4,8 @@ use Rattle.std.specs.Prelude.{Bool, true, false, if◌then◌else◌, ◌&&◌, 
 use Rattle.std.specs.List.{AllByRecursion}
 use Rattle.std.proofs.lemmas.List.{append-nil, append_assoc, length-map, length_push, map_push, map-append}
 use Rattle.std.proofs.lemmas.Slice.Eq.{bytes_eq-Decides}
-use Rattle.st_net.proofs.Tests.{same_entity, equal_numbers}
+use Rattle.st_net.proofs.NameLemmas.{not_first}
+use Rattle.st_net.proofs.Tests.{four_true, same_entity, equal_numbers}
 use Rattle.st_net.specs.declared.entity.Entity.{Entity}
 use Rattle.st_net.specs.declared.entity.Entity.TheVariants.{Device, Link}
 use Rattle.st_net.specs.declared.entity.Row.{Row}
@@ -27,7 +28,7 @@ use Rattle.st_grammar.specs.Spelling.{entity_named}
 use Rattle.st_grammar.specs.Sections.{open_of, open_line as open_line_of}
 use Rattle.st_grammar.specs.Lines.{tokens_line, keyword_line, phased_line}
 use Rattle.st_grammar.proofs.SoundGroups.{IsSoundDevice, IsSoundLink, IsSoundDraftGroup}
-use Rattle.st_grammar.proofs.SoundSteps.{pushed_all, not_first, four_true}
+use Rattle.st_grammar.proofs.SoundSteps.{pushed_all}
 use Rattle.st_grammar.proofs.SoundParts.{Noted, nothing_noted, group_with, drafted}
 use Rattle.st_doc.specs.Printed.{Words, open_words, open_line, device_opens, link_opens}
 use Rattle.st_doc.proofs.PrintSteps.{Prints, prints_none, prints_line, prints_both, along, amid}

@@ -1,4 +1,4 @@
--- The fields of a reader, and what its indexes keep.
+-- Of no concern to callers: the fields of a reader, and what its indexes keep.
 use Rattle.std.specs.Prelude.{◌≡◌, ◌≤◌, ℕ, List, length}
 use Rattle.st_grammar.specs.declared.limits.TheConstants.{MAX_GROUPS, MAX_APPS}
 use Rattle.st_grammar.specs.Draft.{Draft, group_names, app_names}

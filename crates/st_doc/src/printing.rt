@@ -106,7 +106,7 @@ pub fn print_doc(doc: &Doc, out: &mut Text) -> Result<(), AllocError>
     // What is printed is read as the document.
     ensures reads_back { document_of (printed_doc doc.now) ≡ Ok (without_journals doc.now) }
 {
-    let mut text = Text::new(doc.groups.alloc());
+    let mut text = out.empty();
     print_lines(doc, &mut text)?;
     out.word(text.bytes())
 }

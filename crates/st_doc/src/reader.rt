@@ -14,7 +14,7 @@ mod sections;
 
 use st_draft::Group;
 use st_grammar::{Keyword, Script, keyword_of, phase_of};
-use st_net::Names;
+use st_net::NameIndex;
 use st_text::{Token, has_allowed_bytes, tokens};
 use st_token::{FaultKind, LineError, TakesLines, is_comment, known_name_in};
 use std::alloc::Global;
@@ -29,10 +29,10 @@ pub struct Reader {
     groups: Vec<Group>,
     // The group that was begun last stands apart, as does the application.
     group: Option<Group>,
-    group_index: Names,
+    group_index: NameIndex,
     apps: Vec<Script>,
     app: Option<Script>,
-    app_index: Names,
+    app_index: NameIndex,
     order: Vec<u32>,
 }
 
@@ -58,10 +58,10 @@ impl Reader {
             phase: 1,
             groups: Vec::new(alloc),
             group: None,
-            group_index: Names::new(alloc),
+            group_index: NameIndex::new(alloc),
             apps: Vec::new(alloc),
             app: None,
-            app_index: Names::new(alloc),
+            app_index: NameIndex::new(alloc),
             order: Vec::new(alloc),
         }
     }

@@ -1,5 +1,5 @@
 -- An index of numbers, after one more.
-use Rattle.std.proofs.Common.{◌≡◌, ℕ, List, [], ◌∷◌, ◌++◌, false, cond, ◌==◌, ◌&&◌, refl}
+use Rattle.std.proofs.Common.{◌≡◌, ℕ, List, [], ◌∷◌, ◌++◌, false, cond, ◌==◌, refl}
 use Rattle.std.specs.List.{list_any}
 use Rattle.st_grammar.specs.Draft.{is_told}
 

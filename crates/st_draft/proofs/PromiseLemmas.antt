@@ -155,10 +155,7 @@ pub new_pair : (devices now : List DevicePart) (ps before : List PromisePart) (p
 new_pair devices now ps before pairs p x y n m had d q a b e f known none =
     rw (e, f, a, b, ← d) (not_promised devices ps pairs p had (subst (λ (ds : List DevicePart). HasKnownEnds (device_names ds) p) (sym d) known) (subst (λ (qs : List PromisePart). was_promised p.a p.b qs ≡ false) (sym q) none))
 
-abbrev pair_of : ℕ → ℕ → Pair
-pair_of a b = record { a = a; b = b }
-
 pub pair_kept : (devices now : List DevicePart) (ps more : List PromisePart) (pairs after : List Pair) (p : PromisePart) (x y : List ℕ) (n m : ℕ) → HasPairs devices ps pairs → devices ≡ now → x ≡ p.a → y ≡ p.b
-    → n ≡ number_of (device_names now) x → m ≡ number_of (device_names now) y → HasKnownEnds (device_names now) p → more ≡ ps ++ p ∷ [] → after ≡ pairs ++ pair_of n m ∷ [] → HasPairs devices more after
+    → n ≡ number_of (device_names now) x → m ≡ number_of (device_names now) y → HasKnownEnds (device_names now) p → more ≡ ps ++ p ∷ [] → after ≡ pairs ++ record { a = n; b = m } ∷ [] → HasPairs devices more after
 pair_kept devices now ps more pairs after p x y n m had d a b e f known is pushed =
     promise_added devices ps more pairs after p had is (rw (pushed, e, f, a, b, ← d) refl) (subst (λ (ds : List DevicePart). HasKnownEnds (device_names ds) p) (sym d) known)

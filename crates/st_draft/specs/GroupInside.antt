@@ -1,4 +1,4 @@
--- The fields of a group that is being declared, and what its indexes keep.
+-- Of no concern to callers: the fields of a group that is being declared, and what its indexes keep.
 use Rattle.std.specs.Prelude.{◌≡◌, ◌≤◌, ℕ, List, length, map, true}
 use Rattle.std.specs.List.{AllByRecursion}
 use Rattle.st_net.specs.declared.parts.DevicePart.{DevicePart}

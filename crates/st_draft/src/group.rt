@@ -1,6 +1,6 @@
 //! A group, as the lines of its section declare it: its type, what its names find, and its lines by their words.
 
-ghost use Rattle.std.specs.Prelude.{◌≡◌, map, length, OnOk, IfOk, All};
+ghost use Rattle.std.specs.Prelude.{◌≡◌, map, length, OnOk, OnErr, IfOk, All};
 ghost use Rattle.st_text.specs.Tokens.{token_in, IsTokenOf};
 ghost use Rattle.st_token.specs.Steps.{Gives};
 ghost use Rattle.st_grammar.specs.Draft.{empty_group, is_entity_name, IsEntityIn, parts_of, with_wire};
@@ -12,7 +12,7 @@ mod parts;
 
 use crate::numbers::Numbers;
 use st_grammar::PartWord;
-use st_net::{DevicePart, Entity, Items, LinkPart, Name, Names, Pairs, Parts, PromisePart};
+use st_net::{DevicePart, Entity, Items, LinkPart, Name, NameIndex, Pairs, Parts, PromisePart};
 use st_text::Token;
 use st_token::{FaultKind, LineError, NamedEntities, RowSet, name_in};
 use st_wire::WireLine;
@@ -25,10 +25,10 @@ pub struct Group {
     alloc: Global,
     name: Name,
     devices: Vec<DevicePart>,
-    device_names: Names,
+    device_names: NameIndex,
     tors: usize,
     links: Vec<LinkPart>,
-    link_names: Names,
+    link_names: NameIndex,
     promises: Vec<PromisePart>,
     // Each promised pair by the places of its devices, as it was declared.
     pairs: Pairs,
@@ -59,10 +59,10 @@ impl Group {
             alloc,
             name,
             devices: Vec::new(alloc),
-            device_names: Names::new(alloc),
+            device_names: NameIndex::new(alloc),
             tors: 0,
             links: Vec::new(alloc),
-            link_names: Names::new(alloc),
+            link_names: NameIndex::new(alloc),
             promises: Vec::new(alloc),
             pairs: Pairs::new(alloc),
             opens: RowSet::new(alloc),
@@ -106,7 +106,8 @@ impl Group {
         }
     }
 
-    /// Takes a line of the group's section.
+    /// Takes a line of the group's section. At `Err` the group has the name that it had, and no more is said of it: the
+    /// reader stops there and drops it.
     pub fn part(&mut self, word: PartWord, line: &[u8], tokens: &[Token]) -> Result<(), LineError>
         requires { All (IsTokenOf line.now) tokens.now }
         ensures gives { Gives (λ _. self.new) result (part_line self.old word (map (token_in line.now) tokens.now)) }
@@ -128,9 +129,10 @@ impl Group {
         self.wires.as_slice().len()
     }
 
-    /// Adds a wire line.
+    /// Adds a wire line. `Err` is for want of memory alone, and nothing has changed then.
     pub fn add_wire(&mut self, line: WireLine) -> Result<(), AllocError>
         ensures ok { OnOk result (self.new ≡ with_wire self.old line) }
+        ensures err { OnErr result (self.new ≡ self.old) }
         ensures name { self.new.name ≡ self.old.name }
     {
         self.wires.add(line)

@@ -1,11 +1,11 @@
 -- What a group's parts keep where the group is sound, part by part.
 use Rattle.std.proofs.Common.{◌≡◌, ℕ, suc, ◌+◌, ◌<◌, ◌≤◌, List, [], ◌∷◌, ◌++◌, length, refl, arith}
-use Rattle.std.specs.Prelude.{Bool, true, false, not, cond, if◌then◌else◌, ◌&&◌, ◌||◌, nat_le, Option, Some, None, option_map, bytes_eq}
+use Rattle.std.specs.Prelude.{Bool, true, false, not, cond, if◌then◌else◌, ◌&&◌, ◌||◌, nat_le, Option, Some, None, bytes_eq}
 use Rattle.std.specs.List.{AllByRecursion}
 use Rattle.std.proofs.lemmas.List.Elements.{recursion_from_All}
 use Rattle.std.proofs.lemmas.Bool.Decides.{nat_tests}
 use Rattle.st_net.proofs.Tests.{both, neither}
-use Rattle.st_net.proofs.Sound.{fault_none, place_none, limit_none}
+use Rattle.st_net.proofs.Sound.{faultless, limit_none}
 use Rattle.st_net.proofs.NameSteps.{all_new}
 use Rattle.st_net.specs.declared.entity.Row.{Row}
 use Rattle.st_net.specs.declared.parts.Parts.{Parts}
@@ -13,12 +13,11 @@ use Rattle.st_net.specs.declared.parts.DevicePart.{DevicePart}
 use Rattle.st_net.specs.declared.parts.LinkPart.{LinkPart}
 use Rattle.st_net.specs.declared.parts.PromisePart.{PromisePart}
 use Rattle.st_net.specs.declared.parts.Limit.TheVariants.{Devices, Tors, Links, Promises, Capacity, Percent, Opening}
-use Rattle.st_net.specs.declared.parts.TopoFault.{TopoFault}
 use Rattle.st_net.specs.declared.topo.TheConstants.{MAX_DEVICES, MAX_TORS, MAX_LINKS, MAX_PROMISES, MAX_CAPACITY, MAX_PERCENT}
 use Rattle.st_net.specs.declared.range.TheConstants.{DEVICE_HEALTH, LINK_HEALTH}
 use Rattle.st_net.specs.Names.{is_among}
 use Rattle.st_net.specs.Groups.{are_device_vals, are_link_vals}
-use Rattle.st_net.specs.Faults.{device_names, link_names, first_link, first_promise, has_unknown_end, has_unknown_tor, is_loop, device_limit, link_limit, promise_limit, tors_with, first_device_limit, first_link_limit, first_promise_limit, is_tor_name, is_bad_pair, was_promised, first_bad_pair, fault_or, promises_at, twice_of, unknown_of, loop_of, cross_of, limit_of, pair_of}
+use Rattle.st_net.specs.Faults.{device_names, link_names, first_link, first_promise, has_unknown_end, is_loop, device_limit, link_limit, promise_limit, tors_with, first_device_limit, first_link_limit, first_promise_limit, is_tor_name, is_bad_pair, was_promised, first_bad_pair, promises_at}
 use Rattle.st_grammar.specs.Draft.{GroupDraft, tors}
 use Rattle.st_grammar.specs.Sound.{HasOwnEnds, IsSoundGroup}
 use Rattle.st_grammar.proofs.SoundGroups.{IsSoundDevice, IsSoundLink, IsSoundPromise, AreOtherPairs, IsSoundDraftGroup}
@@ -49,10 +48,6 @@ abbrev pub drafted : Parts → GroupDraft
 drafted p = group_with p.name p.devices p.links p.promises nothing_noted
 
 -- what is no fault was not found
-mapped_none : (f : ℕ → TopoFault) (o : Option ℕ) → option_map f o ≡ None → o ≡ None
-mapped_none f None is = refl
-mapped_none f (Some x) is = absurd (cc)
-
 found_none : (p : Bool) (at : ℕ) (rest : Option ℕ) → cond p (Some at) rest ≡ None → (p ≡ false) × (rest ≡ None)
 found_none true at rest is = absurd (cc)
 found_none false at rest is = (refl, is)
@@ -200,18 +195,11 @@ sound_promises devices (p ∷ ps) pairs shares = (record { a_tor = pairs.0.0; b_
 -- a sound group is one that lines can declare
 pub sound_parts : (p : Parts) → IsSoundGroup p → IsSoundDraftGroup (drafted p)
 sound_parts p s =
-    let a = fault_none (twice_of p) (fault_or (unknown_of p) (fault_or (loop_of p) (fault_or (cross_of p) (fault_or (limit_of p) (pair_of p))))) s.built in
-    let b = fault_none (unknown_of p) (fault_or (loop_of p) (fault_or (cross_of p) (fault_or (limit_of p) (pair_of p)))) a.1 in
-    let c = fault_none (loop_of p) (fault_or (cross_of p) (fault_or (limit_of p) (pair_of p))) b.1 in
-    let d = fault_none (cross_of p) (fault_or (limit_of p) (pair_of p)) c.1 in
-    let e = fault_none (limit_of p) (pair_of p) d.1 in
-    let limits = fault_none (first_device_limit 0 0 p.devices) (fault_or (first_link_limit (length p.devices) 0 p.links) (first_promise_limit (promises_at p) 0 p.promises)) e.0 in
-    let more_limits = fault_none (first_link_limit (length p.devices) 0 p.links) (first_promise_limit (promises_at p) 0 p.promises) limits.1 in
-    let unknown = place_none (first_link (has_unknown_end p.name (device_names p.devices)) (length p.devices) p.links) (first_promise (has_unknown_tor (device_names p.devices)) (promises_at p) p.promises) (mapped_none _ _ b.0) in
-    let devices = few_devices 0 0 p.devices limits.0 in
-    let links = few_links (length p.devices) 0 p.links more_limits.0 in
-    let promises = few_promises (promises_at p) 0 p.promises more_limits.1 in
-    let pairs = each_pair p.devices [] (promises_at p) p.promises (mapped_none _ _ e.1) in
+    let none = faultless p s.built in
+    let devices = few_devices 0 0 p.devices none.device_limits in
+    let links = few_links (length p.devices) 0 p.links none.link_limits in
+    let promises = few_promises (promises_at p) 0 p.promises none.promise_limits in
+    let pairs = each_pair p.devices [] (promises_at p) p.promises none.bad in
     let few : 0 + length p.devices ≤ MAX_DEVICES = devices.few (omega arith) in
     let few_t : 0 + length (tors p.devices) ≤ MAX_TORS = devices.few_tors (omega arith) in
     let few_l : 0 + length p.links ≤ MAX_LINKS = links.few (omega arith) in
@@ -220,15 +208,15 @@ sound_parts p s =
       spelled = s.name;
       spelled_devices = s.named_devices;
       spelled_links = s.named_links;
-      named = all_new [] 0 (device_names p.devices ++ link_names p.links) (mapped_none _ _ a.0);
+      named = all_new [] 0 (device_names p.devices ++ link_names p.links) none.twice;
       few_devices = omega arith;
       few_tors = omega arith;
       few_links = omega arith;
       few_promises = omega arith;
       devices = devices.sound;
       links = sound_links p.name (device_names p.devices) p.links (recursion_from_All HasOwnEnds p.links s.ends)
-          (each_link (has_unknown_end p.name (device_names p.devices)) (length p.devices) p.links unknown.0)
-          (each_link (is_loop p.name) (length p.devices) p.links (mapped_none _ _ c.0)) links.fine;
+          (each_link (has_unknown_end p.name (device_names p.devices)) (length p.devices) p.links none.unknown_link)
+          (each_link (is_loop p.name) (length p.devices) p.links none.loops) links.fine;
       promises = sound_promises p.devices p.promises pairs.0 promises.shares;
       pairs = pairs.1;
       few_wires = omega arith;

@@ -1,10 +1,10 @@
 -- What one more line makes of a sound group.
 use Rattle.std.proofs.Common.{◌≡◌, ℕ, zero, suc, ◌+◌, ◌<◌, ◌≤◌, List, [], ◌∷◌, ◌++◌, length, ap, sym, ◌∙◌, subst, refl, arith}
-use Rattle.std.specs.Prelude.{Bool, true, false, not, cond, if◌then◌else◌, ◌&&◌, ◌||◌, ◌==◌, nat_le, nat_lt, Option, Some, None, option_map, is_some, unwrap_or, slice_get, bytes_eq, ◌^◌}
+use Rattle.std.specs.Prelude.{Bool, true, false, not, cond, if◌then◌else◌, ◌||◌, ◌==◌, nat_le, nat_lt, Option, Some, None, option_map, is_some, unwrap_or, slice_get, bytes_eq, ◌^◌}
 use Rattle.std.specs.List.{AllByRecursion}
 use Rattle.std.proofs.lemmas.List.{append_assoc, append-nil, map_push, length_push}
 use Rattle.std.proofs.lemmas.Slice.Eq.{bytes_eq-Decides}
-use Rattle.st_net.proofs.Tests.{both, neither, turned, less_is}
+use Rattle.st_net.proofs.Tests.{both, four_true, neither, turned, less_is}
 use Rattle.st_net.specs.declared.entity.Entity.{Entity}
 use Rattle.st_net.specs.declared.entity.Entity.TheVariants.{Device, Link}
 use Rattle.st_net.specs.declared.entity.Var.{Var}
@@ -20,7 +20,7 @@ use Rattle.st_net.specs.Ranges.{is_device_value, is_link_value, is_in_range, mos
 use Rattle.st_net.specs.Names.{place_of, is_among, is_name}
 use Rattle.st_net.specs.Groups.{are_new, are_device_vals, are_link_vals}
 use Rattle.st_net.specs.Faults.{device_names, link_names, is_tor, is_tor_name, was_promised, is_bad_pair}
-use Rattle.st_net.proofs.NameLemmas.{names_added, among_kept, place_kept}
+use Rattle.st_net.proofs.NameLemmas.{names_added, among_kept, not_first, place_kept}
 use Rattle.st_token.proofs.PrintedTokens.{each}
 use Rattle.st_grammar.specs.Draft.{GroupDraft, is_entity_name, empty_group, with_device, with_link, with_promise, opened, device_opened, link_opened, with_health, device_told, link_told, with_wire, tors}
 use Rattle.st_wire.specs.declared.line.WireLine.{WireLine}
@@ -43,12 +43,6 @@ other_way m n e = no (bytes_eq n m) refl
     no : (b : Bool) → bytes_eq n m ≡ b → b ≡ false
     no false h = refl
     no true h = absurd (let same : bytes_eq m n ≡ true = (bytes_eq-Decides m n).1 (sym ((bytes_eq-Decides n m).0 h)) in cc)
-
--- a name that is not among others is not the first, and not among the rest
-pub not_first : (b : Bool) (o : Option ℕ) → is_some (cond b (Some 0) (option_map suc o)) ≡ false → (b ≡ false) × (is_some o ≡ false)
-not_first true o e = absurd (cc)
-not_first false None e = (refl, refl)
-not_first false (Some n) e = absurd (cc)
 
 later_too : (o : Option ℕ) → is_some (option_map suc o) ≡ is_some o
 later_too None = refl
@@ -207,12 +201,6 @@ promise_sound g p s good share room =
     not_false false e = absurd (cc)
 
 -- one opening value
-pub four_true : (a b c d : Bool) → (a && b && c && d) ≡ true → (a ≡ true) × (b ≡ true) × (c ≡ true) × (d ≡ true)
-four_true true true true true e = (refl, refl, refl, refl)
-four_true false b c d e = absurd (cc)
-four_true true false c d e = absurd (cc)
-four_true true true false d e = absurd (cc)
-four_true true true true false e = absurd (cc)
 
 device_vals_kept : (vals : Vals) (v : Var) (x : ℕ) → is_device_value v x ≡ true → are_device_vals vals ≡ true → are_device_vals (device_value_set vals v x) ≡ true
 device_vals_kept vals v x r s = by_var v r (four_true (nat_le vals.v0 1) (nat_lt vals.v1 (2 ^ 32)) (nat_lt vals.v2 (2 ^ 32)) (nat_le vals.v3 1) s)

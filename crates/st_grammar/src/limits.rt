@@ -2,11 +2,13 @@
 
 ghost use Rattle.std.specs.Prelude.{◌≡◌};
 
-/// The most groups, applications, and acts of one application.
+/// The most groups of a document.
 pub const MAX_GROUPS: usize = 16;
 
+/// The most applications of a document.
 pub const MAX_APPS: usize = 32;
 
+/// The most acts of one application.
 pub const MAX_ACTS: usize = 1_024;
 
 /// The most rounds of one `settle`.

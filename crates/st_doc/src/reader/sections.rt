@@ -11,7 +11,7 @@ ghost use Rattle.st_grammar.specs.Lines.{begun_name, into_group, group_line, app
 use crate::reader::Reader;
 use st_draft::Group;
 use st_grammar::{MAX_APPS, MAX_GROUPS, PartWord, Script};
-use st_net::{Items, Name, Names};
+use st_net::{Items, Name, NameIndex};
 use st_text::Token;
 use st_token::{FaultKind, LineError, known_name_in, new_name_in, one_of};
 use std::alloc::{AllocError, Global};
@@ -20,7 +20,7 @@ use std::alloc::{AllocError, Global};
 #[tactic(auto, unfolding(st_grammar::specs::Lines::begun_name, st_token::specs::Spelling::new_name_in))]
 fn begun_name(
     alloc: Global,
-    names: &Names,
+    names: &NameIndex,
     most: usize,
     line: &[u8],
     tokens: &[Token],
@@ -43,7 +43,7 @@ fn begun_name(
 #[tactic(auto, unfolding(st_grammar::specs::Lines::known_names_in))]
 fn known_names_in(
     alloc: Global,
-    names: &Names,
+    names: &NameIndex,
     line: &[u8],
     tokens: &[Token],
 ) -> Result<Vec<u32>, LineError>
