@@ -1,7 +1,7 @@
 -- What a step and a commit come to, by the definitions of histories behind an event.
 use Rattle.std.proofs.Common.{◌≡◌, ◌∙◌, sym, ap, subst, ℕ, zero, suc, pred, ◌+◌, ◌<◌, ◌≤◌, ◌^◌, true, false, Bool, List, [], ◌∷◌, length, refl, arith}
-use Rattle.std.specs.Prelude.{◌==◌, ◌&&◌, nat_lt, nat_le, Option, Some, None, slice_get, All, if◌then◌else◌}
-use Rattle.std.proofs.lemmas.Bool.{both_ways, and_from, eq-eqb, eqb-true, le-leb, leb-true, lt-ltb, ltb-true, le-ltb}
+use Rattle.std.specs.Prelude.{◌==◌, nat_le, Some, None, slice_get, if◌then◌else◌}
+use Rattle.std.proofs.lemmas.Bool.{and_from, eq-eqb, lt-ltb, le-ltb}
 use Rattle.std.proofs.lemmas.List.Elements.{All-nil, All-cons, All-head}
 use Rattle.st_net.specs.declared.entity.Entity.TheVariants.{Device}
 use Rattle.st_net.specs.declared.entity.Row.{Row}
@@ -17,7 +17,7 @@ use Rattle.st_event.specs.declared.journal.Entry.{Entry}
 use Rattle.st_event.specs.declared.journal.TheConstants.{MAX_ENTRIES}
 use Rattle.st_event.specs.declared.reply.Receipt.{Receipt}
 use Rattle.st_event.specs.declared.reply.Reply.{Reply}
-use Rattle.st_event.specs.declared.reply.Reply.TheVariants.{Decided, Idle}
+use Rattle.st_event.specs.declared.reply.Reply.TheVariants.{Decided}
 use Rattle.st_event.specs.History.{History, with_entry}
 use Rattle.st_event.specs.Proposals.{deciders, pending, proposals, verdicts}
 use Rattle.st_event.specs.Replies.{check_reply, receipt_of, reply}

@@ -16,7 +16,7 @@ use Rattle.st_journal.specs.JournalLines.{JournalDraft, nothing, empty_journals,
 use Rattle.st_journal.specs.JournalReading.{journals_in}
 use Rattle.st_journal.specs.Printing.{journal_lines}
 use Rattle.st_journal.specs.ReadingBack.{AreNames, AreTopologies, IsByApp, IsAsked, IsJournalAmong, AreInOrder, lines_where, journals_lines, journals_text, gathered, JournalsPrintBack, JournalPrintsBack, AreNumbered, EachPrintsBack}
-use Rattle.st_journal.proofs.ReplayLemmas.{legal_before}
+use Rattle.st_event.proofs.Begun.{legal_begun}
 use Rattle.st_journal.proofs.PrintedEntries.{IsReadable}
 use Rattle.st_journal.proofs.PrintedJournals.{AreReadable, Adds, adds_both, draft, read_by, long_filled, sound_at, journal_adds, journal_is_words}
 use Rattle.st_journal.proofs.LegalReplies.{IsAnswer, answers}
@@ -37,7 +37,7 @@ readable g apps past [] sound legal asked all = tt
 readable g apps past (entry ∷ entries) sound legal asked all =
     let turned : reverse (entry ∷ entries) ++ past ≡ reverse entries ++ (entry ∷ past) = ap (λ (es : List Entry). es ++ past) (reverse-append (entry ∷ []) entries) ∙ append_assoc (reverse entries) (entry ∷ []) past in
     let more : IsLegal g (reverse entries ++ (entry ∷ past)) = subst (IsLegal g) turned legal in
-    let here : IsLegal g (entry ∷ past) = legal_before g (reverse entries) (entry ∷ past) more in
+    let here : IsLegal g (entry ∷ past) = legal_begun g (reverse entries) (entry ∷ past) more in
     let next : length (entry ∷ past) + 1 ≡ length past + 1 + 1 = omega arith in
     (readable_at g apps past entry sound here.0 here.1 asked all.0, subst (λ (n : ℕ). AreReadable g apps n entries) next (readable g apps (entry ∷ past) entries sound more (all.0.app, asked) all.1))
 

@@ -4,6 +4,7 @@ use Rattle.std.proofs.lemmas.List.{take_more, take-append-drop, take_all, revers
 use Rattle.std.specs.Prelude.{Bool, true, false, IsTrue, ◌↔◌}
 use Rattle.std.proofs.lemmas.Bool.{cases_lt, false≢true}
 use Rattle.st_net.specs.Groups.{Group}
+use Rattle.st_event.proofs.Begun.{legal_begun}
 use Rattle.st_event.specs.declared.journal.Entry.{Entry}
 use Rattle.st_event.specs.History.{History, with_entry}
 use Rattle.st_event.specs.Legal.{IsLegal}
@@ -77,11 +78,6 @@ went_all g entries i w through end legal =
       lines = through.lines;
     }
 
--- a journal that goes on from another is legal only where that one is
-pub legal_before : (g : Group) (more past : List Entry) → IsLegal g (more ++ past) → IsLegal g past
-legal_before g [] past legal = legal
-legal_before g (entry ∷ more) past legal = legal_before g more past legal.1
-
 -- newest first, the entries behind one stand before it
 turned_around : (before : List Entry) (entry : Entry) (after : List Entry) → reverse (before ++ entry ∷ after) ≡ reverse after ++ entry ∷ reverse before
 turned_around before entry after =
@@ -90,7 +86,7 @@ turned_around before entry after =
 -- an entry of a legal journal has the reply that is called for
 legal_at : (g : Group) (before : List Entry) (entry : Entry) (after : List Entry) → IsLegal g (reverse (before ++ entry ∷ after)) → entry.reply ≡ reply g (reverse before) entry.event
 legal_at g before entry after legal =
-    (legal_before g (reverse after) (entry ∷ reverse before) (subst (IsLegal g) (turned_around before entry after) legal)).0.answer
+    (legal_begun g (reverse after) (entry ∷ reverse before) (subst (IsLegal g) (turned_around before entry after) legal)).0.answer
 
 pub wrong_is_illegal : WrongIsIllegal
 wrong_is_illegal g entries n wrong = λ (legal : IsLegal g (reverse entries)).

@@ -1,4 +1,4 @@
--- The fields of a reader, and what they keep.
+-- Of no concern to callers: the fields of a reader, and what they keep.
 use Rattle.std.specs.Prelude.{◌<◌, ◌≤◌, ◌^◌, length, option_map}
 use Rattle.st_journal.specs.JournalLines.{JournalDraft, journals_of}
 use Rattle.st_journal.specs.declared.reader.JournalReader.TheInside.{Inside}

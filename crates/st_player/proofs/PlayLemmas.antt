@@ -13,7 +13,7 @@ use Rattle.st_event.specs.declared.journal.Journal.{Journal}
 use Rattle.st_event.specs.History.{History}
 use Rattle.st_event.specs.Legal.{IsLegal, IsNext}
 use Rattle.st_event.specs.Observed.{actual, sure}
-use Rattle.st_journal.proofs.ReplayLemmas.{legal_before}
+use Rattle.st_event.proofs.Begun.{legal_begun}
 use Rattle.st_player.specs.declared.snapshot.Snapshot.{Snapshot}
 use Rattle.st_player.specs.Entries.{entry_data, entry_words, told_data}
 use Rattle.st_player.specs.Pictures.{entries_data, fitting, group_data, groups_data, size_of}
@@ -35,7 +35,7 @@ next_is g past entries i e low at legal =
     ap (λ (es : List Entry). reverse es ++ past) (sym (take-append-drop (i + 1) entries))
     ∙ (ap (λ (es : List Entry). es ++ past) (reverse-append (take (i + 1) entries) (drop (i + 1) entries))
     ∙ append_assoc (reverse (drop (i + 1) entries)) (reverse (take (i + 1) entries)) past) in
-    let here = legal_before g (reverse (drop (i + 1) entries)) (reverse (take (i + 1) entries) ++ past) (subst (λ (es : List Entry). IsLegal g es) split legal) in
+    let here = legal_begun g (reverse (drop (i + 1) entries)) (reverse (take (i + 1) entries) ++ past) (subst (λ (es : List Entry). IsLegal g es) split legal) in
     (subst (λ (es : List Entry). IsLegal g es) (one_more past entries i e low at) here).0
 
 -- the same from the first entry on
@@ -117,7 +117,7 @@ legal_to g entries n legal =
     subst (λ (es : List Entry). IsLegal g es) (ap reverse (sym (take-append-drop n entries)) ∙ reverse-append (take n entries) (drop n entries)) legal
 
 pub legal_front : (g : Group) (entries : List Entry) (n : ℕ) → IsLegal g (reverse entries) → IsLegal g (reverse (take n entries))
-legal_front g entries n legal = legal_before g (reverse (drop n entries)) (reverse (take n entries)) (legal_to g entries n legal)
+legal_front g entries n legal = legal_begun g (reverse (drop n entries)) (reverse (take n entries)) (legal_to g entries n legal)
 
 -- each group has its journal, and it is legal
 pub legal_each : (groups : List Group) (journals : List Journal) (i : ℕ) (g : Group) (j : Journal) → AreLegal groups journals → i < length groups → (i < length journals) × IsLegal (get_or groups i g) (reverse (get_or journals i j).entries)

@@ -1,12 +1,12 @@
 -- The latest ticket of a pass is the one that the last of its answered proposals was given.
-use Rattle.std.proofs.Common.{◌≡◌, ℕ, zero, suc, pred, Bool, true, false, List, [], ◌∷◌, ◌++◌, length, map, refl, ap, sym, subst, ◌∙◌, arith}
-use Rattle.std.specs.Prelude.{Option, Some, None, slice_get, reverse, ◌==◌, if◌then◌else◌}
+use Rattle.std.proofs.Common.{◌≡◌, ℕ, zero, suc, Bool, true, false, List, [], ◌∷◌, ◌++◌, length, map, refl, ap, sym, subst, ◌∙◌, arith}
+use Rattle.std.specs.Prelude.{Option, Some, None, slice_get, reverse, if◌then◌else◌}
 use Rattle.std.specs.List.{filter}
 use Rattle.std.specs.Option.{option_or}
 use Rattle.std.proofs.lemmas.List.{reverse-append}
-use Rattle.std.proofs.lemmas.Bool.Decides.{nat_tests}
 use Rattle.st_net.specs.Groups.{Group}
 use Rattle.st_net.specs.Numbered.{nth}
+use Rattle.st_net.proofs.Tests.{numbered}
 use Rattle.st_event.specs.declared.event.Event.{Event}
 use Rattle.st_event.specs.declared.event.Event.TheVariants.{Submit, Check, Lock, Unlock, Send, Deliver, Finish, Report as make_report, Hear, Fail}
 use Rattle.st_event.specs.declared.journal.Entry.{Entry}
@@ -95,18 +95,11 @@ given_same : (r : Reply) → ticket_given r ≡ ticket_in r
 given_same (Queued t) = refl
 given_same _ = refl
 
-nth_next : {X : Type 0} (xs : List X) (k : ℕ) → nth xs (suc k) ≡ slice_get xs k
-nth_next xs k = by (suc k == 0) (grind (arith, nat_tests))
-  where
-    by : (b : Bool) → b ≡ false → (if b then None else slice_get xs (pred (suc k))) ≡ slice_get xs k
-    by true e = absurd cc
-    by false e = let n : pred (suc k) ≡ k = omega arith in ap (slice_get xs) n
-
 pub last_reply : (es : List Entry) (t : ℕ) → given_in (nth (map (λ (e : Entry). e.reply) es) (length (map (λ (e : Entry). e.reply) es))) ≡ Some t → last_ticket es ≡ Some t
 last_reply [] t told = absurd (cc told)
-last_reply (e ∷ []) t told = sym (given_same e.reply) ∙ (ap given_in (sym (nth_next (e.reply ∷ []) 0)) ∙ told)
+last_reply (e ∷ []) t told = sym (given_same e.reply) ∙ (ap given_in (sym (numbered (e.reply ∷ []) 1 (omega arith))) ∙ told)
 last_reply (e ∷ f ∷ es) t told =
     let rs = map (λ (x : Entry). x.reply) es in
-    let same : nth (f.reply ∷ rs) (suc (length rs)) ≡ nth (e.reply ∷ f.reply ∷ rs) (suc (suc (length rs))) = nth_next (f.reply ∷ rs) (length rs) ∙ sym (nth_next (e.reply ∷ f.reply ∷ rs) (suc (length rs))) in
+    let same : nth (f.reply ∷ rs) (suc (length rs)) ≡ nth (e.reply ∷ f.reply ∷ rs) (suc (suc (length rs))) = numbered (f.reply ∷ rs) (suc (length rs)) (omega arith) ∙ sym (numbered (e.reply ∷ f.reply ∷ rs) (suc (suc (length rs))) (omega arith)) in
     let rest : last_ticket (f ∷ es) ≡ Some t = last_reply (f ∷ es) t (ap given_in same ∙ told) in
     ap (λ (o : Option ℕ). option_or o (ticket_in e.reply)) rest

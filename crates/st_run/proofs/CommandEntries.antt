@@ -36,7 +36,7 @@ use Rattle.st_service.specs.Turns.{Turns, RoundOf, RoundToFull, RoundsMade}
 use Rattle.st_service.specs.Works.{part_of}
 use Rattle.st_run.proofs.DidLaws.{Each, each_append}
 use Rattle.st_service.proofs.HoldLaws.{past_more}
-use Rattle.st_service.proofs.RoomLaws.{legal_before}
+use Rattle.st_event.proofs.Begun.{legal_begun}
 use Rattle.st_run.proofs.OwnEntries.{Adds, AddsEach, adds_puts, adds_then, each_none}
 use Rattle.st_run.proofs.ProposalLaws.{was_proposed}
 use Rattle.st_run.proofs.RunEntries.{Only, OfTurns, was_entered, only_none, only_enter, only_poll, only_update, only_turn, only_made}
@@ -170,7 +170,7 @@ awaits_ask g before was after now a = record { entries = a.entries; each = check
 pub legal_prefix : (g : Group) (before after : List Made) → IsPrefix before after → IsLegal g (past_in after) → IsLegal g (past_in before)
 legal_prefix g before after p legal =
     let is : past_in after ≡ reverse (map (λ (m : Made). m.entry) p.0) ++ past_in before = ap past_in (sym p.1) ∙ (ap reverse (map-append (λ (m : Made). m.entry) before p.0) ∙ reverse-append (map (λ (m : Made). m.entry) before) (map (λ (m : Made). m.entry) p.0)) in
-    legal_before g (reverse (map (λ (m : Made). m.entry) p.0)) (past_in before) (subst (IsLegal g) is legal)
+    legal_begun g (reverse (map (λ (m : Made). m.entry) p.0)) (past_in before) (subst (IsLegal g) is legal)
 
 -- a proposal, and a request of one entry
 

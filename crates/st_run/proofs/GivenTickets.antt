@@ -1,5 +1,5 @@
 -- The tickets that a legal journal gives: only to proposals, and to each the number of those before it and itself.
-use Rattle.std.proofs.Common.{◌≡◌, ◌⊎◌, inl, inr, ℕ, ◌+◌, ◌≤◌, List, [], ◌∷◌, ◌++◌, length, refl, ap, sym, subst, ◌∙◌, arith, length-append}
+use Rattle.std.proofs.Common.{◌≡◌, ◌⊎◌, inl, inr, ℕ, ◌+◌, List, [], ◌∷◌, ◌++◌, length, refl, ap, sym, subst, ◌∙◌, length-append}
 use Rattle.std.specs.Prelude.{Bool, true, false, nat_lt, Option, Some, None, if◌then◌else◌}
 use Rattle.std.specs.Option.{option_or}
 use Rattle.st_net.specs.declared.entity.AppId.{AppId}
@@ -10,14 +10,14 @@ use Rattle.st_net.specs.Numbered.{nth}
 use Rattle.st_event.specs.declared.event.Event.{Event}
 use Rattle.st_event.specs.declared.event.Event.TheVariants.{Submit, Check, Lock, Unlock, Send, Deliver, Finish, Report as make_report, Hear, Fail}
 use Rattle.st_event.specs.declared.reply.Reply.{Reply}
-use Rattle.st_event.specs.declared.reply.Reply.TheVariants.{Queued, Full, Decided, Released, NotYours, Done, NotBusy}
+use Rattle.st_event.specs.declared.reply.Reply.TheVariants.{Queued, Full, Released, NotYours, Done, NotBusy}
 use Rattle.st_event.specs.declared.journal.Entry.{Entry}
 use Rattle.st_event.specs.declared.journal.TheConstants.{MAX_PENDING}
 use Rattle.st_event.specs.Legal.{IsNext}
 use Rattle.st_event.specs.Locks.{holder}
 use Rattle.st_event.specs.Moments.{busy, commands, fence, reports}
 use Rattle.st_event.specs.Observed.{observed}
-use Rattle.st_event.specs.Proposals.{deciders, deciders_after, pending, proposals, proposals_after}
+use Rattle.st_event.specs.Proposals.{pending, proposals, proposals_after}
 use Rattle.st_event.specs.Replies.{reply}
 use Rattle.st_run.specs.Requests.{is_submit}
 use Rattle.st_service.specs.Tickets.{ticket_in, last_ticket}
@@ -78,13 +78,3 @@ or_none None = refl
 pub last_append : (xs ys : List Entry) → last_ticket (xs ++ ys) ≡ option_or (last_ticket ys) (last_ticket xs)
 last_append [] ys = sym (or_none (last_ticket ys))
 last_append (x ∷ xs) ys = ap (λ (o : Option ℕ). option_or o (ticket_in x.reply)) (last_append xs ys) ∙ or_assoc (last_ticket ys) (last_ticket xs) (ticket_in x.reply)
-
--- a journal that goes on has no fewer verdicts
-decided_more : (event : Event) (answer : Reply) (n : ℕ) (ds : List ℕ) → length ds ≤ length (deciders_after event answer n ds)
-decided_more Check (Decided receipt) n ds = omega (arith, length-append ds (n ∷ []))
-decided_more Check answer n ds = omega arith
-decided_more event answer n ds = omega arith
-
-pub decided_grows : (more past : List Entry) → length (deciders past) ≤ length (deciders (more ++ past))
-decided_grows [] past = omega arith
-decided_grows (e ∷ more) past = let r = decided_grows more past in let s = decided_more e.event e.reply (length (more ++ past) + 1) (deciders (more ++ past)) in omega (arith, r, s)

@@ -29,7 +29,7 @@ use Rattle.st_run.specs.Workers.{IsOfWorker, MadeByWorker, is_workers}
 use Rattle.st_run.proofs.CommandEntries.{each_then, round_full_only, round_only}
 use Rattle.st_run.proofs.DidLaws.{Each, all_each, each_all, each_append, same_or_not}
 use Rattle.st_run.proofs.OwnEntries.{AddsEach, adds_puts, and_entry, each_none, entries_at}
-use Rattle.st_run.proofs.PendingLaws.{get_some}
+use Rattle.st_net.proofs.Tests.{get_some}
 use Rattle.st_run.proofs.RunEntries.{OfTurns}
 use Rattle.st_run.proofs.WorkerEntries.{IsWorkerEntry, worker_entries}
 

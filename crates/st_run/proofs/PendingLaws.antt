@@ -1,11 +1,12 @@
 -- Nothing is pending behind the awaits of all passes.
 use Rattle.std.proofs.Common.{◌≡◌, ⊎_elim, ℕ, zero, suc, ◌<◌, ◌≤◌, List, [], ◌∷◌, ◌++◌, length, map, refl, ap, sym, subst, ◌∙◌, arith, append_assoc}
-use Rattle.std.specs.Prelude.{true, Option, Some, None, slice_get, reverse}
+use Rattle.std.specs.Prelude.{true, Option, Some, None, reverse}
 use Rattle.std.specs.Option.{option_or}
 use Rattle.std.proofs.Math.ListN.{drop_of_length-le}
 use Rattle.std.proofs.lemmas.List.{map-append, reverse-append, reverse-reverse}
 use mathlib.Core.List.{IsPrefix}
 use Rattle.st_net.specs.Groups.{Group}
+use Rattle.st_net.proofs.Tests.{get_some}
 use Rattle.st_event.specs.declared.act.Act.{Act}
 use Rattle.st_event.specs.declared.act.Act.TheVariants.{Await}
 use Rattle.st_event.specs.declared.event.Event.{Event}
@@ -25,21 +26,14 @@ use Rattle.st_service.specs.Made.{Made, past_in}
 use Rattle.st_service.specs.Passes.{Holder, front_at, mine_at}
 use Rattle.st_service.specs.Tickets.{last_ticket, latest_in}
 use Rattle.st_service.specs.Works.{IsDecided}
+use Rattle.st_service.proofs.AwaitLaws.{decided_later}
 use Rattle.st_run.proofs.CommandEntries.{awaits_checked}
 use Rattle.st_run.proofs.DidLaws.{Each, Ended, GoesOn, ended, did_at, did_goes, did_others, awaits_around}
-use Rattle.st_run.proofs.GivenTickets.{checks_none, decided_grows, last_append}
+use Rattle.st_run.proofs.GivenTickets.{checks_none, last_append}
 use Rattle.st_run.proofs.OwnEntries.{entries_at, entries_longer}
 use Rattle.st_run.proofs.OwnTickets.{own, entries_positions, latest_is, newest}
 use Rattle.st_run.proofs.RunEntries.{each_reverse}
 use Rattle.st_run.proofs.WorkerEntries.{IsByOrWorkers, scripts_or_workers}
-
--- a longer front decides no less
-pub decided_prefix : (xs ys : List Made) → IsPrefix xs ys → length (deciders (past_in xs)) ≤ length (deciders (past_in ys))
-decided_prefix xs ys p =
-    let more = reverse (map (λ (m : Made). m.entry) p.0) in
-    let is : past_in ys ≡ more ++ past_in xs = ap past_in (sym p.1) ∙ (ap reverse (map-append (λ (m : Made). m.entry) xs p.0) ∙ reverse-append (map (λ (m : Made). m.entry) xs) (map (λ (m : Made). m.entry) p.0)) in
-    let grows = decided_grows more (past_in xs) in
-    omega (arith, grows, ap (λ (l : List Entry). length (deciders l)) is)
 
 low_within : (lo hi : ℕ) (ns : List ℕ) → AllWithin lo hi ns → AllWithin 0 hi ns
 low_within lo hi [] w = tt
@@ -88,13 +82,8 @@ own_decided groups lines rooms number n acts front p ticket within e last =
     ∙ (ap (entries_at front) e.made ∙ entries_positions number [] front))) in
     let decided : IsDecided ticket (past_in (front_at d.mid.fronts n)) = awaited (groups n) d.old.number (front_at d.old.fronts n) (mine_at d.old.mines n) (front_at d.mid.fronts n) (mine_at d.mid.mines n) ticket
     (latest_in (front_at d.old.fronts n) (mine_at d.old.mines n)) refl old (ap last_ticket here ∙ last) d.does.done.entered in
-    let grows = decided_prefix (front_at d.mid.fronts n) front (subst (λ (f : List Made). IsPrefix f front) o.0 e.stands.begins) in
+    let grows = decided_later (front_at d.mid.fronts n) front (subst (λ (f : List Made). IsPrefix f front) o.0 e.stands.begins) in
     omega (arith, decided, grows)
-
-pub get_some : {X : Type 0} (xs : List X) (k : ℕ) → k < length xs → (x : X) × (slice_get xs k ≡ Some x)
-get_some [] k lt = absurd (omega (arith, lt))
-get_some (x ∷ xs) zero lt = (x, refl)
-get_some (x ∷ xs) (suc k) lt = get_some xs k (omega (arith, lt))
 
 map_reverse : (ms : List Made) → map (λ (m : Made). m.entry) (reverse ms) ≡ reverse (map (λ (m : Made). m.entry) ms)
 map_reverse [] = refl

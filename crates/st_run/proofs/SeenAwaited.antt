@@ -33,7 +33,7 @@ use Rattle.st_run.proofs.AcceptedLater.{accepted_first, front_version, past_late
 use Rattle.st_run.proofs.DidLaws.{Ended, GoesOn, did_goes, does_goes, goes_front}
 use Rattle.st_run.proofs.LoggedReads.{IsLineBy, each_read, stays_along}
 use Rattle.st_run.proofs.OrderInTime.{adds_ticket, awaited_decides}
-use Rattle.st_service.proofs.RoomLaws.{legal_before}
+use Rattle.st_event.proofs.Begun.{legal_begun}
 
 -- the latest ticket by these entries is that of the pass, where it has done these commands. They stand newest first
 abbrev pub TellsLatest : (ℕ → Group) → (ℕ → List WireLine) → AppId → ℕ → List Entry → Holder → Holder → Type 0
@@ -53,7 +53,7 @@ knows_of_later n old new count g k =
 -- an await decides the ticket of its pass, and teaches its reader
 
 legal_within : (g : Group) (xs ys : List Made) → IsPrefix xs ys → IsLegal g (past_in ys) → IsLegal g (past_in xs)
-legal_within g xs ys p legal = legal_before g (past_in p.0) (past_in xs) (subst (IsLegal g) (past_later xs ys p) legal)
+legal_within g xs ys p legal = legal_begun g (past_in p.0) (past_in xs) (subst (IsLegal g) (past_later xs ys p) legal)
 
 knows_decided : (g : Group) (n : ℕ) (new : Holder) (front : List Made) (t : ℕ) → IsLegal g (past_in front) → IsPrefix (front_at new.fronts n) front → IsTaught new n → IsDecided t (past_in (front_at new.fronts n)) → KnowsOf n new (accepted_up_to t (past_in front))
 knows_decided g n new front t legal p taught decided =

@@ -1,35 +1,29 @@
 -- What a check for a ticket leaves, and which tickets are given and decided as a front goes on.
-use Rattle.std.proofs.Common.{◌≡◌, inr, ℕ, zero, suc, ◌+◌, ◌<◌, ◌≤◌, Bool, true, false, List, [], ◌∷◌, ◌++◌, length, map, ap, sym, subst, ◌∙◌, arith, length-append, length-drop}
-use Rattle.std.specs.Prelude.{Option, Some, reverse, nat_le, nat_lt, if◌then◌else◌}
+use Rattle.std.proofs.Common.{◌≡◌, ℕ, zero, suc, ◌+◌, ◌<◌, ◌≤◌, Bool, true, false, List, [], ◌∷◌, ◌++◌, length, map, ap, sym, subst, ◌∙◌, arith, length-append, length-drop}
+use Rattle.std.specs.Prelude.{Option, Some, reverse, nat_le}
 use Rattle.std.proofs.lemmas.Bool.Decides.{nat_tests}
 use Rattle.std.proofs.lemmas.List.{append-nil, map-append, reverse-append, reverse-reverse, append_cancel_right}
 use mathlib.Core.List.{IsPrefix}
 use Rattle.st_net.specs.Groups.{Group}
 use Rattle.st_event.specs.declared.event.Event.{Event}
-use Rattle.st_event.specs.declared.event.Event.TheVariants.{Submit, Check}
+use Rattle.st_event.specs.declared.event.Event.TheVariants.{Submit}
 use Rattle.st_event.specs.declared.event.Proposal.{Proposal}
 use Rattle.st_event.specs.declared.journal.Entry.{Entry}
-use Rattle.st_event.specs.declared.journal.TheConstants.{MAX_ENTRIES, MAX_PENDING}
+use Rattle.st_event.specs.declared.journal.TheConstants.{MAX_PENDING}
 use Rattle.st_event.specs.declared.reply.Reply.{Reply}
-use Rattle.st_event.specs.declared.reply.Reply.TheVariants.{Queued, Decided}
+use Rattle.st_event.specs.declared.reply.Reply.TheVariants.{Queued}
 use Rattle.st_event.specs.Legal.{IsLegal}
-use Rattle.st_event.specs.Proposals.{proposals, proposals_after, verdicts, deciders, deciders_after, pending}
-use Rattle.st_event.specs.Replies.{check_reply}
-use Rattle.st_event.specs.Services.{entry_after}
+use Rattle.st_event.specs.Proposals.{proposals, proposals_after, verdicts, deciders, pending}
+use Rattle.st_event.proofs.Begun.{deciders_grow}
 use Rattle.st_event.proofs.LawLemmas.{few_wait}
 use Rattle.st_event.proofs.Standings.{length-deciders}
-use Rattle.st_world.specs.Rounds.{Course, course_from, enter, is_full}
+use Rattle.st_world.specs.Rounds.{Course, course_from}
 use Rattle.st_world.specs.World.{IsBeginning}
-use Rattle.st_world.specs.declared.world.rounds.Going.{Going}
-use Rattle.st_world.specs.declared.world.rounds.Going.TheVariants.{On}
 use Rattle.st_world.proofs.RunLaws.{entered}
-use Rattle.st_event.proofs.Prefixes.{prefix_self, prefix_trans}
-use Rattle.st_service.specs.declared.awaits.Checked.TheVariants.{Over}
-use Rattle.st_service.specs.Awaits.{Awaits, ChecksFor, WaitsOut, WentOn}
+use Rattle.st_service.specs.Awaits.{Awaits, WaitsOut, WentOn}
 use Rattle.st_service.specs.Lines.{tagged, numbers}
 use Rattle.st_service.specs.Made.{Made, past_in}
-use Rattle.st_service.specs.Puts.{Enters}
-use Rattle.st_service.specs.Works.{IsGiven, is_decided, check_course}
+use Rattle.st_service.specs.Works.{IsGiven}
 use Rattle.st_service.proofs.HoldLaws.{past_more, length_past}
 use Rattle.st_service.proofs.Lines.{length_tagged}
 
@@ -50,17 +44,6 @@ proposals_grow [] past = omega arith
 proposals_grow (e ∷ more) past =
     let step = proposals_step e.event e.reply (proposals (more ++ past)) in
     let rest = proposals_grow more past in omega (arith, step, rest)
-
-deciders_step : (event : Event) (answer : Reply) (n : ℕ) (before : List ℕ) → length before ≤ length (deciders_after event answer n before)
-deciders_step Check (Decided receipt) n before = omega (arith, length-append before (n ∷ []))
-deciders_step Check _ n before = omega arith
-deciders_step _ answer n before = omega arith
-
-deciders_grow : (more past : List Entry) → length (deciders past) ≤ length (deciders (more ++ past))
-deciders_grow [] past = omega arith
-deciders_grow (e ∷ more) past =
-    let step = deciders_step e.event e.reply (length (more ++ past) + 1) (deciders (more ++ past)) in
-    let rest = deciders_grow more past in omega (arith, step, rest)
 
 -- a ticket that was given stays given, and no fewer are decided
 pub given_later : (ticket : ℕ) (xs ys : List Made) → IsPrefix xs ys → IsGiven ticket (past_in xs) → IsGiven ticket (past_in ys)

@@ -1,6 +1,6 @@
 -- What a work makes of a room.
 use Rattle.std.proofs.Common.{◌≡◌, ℕ, ◌≤◌, ◌<◌, ◌+◌, ◌^◌, Bool, true, false, List, [], ◌∷◌, ◌++◌, length, ap, sym, subst, ◌∙◌, arith, length-append}
-use Rattle.std.specs.Prelude.{All, Result, Ok, Err, IfOk, OnErr, if◌then◌else◌}
+use Rattle.std.specs.Prelude.{All, Result, Ok, Err, IfOk, OnErr}
 use mathlib.Core.List.{IsPrefix}
 use Rattle.st_net.specs.declared.entity.Row.{Row}
 use Rattle.st_net.specs.Groups.{Group}
@@ -104,11 +104,6 @@ work_full (Ok going) number work old new ok fits legal =
     let within = legal_within new.history.group new.history.past legal in
     λ e. let full = ran.full (ap (λ (course : Course). course.stopped) ok ∙ e) in omega (arith, within, full, ap (λ (course : Course). length course.past) ok)
 work_full (Err e) number work old new ok fits legal = tt
-
--- what begins a legal journal is legal
-pub legal_before : (g : Group) (more past : List Entry) → IsLegal g (more ++ past) → IsLegal g past
-legal_before g [] past legal = legal
-legal_before g (e ∷ more) past legal = legal_before g more past legal.1
 
 -- the rows that a check decides fit
 pub rows_fit : (g h : Group) (d : Bool) (past : List Entry) (rows kept : List Row) → h ≡ g → d ≡ true → (d ≡ true → kept ≡ first_rows (pending past)) → rows ≡ kept → IsLegal g past → All (RowFits h) rows

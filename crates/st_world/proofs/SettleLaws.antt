@@ -25,7 +25,7 @@ use Rattle.st_event.specs.Moments.{heard, is_sent, is_taken, is_fail_of, stamp, 
 use Rattle.st_event.specs.Observed.{observed, is_settled}
 use Rattle.st_event.specs.Past.{is_spoiled}
 use Rattle.st_event.specs.Legal.{IsLegal}
-use Rattle.st_event.specs.Services.{entry_after, journal_by}
+use Rattle.st_event.specs.Services.{entry_after}
 use Rattle.st_event.proofs.Made.{report_now, observed_own}
 use Rattle.st_event.proofs.Promises.{entry_of}
 use Rattle.st_event.proofs.Shown.{made_is_true}
@@ -39,9 +39,14 @@ use Rattle.st_world.proofs.RunLaws.{entered, round-grows, turn-legal, turns-stop
 
 -- a turn where there is room for all of it
 
+-- the journal with each of these events, the first of them first
+abbrev pub all_by : Group → List Event → List Entry → List Entry
+all_by g [] past = past
+all_by g (event ∷ events) past = all_by g events (entry_after g past event ∷ past)
+
 -- the journal with an event and then what follows its entry
 abbrev pub told_by : Group → List WireLine → Event → List Entry → List Entry
-told_by g lines event past = let next = entry_after g past event ∷ past in journal_by g (follow_ups g lines next) next
+told_by g lines event past = let next = entry_after g past event ∷ past in all_by g (follow_ups g lines next) next
 
 -- the journal with a turn's finish, report, and arrivals of the report
 abbrev pub ended_by : Group → List WireLine → Entity → List Entry → List Entry
@@ -58,19 +63,19 @@ entered-whole course entry false false is going = cc
 enter-whole : (g : Group) (course : Course) (event : Event) → (enter g course event).stopped ≡ false → (course.stopped ≡ false) × (enter g course event ≡ course_from (entry_after g course.past event ∷ course.past))
 enter-whole g course event going = entered-whole course (entry_after g course.past event) course.stopped _ refl going
 
-enter_all-whole : (g : Group) (course : Course) (events : List Event) → (enter_all g course events).stopped ≡ false → (course.stopped ≡ false) × ((enter_all g course events).past ≡ journal_by g events course.past)
+enter_all-whole : (g : Group) (course : Course) (events : List Event) → (enter_all g course events).stopped ≡ false → (course.stopped ≡ false) × ((enter_all g course events).past ≡ all_by g events course.past)
 enter_all-whole g course [] going = (going, refl)
 enter_all-whole g course (event ∷ events) going =
     let rest = enter_all-whole g (enter g course event) events going in
     let here = enter-whole g course event rest.0 in
-    (here.0, rest.1 ∙ ap (λ (r : Course). journal_by g events r.past) here.1)
+    (here.0, rest.1 ∙ ap (λ (r : Course). all_by g events r.past) here.1)
 
 enter_told-whole : (g : Group) (lines : List WireLine) (course : Course) (event : Event) → (enter_told g lines course event).stopped ≡ false → (course.stopped ≡ false) × ((enter_told g lines course event).past ≡ told_by g lines event course.past)
 enter_told-whole g lines course event going =
     let next = enter g course event in
     let rest = enter_all-whole g next (follow_ups g lines next.past) going in
     let here = enter-whole g course event rest.0 in
-    (here.0, rest.1 ∙ ap (λ (r : Course). journal_by g (follow_ups g lines r.past) r.past) here.1)
+    (here.0, rest.1 ∙ ap (λ (r : Course). all_by g (follow_ups g lines r.past) r.past) here.1)
 
 -- a turn that meets no full journal enters all of its entries
 pub turn-whole : (g : Group) (lines : List WireLine) (course : Course) (e : Entity) → (turn g lines course e).stopped ≡ false → (course.stopped ≡ false) × ((turn g lines course e).past ≡ turn_by g lines e course.past)
@@ -167,10 +172,10 @@ other_ended g past x e other =
 
 -- the journal with a send of this answer and what follows it
 abbrev sent_by : Group → Entity → List Entry → Reply → List Entry
-sent_by g x past answer = journal_by g (follow_ups_of g [] (entry_of (Send x) answer ∷ past) answer) (entry_of (Send x) answer ∷ past)
+sent_by g x past answer = all_by g (follow_ups_of g [] (entry_of (Send x) answer ∷ past) answer) (entry_of (Send x) answer ∷ past)
 
 unsent_by : (g : Group) (x : Entity) (past : List Entry) (answer : Reply) → follow_ups_of g [] (entry_of (Send x) answer ∷ past) answer ≡ [] → sent_by g x past answer ≡ entry_of (Send x) answer ∷ past
-unsent_by g x past answer none = ap (λ (events : List Event). journal_by g events (entry_of (Send x) answer ∷ past)) none
+unsent_by g x past answer none = ap (λ (events : List Event). all_by g events (entry_of (Send x) answer ∷ past)) none
 
 other_sent : (g : Group) (past : List Entry) (x e : Entity) (n : ℕ) (answer : Reply) → Answers g x past n answer → is_settled g (sent_by g x past answer) e ≡ is_settled g past e
 other_sent g past x e n answer (inl is) =

@@ -49,7 +49,7 @@ pub fn fill(alloc: Global, journals: &mut Vec<Journal>, count: u32) -> Result<()
     for group in first..count {
         journals.push(Journal {
             group,
-            entries: Items::new(Vec::new(alloc)),
+            entries: Items::none(alloc),
         })?;
     }
     Ok(())

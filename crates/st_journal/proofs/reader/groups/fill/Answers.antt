@@ -7,7 +7,7 @@ pub loop-group-preserved : goal.loop-group-preserved
 loop-group-preserved c =
     let count : length c.push.new.self.items ≡ length c.loop-group.journals.items + 1 = ap length c.in_ok-push.ensures.items ∙ length_push c.loop-group.journals.items _ in
     record {
-      filled = rw (c.in_ok-push.ensures.items, c.new-in-loop-group.ensures, c.new.ensures.items) (filled_more c.loop-group.group c.args.count c.loop-group.journals.items c.loop-group-test.true ∙ c.loop-group.invariant.filled);
+      filled = rw (c.in_ok-push.ensures.items, c.none.ensures) (filled_more c.loop-group.group c.args.count c.loop-group.journals.items c.loop-group-test.true ∙ c.loop-group.invariant.filled);
       few = omega (arith, count);
       first = omega arith;
     }

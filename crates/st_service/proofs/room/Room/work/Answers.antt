@@ -1,11 +1,12 @@
 use Rattle.std.proofs.Common.{◌≡◌, ◌≢◌, true, false, length, refl, ap, sym, subst, ◌∙◌}
+use Rattle.st_event.proofs.Begun.{legal_begun}
 use Rattle.st_event.specs.Legal.{IsLegal}
 use Rattle.st_event.specs.Proposals.{overlays, first_rows, pending}
 use Rattle.st_service.specs.Rooms.{RoomView, WasRefused}
 use Rattle.st_service.specs.Shares.{work_share}
 use Rattle.st_service.specs.Works.{WorkFits, decides}
 use Rattle.st_service.proofs.CourseLaws.{work-ran, same_version, next_version}
-use Rattle.st_service.proofs.RoomLaws.{went_from, adds_from, refused_more, work_full, room_stands, room_publishes, room_spends, next_few, legal_before, rows_fit}
+use Rattle.st_service.proofs.RoomLaws.{went_from, adds_from, refused_more, work_full, room_stands, room_publishes, room_spends, next_few, rows_fit}
 use Rattle.st_service.proofs.room.Room.work.Goals as goal
 
 pub invariant_of-self : goal.invariant_of-self
@@ -45,7 +46,7 @@ publish-requires-clause-fits g c =
     let went = went_from c.enter-going.result c.args.number c.args.work old new c.self.inside.held.board c.self.inside.spent c.args.self.now c.self.view_is c.enter-going.ensures.ok c.enter-going.ensures.err c.requires.fits in
     let apart : length (overlays new.history.past) ≢ length (overlays old.history.past) = λ e. c.if-version_of-version.false (c.version_of.ensures ∙ (e ∙ sym c.version_of-version.ensures)) in
     let next = next_version (decides c.args.work) new.history.group c.args.number (work_share c.args.work old.history.group old.lines) old.history.past new.history.past went c.is_legal.ensures.legal apart in
-    let legal : IsLegal new.history.group old.history.past = legal_before new.history.group went.more old.history.past (subst (IsLegal new.history.group) went.all c.is_legal.ensures.legal) in
+    let legal : IsLegal new.history.group old.history.past = legal_begun new.history.group went.more old.history.past (subst (IsLegal new.history.group) went.all c.is_legal.ensures.legal) in
     let rows : decides c.args.work ≡ true → c.in_ok-rows.rows ≡ first_rows (pending old.history.past) = λ d. c.in_ok-rows.ensures d ∙ ap (λ (r : RoomView). first_rows (pending r.history.past)) (sym c.self.view_is) in
     rows_fit new.history.group c.self.inside.held.board.group (decides c.args.work) old.history.past c.as_slice.result.now c.in_ok-rows.rows (c.self.invariant.group ∙ sym c.enter-going.ensures.plant.group) next.0 rows c.as_slice.ensures legal
 
