@@ -14,7 +14,7 @@ use Rattle.st_replay.specs.declared.status.Status.TheVariants as statuses
 use Rattle.st_top.specs.declared.task.Showing.{Showing}
 use Rattle.st_top.specs.declared.task.Task.TheVariants.{Serial}
 use Rattle.st_serial.specs.Serial.{GroupState, Run, groups_in, journals_from, logs_from, serial_end, serial_logs, serial_run}
-use Rattle.st_replay.specs.Again.{histories_of, AreKeptStates, IsKeptHistory}
+use Rattle.st_replay.specs.Again.{histories_of, AreKeptStates}
 use Rattle.st_top.specs.Output.{shown}
 use Rattle.st_serial.specs.Kept.{groups_of, AreKept, IsKept}
 use Rattle.st_top.specs.Answer.{Results, AreOfScripts, EndsOnDoc}

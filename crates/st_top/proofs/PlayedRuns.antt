@@ -1,6 +1,6 @@
 -- Journals that threads have made: they are gone through again to show what came of them, and a run ends as it says.
-use Rattle.std.proofs.Common.{◌≡◌, ℕ, zero, suc, ◌+◌, ◌-◌, ◌<◌, ◌≤◌, List, [], ◌∷◌, length, map, Option, Some, None, refl, ap, sym, ◌∙◌, subst, inl, arith}
-use Rattle.std.specs.Prelude.{All, ◌⊎◌, reverse, slice_get, slice_index_or}
+use Rattle.std.proofs.Common.{◌≡◌, ℕ, zero, suc, ◌+◌, ◌-◌, ◌<◌, ◌≤◌, List, [], ◌∷◌, length, map, Option, Some, refl, ap, sym, ◌∙◌, subst, inl, arith}
+use Rattle.std.specs.Prelude.{All, ◌⊎◌, reverse, slice_index_or}
 use Rattle.std.proofs.lemmas.List.{get_or-reverse, length-map, length-reverse, reverse-reverse}
 use Rattle.std.proofs.lemmas.Option.{get_or_from_slice_get}
 use Rattle.std.proofs.Math.ListN.{get_or-map}
@@ -8,14 +8,13 @@ use Rattle.st_net.specs.Groups.{Group}
 use Rattle.st_event.specs.declared.act.Log.{Log}
 use Rattle.st_event.specs.declared.journal.Entry.{Entry}
 use Rattle.st_event.specs.declared.journal.Journal.{Journal}
-use Rattle.st_event.specs.declared.journal.TheConstants.{MAX_ENTRIES}
 use Rattle.st_event.specs.Legal.{Fits, IsLegal}
 use Rattle.st_event.proofs.Accepting.{legal_within}
 use Rattle.st_grammar.specs.declared.doc.Doc.{Doc}
 use Rattle.st_words.specs.declared.job.Form.{Form}
-use Rattle.st_journal.specs.JournalReading.{AreJournalsOf, IsJournalOf}
-use Rattle.st_serial.specs.Kept.{AreKept, IsKept, groups_of}
-use Rattle.st_serial.specs.Most.{HasRoom, IsWithinMost, most}
+use Rattle.st_journal.specs.JournalReading.{AreJournalsOf}
+use Rattle.st_serial.specs.Kept.{AreKept, groups_of}
+use Rattle.st_serial.specs.Most.{HasRoom, most}
 use Rattle.st_run.specs.declared.playing.Played.{Played}
 use Rattle.st_run.specs.CarriedOut.{AreNumbers}
 use Rattle.st_run.specs.Running.{IsFullIn, IsRunOf}

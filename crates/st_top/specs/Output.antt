@@ -1,5 +1,5 @@
 -- What the tasks write.
-use Rattle.std.specs.Prelude.{ℕ, List, [], ◌∷◌, ◌++◌, length, map, flat_map, reverse, codes, decimal, sum_by}
+use Rattle.std.specs.Prelude.{ℕ, List, [], ◌∷◌, ◌++◌, length, flat_map, reverse, codes, decimal, sum_by}
 use Rattle.st_text.specs.Words.{line}
 use Rattle.st_event.specs.declared.act.Log.{Log}
 use Rattle.st_event.specs.History.{History}

@@ -1,9 +1,11 @@
 //! The program but for its streams: its arguments in, its exit status out.
 
-ghost use Rattle.std.specs.Prelude.{◌≡◌, map, string_bytes, IfOk};
+ghost use Rattle.std.specs.Prelude.{◌≡◌, map, string_bytes, IfOk, false};
 ghost use Rattle.std.specs.Process.{exit_status};
 ghost use Rattle.st_replay.specs.Statuses.{exit_code_of};
+ghost use Rattle.st_top.specs.Answer.{IsUnread};
 ghost use Rattle.st_top.specs.Program.{words_in, ProgramEnds};
+ghost use Rattle.st_top.specs.Ways.{is_read_on, way_of};
 
 use crate::answer::Outcome;
 use crate::top::statesman;
@@ -36,8 +38,8 @@ pub fn ended(outcome: &Outcome) -> ExitCode
     ExitCode::from(outcome.status.exit_code())
 }
 
-/// The whole call on the words of these arguments, of which the first is the program's name. Where memory was refused to the
-/// arguments, nothing is read or written, and the exit status is that of want of memory. The gate is the one that does nothing.
+/// The whole call on the words of these arguments, of which the first is the program's name. Where memory is refused to the
+/// arguments, the exit status is that of want of memory. The gate is the one that does nothing.
 pub fn run_program<R: Threads + Wait + Sync, S: Source, K: Sink>(
     rt: &R,
     alloc: Global,
@@ -45,11 +47,16 @@ pub fn run_program<R: Threads + Wait + Sync, S: Source, K: Sink>(
     source: &mut S,
     sink: &mut K,
 ) -> ExitCode
-    ensures { ProgramEnds (words_in args)
+    ensures ends { ProgramEnds (words_in args)
         (record { left = S.left source.old; faults = S.faults source.old })
         (record { left = S.left source.new; faults = S.faults source.new })
         (record { held = K.held sink.old; faults = K.faults sink.old })
         (record { held = K.held sink.new; faults = K.faults sink.new }) result }
+
+    // Where the words ask for nothing that reads, nothing is read, whatever the status.
+    ensures idle { is_read_on (way_of (words_in args)) ≡ false → IsUnread
+        (record { left = S.left source.old; faults = S.faults source.old })
+        (record { left = S.left source.new; faults = S.faults source.new }) }
 {
     match words_after(alloc, args) {
         Ok(words) => ended(&statesman(rt, alloc, words.as_slice(), source, sink, &NoGate)),
