@@ -8,7 +8,8 @@ use Rattle.st_net.proofs.Tests.{less, less_is}
 use Rattle.st_event.specs.declared.act.Act.{Act}
 use Rattle.st_service.proofs.ClosingLaws.{both_more}
 use Rattle.st_run.specs.Chores.{awaits_for}
-use Rattle.st_run.specs.Finished.{EachPair, SomePair}
+use Rattle.st_run.specs.declared.application.Came.{Came}
+use Rattle.st_run.specs.Finished.{EachPair, IsNoHigher, NamesLowest, SomePair, met_full}
 
 pub pushed_length : {Y : Type 0} (ys new : List Y) (y : Y) → new ≡ ys ++ y ∷ [] → length new ≡ length ys + 1
 pushed_length ys new y items = omega (arith, ap length items, length-append ys (y ∷ []))
@@ -54,6 +55,16 @@ full_of_two P Q a b r first goes old here = IfSome_then r first (λ m which. ⊎
     (λ (e : a ≡ Some m). goes m (subst (λ (o : Option ℕ). IfSome o P) e old))
     (λ (e : b ≡ Some m). subst (λ (o : Option ℕ). IfSome o Q) e here)
     which)
+
+-- what is no higher than a group, the first of two groups is no higher than
+no_higher_on : (a r : Option ℕ) (n : ℕ) → IfSome a (IsNoHigher r) → IsNoHigher a n → IsNoHigher r n
+no_higher_on a r n first s =
+    let goes : IsNoHigher r s.0 = subst (λ (o : Option ℕ). IfSome o (IsNoHigher r)) s.1 first in
+    (goes.0, goes.1, omega (arith, goes.2, s.2))
+
+-- and so of what a job met
+pub lowest_on : (a r : Option ℕ) (came : Came) → IfSome a (IsNoHigher r) → NamesLowest a came → NamesLowest r came
+lowest_on a r came first named = IfSome_then (met_full came) named (λ n s. no_higher_on a r n first s)
 
 -- the awaits of a number
 

@@ -1,11 +1,11 @@
 -- What is left of a job whose pass has awaited behind it.
-use Rattle.std.specs.Prelude.{ℕ, ◌≡◌, ◌⊎◌, ◌≤◌, ◌<◌, List, length, slice_index_or}
+use Rattle.std.specs.Prelude.{ℕ, ◌≡◌, ◌⊎◌, ◌≤◌, ◌<◌, List, length, slice_index_or, Option, Some, None, IfSome}
 use Rattle.st_net.specs.Groups.{Group}
 use Rattle.st_event.specs.declared.act.Act.{Act}
 use Rattle.st_wire.specs.declared.line.WireLine.{WireLine}
 use Rattle.st_service.specs.Passes.{Holder}
 use Rattle.st_run.specs.declared.application.Came.{Came}
-use Rattle.st_run.specs.declared.application.Came.TheVariants.{Through, ToFull}
+use Rattle.st_run.specs.declared.application.Came.TheVariants.{Through, ToFull, OutOfMemory}
 use Rattle.st_run.specs.Jobs.{Did}
 use Rattle.st_run.specs.Went.{HadMemory, HasFull}
 
@@ -23,6 +23,20 @@ CameThrough groups lines awaits came left end = (came ≡ Through) × Did groups
 -- a job came to the full journal of group n, or its pass has seen it full behind its awaits
 abbrev pub MetFull : ℕ → Came → Holder → Type 0
 MetFull n came end = (came ≡ ToFull n) ⊎ HasFull end n
+
+-- the group whose journal a job met full
+abbrev pub met_full : Came → Option ℕ
+met_full Through = None
+met_full (ToFull n) = Some n
+met_full OutOfMemory = None
+
+-- there is a group, and it is n or a lower one
+abbrev pub IsNoHigher : Option ℕ → ℕ → Type 0
+IsNoHigher full n = (m : ℕ) × (full ≡ Some m) × (m ≤ n)
+
+-- where a job met a full journal, the group that is named is that of this journal or a lower one
+abbrev pub NamesLowest : Option ℕ → Came → Type 0
+NamesLowest full came = IfSome (met_full came) (IsNoHigher full)
 
 -- a job was not refused memory, and where its number is a worker's its pass stays as it was
 abbrev pub StaysBehind : ℕ → ℕ → Came → Holder → Holder → Type 0

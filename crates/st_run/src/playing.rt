@@ -8,7 +8,7 @@ ghost use Rattle.st_service.specs.Passes.{Holder};
 ghost use Rattle.st_crew.specs.Ends.{EndsOf};
 ghost use Rattle.st_run.specs.Chores.{CanDoChore, ChoreTo, IsChore, WentThrough, awaits_for};
 ghost use Rattle.st_run.specs.Ended.{AreDone, AreEnded};
-ghost use Rattle.st_run.specs.Finished.{CameThrough, EachPair, MetFull, SomePair, StaysBehind};
+ghost use Rattle.st_run.specs.Finished.{CameThrough, EachPair, IsNoHigher, MetFull, NamesLowest, SomePair, StaysBehind, met_full};
 ghost use Rattle.st_run.specs.Jobs.{Did, Does, awaits_on};
 ghost use Rattle.st_run.specs.Played.{AllCanBeDone, AreClosed, IsPlayed, WasFull, acts_of};
 ghost use Rattle.st_run.specs.Tasks.{tasks_by};
@@ -26,8 +26,8 @@ use std::sync::Wait;
 use std::sync::ledger::Ledger;
 use std::thread::Threads;
 
-/// What was played: the journals of the groups and the logs of the applications, in order, and the lowest group whose journal a job met
-/// full, if one did.
+/// What was played: the journals of the groups and the logs of the applications, in order, and the lowest group whose journal a job, or an
+/// await behind the jobs, met full, if one did.
 #[derive(Drop)]
 pub struct Played {
     pub journals: Vec<Journal>,
@@ -87,10 +87,12 @@ fn jobs_of<'a, J: Naming, L: Ledger, H: Wait + Drop>(
     Ok(jobs)
 }
 
-/// The lower of two groups, as far as there are some.
+/// The lower of two groups, if there are two, or the one.
 fn first_of(a: Option<u32>, b: Option<u32>) -> Option<u32>
     ensures none { result ≡ None → (a ≡ None) × (b ≡ None) }
     ensures one { IfSome result (λ n. (a ≡ Some n) ⊎ (b ≡ Some n)) }
+    ensures first { IfSome a (IsNoHigher result) }
+    ensures second { IfSome b (IsNoHigher result) }
 {
     match (a, b) {
         (Some(m), Some(n)) => Some(m.min(n)),
@@ -103,6 +105,7 @@ fn first_of(a: Option<u32>, b: Option<u32>) -> Option<u32>
 fn full_of(came: Came) -> Result<Option<u32>, AllocError>
     ensures none { IfOk result (λ full. full ≡ None → came ≡ Came.Through) }
     ensures one { IfOk result (λ full. IfSome full (λ n. came ≡ Came.ToFull n)) }
+    ensures met { IfOk result (λ full. full ≡ met_full came) }
     ensures had { IfOk result (λ full. HadMemory came) }
 {
     match came {
@@ -181,6 +184,7 @@ fn finish<J: Naming, L: Ledger, H: Wait + Drop, R: Threads + Wait + Sync>(
     ensures went { IfOk result (λ end. Went J.group J.lines awaits.now left.pass end.0) }
     ensures none { IfOk result (λ end. end.1 ≡ None → CameThrough J.group J.lines awaits.now left.came left.pass end.0) }
     ensures one { IfOk result (λ end. IfSome end.1 (λ n. MetFull n left.came end.0)) }
+    ensures lowest { IfOk result (λ end. NamesLowest end.1 left.came) }
     ensures still { IfOk result (λ end. HadMemory left.came × (length awaits.now ≡ 0 → end.0 ≡ left.pass)) }
 {
     let Left { mut pass, came } = left;
@@ -208,6 +212,7 @@ fn finish_all<J: Naming, L: Ledger, H: Wait + Drop, R: Threads + Wait + Sync>(
     ensures went { IfOk result (λ ends. EachPair (λ n left end. Went J.group J.lines (awaits_for apps n awaits.now) left.pass end) lefts.items ends.0.items) }
     ensures none { IfOk result (λ ends. ends.1 ≡ None → EachPair (λ n left end. CameThrough J.group J.lines (awaits_for apps n awaits.now) left.came left.pass end) lefts.items ends.0.items) }
     ensures one { IfOk result (λ ends. IfSome ends.1 (λ m. SomePair (λ left end. MetFull m left.came end) lefts.items ends.0.items)) }
+    ensures lowest { IfOk result (λ ends. All (λ left. NamesLowest ends.1 left.came) lefts.items) }
     ensures still { IfOk result (λ ends. EachPair (λ n left end. StaysBehind apps n left.came left.pass end) lefts.items ends.0.items) }
 {
     let mut passes = Vec::new(alloc);

@@ -1,17 +1,18 @@
 -- Each pass has awaited on each group, and the first full journal at which one stopped is known.
 use Rattle.std.proofs.Common.{◌≡◌, ℕ, ◌<◌, List, ◌∷◌, ◌++◌, [], length, get_or, ap, sym, subst, ◌∙◌, arith, length-append}
 use Rattle.std.specs.Prelude.{All}
+use Rattle.std.proofs.lemmas.List.Elements.{All-push}
 use Rattle.std.proofs.lemmas.Option.{IfSome_then}
 use Rattle.st_event.specs.declared.act.Act.{Act}
 use Rattle.st_service.specs.Acts.{CanDo}
 use Rattle.st_service.specs.Passes.{Holder}
 use Rattle.st_run.specs.declared.application.Left.{Left}
 use Rattle.st_run.specs.Chores.{awaits_for}
-use Rattle.st_run.specs.Finished.{CameThrough, MetFull, StaysBehind}
+use Rattle.st_run.specs.Finished.{CameThrough, MetFull, NamesLowest, StaysBehind}
 use Rattle.st_run.specs.Jobs.{Did}
 use Rattle.st_run.specs.Went.{Went}
 use Rattle.st_service.proofs.ClosingLaws.{next_all, next_low, none_left}
-use Rattle.st_run.proofs.FinishLaws.{at_seam, awaits_all, awaits_none, awaits_some, both_pushed, first_fits, pushed_length}
+use Rattle.st_run.proofs.FinishLaws.{at_seam, awaits_all, awaits_none, awaits_some, both_pushed, first_fits, lowest_on, pushed_length}
 use Rattle.st_run.proofs.playing.finish_all.Goals as goal
 
 pub finish-requires-clause-app : goal.finish-requires-clause-app
@@ -69,6 +70,9 @@ loop-left-preserved g c =
           ys passes new left pass items inv.count (inv.none both.0) (done.0, subst (λ (xs : List Act). Did g.J.Naming.group g.J.Naming.lines xs left.pass pass) own done.1);
       one = first_fits (λ (m : ℕ) (l : Left g.row.J.Denot g.row.L.Denot) (p : Holder). MetFull m l.came p)
           ys passes new left pass c.loop-left.full c.in_ok-pass.here c.first_of-full.result items inv.count c.first_of-full.ensures.one inv.one c.in_ok-pass.ensures.one;
+      lowest = All-push (λ (l : Left g.row.J.Denot g.row.L.Denot). NamesLowest c.first_of-full.result l.came) ys left
+          (λ k d lt. lowest_on c.loop-left.full c.first_of-full.result (get_or ys k d).came c.first_of-full.ensures.first (inv.lowest k d lt))
+          (lowest_on c.in_ok-pass.here c.first_of-full.result left.came c.first_of-full.ensures.second c.in_ok-pass.ensures.lowest);
       still = both_pushed (λ (k : ℕ) (l : Left g.row.J.Denot g.row.L.Denot) (p : Holder). StaysBehind apps k l.came l.pass p) ys passes new left pass items inv.count inv.still
           (c.in_ok-pass.ensures.still.0, λ le. c.in_ok-pass.ensures.still.1 (ap length (own ∙ awaits_none apps (length ys) awaits le)));
     }
@@ -99,6 +103,12 @@ returns-clause-none g c =
     let done = none_left c.args.lefts.items c.loop-left.yielded c.loop-left.left-iterator.rest.items c.loop-left.invariant.all none in
     λ through n d p lt. subst (λ (ls : List (Left g.row.J.Denot g.row.L.Denot)). CameThrough g.J.Naming.group g.J.Naming.lines (awaits_for c.args.apps n c.args.awaits.now) (get_or ls n d).came (get_or ls n d).pass (get_or c.loop-left.passes.items n p)) done
     (c.loop-left.invariant.none through n d p (omega (arith, lt, ap length done)))
+
+pub returns-clause-lowest : goal.returns-clause-lowest
+returns-clause-lowest g c =
+    let none : length c.loop-left.left-iterator.rest.items ≡ 0 = omega (arith, c.in-None.ensures.steps.0) in
+    let done = none_left c.args.lefts.items c.loop-left.yielded c.loop-left.left-iterator.rest.items c.loop-left.invariant.all none in
+    subst (λ (ls : List (Left g.row.J.Denot g.row.L.Denot)). All (λ l. NamesLowest c.loop-left.full l.came) ls) done c.loop-left.invariant.lowest
 
 pub returns-clause-one : goal.returns-clause-one
 returns-clause-one g c =
