@@ -139,7 +139,7 @@ fn stepped(alloc: Global, world: &mut World, switch: u32) -> Result<Outcome, Fai
 }
 
 /// Proposes a firmware of a switch, and gives what is judged of it.
-fn proposed(
+pub fn proposed(
     rt: &(impl Threads + Sync),
     alloc: Global,
     world: &mut World,

@@ -4,6 +4,8 @@
 #[cfg(test)]
 mod benches;
 #[cfg(test)]
+mod commits;
+#[cfg(test)]
 mod flows;
 #[cfg(test)]
 mod nets;

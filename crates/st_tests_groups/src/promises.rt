@@ -5,6 +5,7 @@ ghost use Rattle.st_net.specs.Sets.{MarksOf};
 ghost use Rattle.st_promise.specs.Book.{IsBookOf};
 
 mod changes;
+mod walks;
 
 use st_gen::generate;
 use st_net::{Broken, BrokenKind, Entity, EntitySet, GroupTopo};
@@ -14,7 +15,7 @@ use std::alloc::{AllocError, Global};
 use std::test::Fail;
 
 /// A fat tree of ten pods.
-fn fat_tree(alloc: Global) -> Result<GroupTopo, Fail> {
+pub fn fat_tree(alloc: Global) -> Result<GroupTopo, Fail> {
     let doc = generate(alloc, 10, 0)?;
     match doc.groups.as_slice().first() {
         Some(parts) => Ok(topo_of(alloc, parts)?),

@@ -1,0 +1,131 @@
+//! Walks and single promises, worked by hand on two ToRs that two switches join, with a promise of six tenths of the capacity: while
+//! one of the switches is down half of the capacity is left.
+ghost use Rattle.std.specs.Prelude.{◌<◌, length, IfOk};
+ghost use Rattle.st_net.specs.Sets.{MarksOf};
+ghost use Rattle.st_promise.specs.Book.{IsBookOf};
+
+use super::every_entity;
+use st_net::{Entity, EntitySet, GroupTopo};
+use st_promise::{Book, Reached, reach};
+use st_samples::group;
+use std::alloc::{AllocError, Global};
+use std::test::Fail;
+
+/// Two ToRs, t1 and t2, and two switches, a1 and a2.
+const SIX_TENTHS: &str = "statesman 1
+group dc1
+device t1 tor
+device t2 tor
+device a1 switch
+device a2 switch
+link l1 t1 a1 10
+link l2 t1 a2 10
+link l3 t2 a1 10
+link l4 t2 a2 10
+promise t1 t2 60
+";
+
+/// Every entity but these devices.
+fn all_but(alloc: Global, topo: &GroupTopo, down: &[u32]) -> Result<EntitySet, AllocError>
+    ensures { IfOk result (MarksOf topo.now) }
+{
+    let mut up = every_entity(alloc, topo)?;
+    for device in down {
+        let entity = Entity::Device(*device);
+        if topo.has(entity) {
+            up.remove(entity);
+        }
+    }
+    Ok(up)
+}
+
+/// What the first ToR reaches on the way to a device, without these devices.
+fn reached(alloc: Global, topo: &GroupTopo, down: &[u32], to: u32) -> Result<Reached, Fail> {
+    if to >= topo.device_count() {
+        return Err(Fail::new("no device"));
+    }
+    let up = all_but(alloc, topo, down)?;
+    Ok(reach(alloc, topo, &up, 0, to)?)
+}
+
+/// How many links a walk has, if one was found.
+fn link_count(found: &Reached) -> Option<usize> {
+    match found {
+        Reached::Walk(links) => Some(links.as_slice().len()),
+        Reached::Closed(_) => None,
+    }
+}
+
+/// Whether no walk was found, and the first ToR reaches itself alone.
+fn is_alone(found: &Reached) -> bool {
+    match found {
+        Reached::Walk(_) => false,
+        Reached::Closed(side) => side.as_slice() == [0].as_slice(),
+    }
+}
+
+#[test]
+fn a_walk_goes_by_either_switch(rt: HostRuntime) -> Result<(), Fail> {
+    let alloc = rt.alloc();
+    let topo = group(alloc, SIX_TENTHS)?;
+    for (down, to, links) in [
+        ([].as_slice(), 1, 2),
+        ([2].as_slice(), 1, 2),
+        ([3].as_slice(), 1, 2),
+        ([].as_slice(), 3, 1),
+        ([].as_slice(), 0, 0),
+    ] {
+        let found = reached(alloc, &topo, down, to)?;
+        assert_eq!(rt; link_count(&found), Some(links), "{to}");
+    }
+    Ok(())
+}
+
+#[test]
+fn without_both_switches_a_rack_stands_alone(rt: HostRuntime) -> Result<(), Fail> {
+    let alloc = rt.alloc();
+    let topo = group(alloc, SIX_TENTHS)?;
+    let found = reached(alloc, &topo, [2, 3].as_slice(), 1)?;
+    assert!(rt; is_alone(&found));
+    Ok(())
+}
+
+/// Whether the promise holds without these devices, by a book of the group.
+fn holds(alloc: Global, topo: &GroupTopo, book: &mut Book, down: &[u32]) -> Result<bool, AllocError>
+    requires book { IsBookOf topo.now book.old.of }
+    requires promise { 0 < length topo.now.promises }
+    ensures book { IsBookOf topo.now book.new.of }
+{
+    let up = all_but(alloc, topo, down)?;
+    book.promise_holds(topo, &up, 0)
+}
+
+/// Whether it holds with all devices, without a switch, and with all of them again.
+fn held_of(alloc: Global, topo: &GroupTopo, book: &mut Book) -> Result<[bool; 3], AllocError>
+    requires book { IsBookOf topo.now book.old.of }
+    requires promise { 0 < length topo.now.promises }
+{
+    let first = holds(alloc, topo, book, [].as_slice())?;
+    let second = holds(alloc, topo, book, [2].as_slice())?;
+    let third = holds(alloc, topo, book, [].as_slice())?;
+    Ok([first, second, third])
+}
+
+/// The same by a new book.
+fn held(alloc: Global, topo: &GroupTopo) -> Result<[bool; 3], Fail> {
+    if topo.promise_count() == 0 {
+        return Err(Fail::new("no promise"));
+    }
+    let mut book = Book::start(alloc, topo)?;
+    let held = held_of(alloc, topo, &mut book);
+    drop(book);
+    Ok(held?)
+}
+
+#[test]
+fn a_promise_holds_while_both_switches_are_up(rt: HostRuntime) -> Result<(), Fail> {
+    let alloc = rt.alloc();
+    let topo = group(alloc, SIX_TENTHS)?;
+    assert_eq!(rt; held(alloc, &topo)?, [true, false, true]);
+    Ok(())
+}
