@@ -64,7 +64,7 @@ fn the_journal_is_full_at_its_limit(rt: HostRuntime) -> Result<(), Fail> {
     course(rt.alloc(), "", FULL_JOURNAL.as_slice())
 }
 
-const FAILURE_IN_MID_UPDATE: [Step; 8] = [
+const FAILURE_IN_MID_UPDATE: [Step; 9] = [
     Step::Accept(A1, 2),
     Step::Told(Deed::Send(A1), "sent 1"),
     Step::Told(Deed::Deliver(1), "begun"),
@@ -73,6 +73,7 @@ const FAILURE_IN_MID_UPDATE: [Step; 8] = [
     Step::Told(Deed::Report(A1), "reported 1"),
     Step::Told(Deed::Hear(1), "taken"),
     Step::Firmware(A1, 2),
+    Step::Sure(A1),
 ];
 
 #[test]

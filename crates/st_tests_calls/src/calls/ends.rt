@@ -1,6 +1,6 @@
 //! Calls that end with another status than Ok, or at a source or a sink that fails.
 
-use super::gates::Behind;
+use super::gates::{Behind, BehindReads};
 use super::*;
 
 /// An application whose switch fails before anything was sent to it, so that it can't settle.
@@ -14,9 +14,14 @@ poll dc1 a1
 
 /// A script, and behind it as many rounds of the first group as fill the journal of one that can't settle.
 pub fn filling(alloc: Global, script: &[u8]) -> Result<Vec<u8>, AllocError> {
+    filling_by(alloc, script, b"settle dc1 64\n")
+}
+
+/// A script, and behind it as many of these lines of 64 rounds as fill the journal of a group that can't settle.
+fn filling_by(alloc: Global, script: &[u8], line: &[u8]) -> Result<Vec<u8>, AllocError> {
     let mut script = script.to_vec(alloc)?;
     for _line in 0..782 {
-        script.extend_from_slice(b"settle dc1 64\n")?;
+        script.extend_from_slice(line)?;
     }
     Ok(script)
 }
@@ -85,6 +90,63 @@ fn a_full_journal_stops_who_meets_it_alone(rt: HostRuntime) -> Result<(), Fail> 
     assert_eq!(&rt; logs[0].entries.as_slice().len(), 1);
     // And the one that met the full journal did nothing behind it.
     assert_eq!(&rt; logs[1].entries.as_slice().len(), 1);
+    drop(called);
+    Ok(())
+}
+
+/// The two paths once more, as a second group.
+const TWO_MORE_PATHS: &[u8] = b"\
+group dc2
+device t1 tor
+device t2 tor
+device a1 switch
+device a2 switch
+link l1 t1 a1 10
+link l2 t1 a2 10
+link l3 t2 a1 10
+link l4 t2 a2 10
+";
+
+/// An application whose switch of the second group fails before anything was sent to it. It reads then.
+const FAILING_SECOND: &[u8] = b"\
+app te
+propose dc2 a1.firmware=2
+await dc2
+fail dc2 a1 0
+poll dc2 a1
+read dc2 a1.firmware
+";
+
+/// The same of another application and the first group.
+const FAILING_FIRST: &[u8] = b"\
+app up
+propose dc1 a1.firmware=2
+await dc1
+fail dc1 a1 0
+poll dc1 a1
+read dc1 a1.firmware
+";
+
+#[test]
+fn the_lowest_of_two_full_groups_is_named(rt: HostRuntime) -> Result<(), Fail> {
+    let alloc = rt.alloc();
+    let second = filling_by(alloc, FAILING_SECOND, b"settle dc2 64\n")?;
+    let first = filling(alloc, FAILING_FIRST)?;
+    let parts = [
+        TWO_PATHS,
+        TWO_MORE_PATHS,
+        second.as_slice(),
+        first.as_slice(),
+    ];
+    // The updaters and the monitors come behind both failures.
+    let gate = BehindReads::of(2);
+    let called = call_at(&rt, alloc, &["run"], &parts, &gate)?;
+    assert!(&rt; gate.was_kept());
+    assert_eq!(&rt; called.outcome.status, Status::JournalFull { group: 0 });
+    assert_eq!(&rt; called.text.as_slice(), b"fault full dc1\n".as_slice());
+    for journal in called.outcome.journals.as_slice() {
+        assert_eq!(&rt; journal.entries.as_slice().len(), 200_000);
+    }
     drop(called);
     Ok(())
 }

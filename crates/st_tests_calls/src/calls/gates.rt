@@ -171,6 +171,46 @@ impl Gate for Behind {
     }
 }
 
+/// Holds halves of rounds until so many reads were seen.
+#[derive(Drop)]
+pub struct BehindReads {
+    wanted: u32,
+    read: AtomicU32,
+    missed: AtomicU32,
+}
+
+impl BehindReads {
+    /// The gate at which halves of rounds wait for so many reads.
+    pub fn of(wanted: u32) -> BehindReads {
+        BehindReads {
+            wanted,
+            read: AtomicU32::new(0),
+            missed: AtomicU32::new(0),
+        }
+    }
+
+    /// Whether just as many reads as were waited for have come, and no half waited in vain.
+    pub fn was_kept(&self) -> bool {
+        self.read.load(Ordering::SeqCst) == self.wanted && self.missed.load(Ordering::SeqCst) == 0
+    }
+}
+
+impl Gate for BehindReads {
+    fn at<R: Wait>(&self, _rt: &R, point: Point) {
+        match point {
+            Point::AfterRead { .. } => {
+                self.read.fetch_add(1, Ordering::SeqCst);
+            }
+            Point::BeforeHalf { .. } => {
+                if !comes_to(&self.read, self.wanted) {
+                    self.missed.fetch_add(1, Ordering::SeqCst);
+                }
+            }
+            Point::BeforeJudge { .. } => {}
+        }
+    }
+}
+
 /// Holds each read until both halves of a group's rounds were about to be made.
 #[derive(Drop)]
 pub struct Halves {

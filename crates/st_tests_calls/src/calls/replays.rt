@@ -1,5 +1,7 @@
 //! Runs that were printed and are gone through again: whole outputs, altered journals, and every beginning of a printed run.
 
+ghost use Rattle.std.specs.Prelude.{◌<◌, length};
+
 use super::jobs::{JOURNAL, PRINTED, REPORT};
 use super::{
     Called, FIRST, HALF, SECOND, TWO_PATHS, call, ends_as, entry_count, joined, tell, words_of,
@@ -320,10 +322,26 @@ fn other_commands_take_no_journal(rt: HostRuntime) -> Result<(), Fail> {
     Ok(())
 }
 
-/// Whether a call ended as one on a beginning of a printed run may end: well, at a bad line, or at the last entry that it has.
-fn is_beginning(called: &Called) -> bool {
+/// How many line feeds a text has.
+fn feed_count(text: &[u8]) -> u32 {
+    let mut count = 0u32;
+    for byte in text {
+        if *byte == b'\n' {
+            count = count.wrapping_add(1);
+        }
+    }
+    count
+}
+
+/// Whether a call ended as one on these first bytes of a printed run may end: well where they end with a whole line, at a bad line where that
+/// is the last or the one that is missing behind it, or at the last entry that it has.
+fn is_beginning(called: &Called, text: &[u8], bytes: usize) -> bool
+    requires { bytes < length text.now }
+{
+    let feeds = feed_count(&text[..bytes]);
     match called.outcome.status {
-        Status::Ok | Status::BadInput { .. } => true,
+        Status::Ok => text[bytes] == b'\n' || text[..bytes].ends_with(b"\n"),
+        Status::BadInput { line, .. } => line == feeds || line == feeds.wrapping_add(1),
         Status::Illegal { group: 0, entry } => entry as usize == entry_count(&called.outcome),
         _ => false,
     }
@@ -333,9 +351,10 @@ fn is_beginning(called: &Called) -> bool {
 fn every_beginning_of_a_printed_run_is_replayed_or_refused(rt: HostRuntime) -> Result<(), Fail> {
     let alloc = rt.alloc();
     let text = joined(alloc, &[PRINTED.as_bytes(), JOURNAL.as_bytes()])?;
+    let text = text.as_slice();
     for n in 0..text.len() {
-        let called = call(&rt, alloc, &["replay"], &[&text.as_slice()[..n]])?;
-        assert!(&rt; is_beginning(&called));
+        let called = call(&rt, alloc, &["replay"], &[&text[..n]])?;
+        assert!(&rt; is_beginning(&called, text, n), "{n}");
         drop(called);
     }
     Ok(())

@@ -365,3 +365,28 @@ fn parts_are_counted(rt: HostRuntime) -> Result<(), Fail> {
     ends_as(&rt, alloc, called, Status::Ok, line, &[])?;
     Ok(())
 }
+
+/// The bytes with a carriage return before each line feed, and without the last line feed.
+fn with_carriage_returns(alloc: Global, bytes: &[u8]) -> Result<Vec<u8>, AllocError> {
+    let mut text = Vec::new(alloc);
+    for byte in bytes {
+        if *byte == b'\n' {
+            text.push(b'\r')?;
+        }
+        text.push(*byte)?;
+    }
+    text.pop();
+    Ok(text)
+}
+
+#[test]
+fn lines_may_end_with_carriage_returns(rt: HostRuntime) -> Result<(), Fail> {
+    let alloc = rt.alloc();
+    let bytes = joined(alloc, &[TWO_PATHS, HALF, FIRST])?;
+    let text = with_carriage_returns(alloc, bytes.as_slice())?;
+    writes(&rt, alloc, &[text.as_slice()], ACCEPTED)?;
+    let called = call(&rt, alloc, &["check"], &[text.as_slice()])?;
+    let line = b"ok groups 1 devices 4 links 4 promises 1 apps 1 commands 1\n";
+    ends_as(&rt, alloc, called, Status::Ok, line, &[])?;
+    Ok(())
+}

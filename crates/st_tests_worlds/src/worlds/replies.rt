@@ -149,6 +149,16 @@ pub fn has_firmware(world: &World, entity: Entity, value: u32) -> Result<(), Fai
     expect(firmware_of(world, entity) == value)
 }
 
+/// An entity is in the sure set.
+pub fn is_sure(world: &World, entity: Entity) -> Result<(), Fail> {
+    let control = world.control();
+    if !control.topo().has(entity) {
+        return Err(Fail::new("an entity is not there"));
+    }
+    let sure = control.sure()?;
+    expect(sure.has(entity))
+}
+
 /// Entry `n` of the journal, counted from 1, has this reply.
 pub fn has_entry(alloc: Global, world: &World, n: usize, words: &str) -> Result<(), Fail> {
     match world.journal().get(n.saturating_sub(1)) {

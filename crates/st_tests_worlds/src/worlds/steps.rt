@@ -1,7 +1,7 @@
 //! Courses as tables of steps: each enters an event or more, or looks at the world, and tells what is to come of it.
 
 use super::replies::{
-    accept, firmware, has_entry, has_firmware, is_full, leaves, round_leads, told,
+    accept, firmware, has_entry, has_firmware, is_full, is_sure, leaves, round_leads, told,
 };
 use super::{A1, TE};
 use st_event::{Event, MAX_ENTRIES};
@@ -39,6 +39,8 @@ pub enum Step {
     Round(u32, usize),
     /// An entity alone is not settled.
     Unsettled(Entity),
+    /// An entity is in the sure set.
+    Sure(Entity),
     /// An entry, counted from 1, has this reply.
     Entry(usize, &'static str),
     /// An agent has this firmware.
@@ -118,6 +120,7 @@ fn take(alloc: Global, world: &mut World, step: Step) -> Result<(), Fail> {
         Step::Accept(entity, value) => accept(alloc, world, entity, value),
         Step::Round(unsettled, entries) => round_leads(world, unsettled, entries),
         Step::Unsettled(entity) => leaves(world, [entity].as_slice()),
+        Step::Sure(entity) => is_sure(world, entity),
         Step::Entry(n, words) => has_entry(alloc, world, n, words),
         Step::Firmware(entity, value) => has_firmware(world, entity, value),
         Step::Reserve(n) => Ok(world.reserve(n)?),
