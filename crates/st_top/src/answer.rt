@@ -8,7 +8,8 @@ use st_replay::Status;
 use std::alloc::Global;
 
 /// How a call ended, the journals that the groups of the document kept, in order, and the logs of its applications, in order: what their
-/// commands saw. Both are empty where the status came before a run began, and may be empty where memory was refused.
+/// commands saw. Both are empty where the status came before a run began, or of a command that runs nothing, and may be empty where memory
+/// was refused.
 #[derive(Drop)]
 pub struct Outcome {
     pub status: Status,

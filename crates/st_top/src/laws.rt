@@ -10,9 +10,9 @@ pub fn trees_fit()
     ensures trees { TreesFit }
 {}
 
-/// The text that is printed of a sound document and of a legal journal of each of its groups is read as that document and these
-/// journals, if it is no longer than an input may be. No entry is refused, and what a replay writes is the document and the journals in
-/// its form, without what was read.
+/// The text that is printed of a sound document and of a legal journal of each of its groups, asked by its applications and with message
+/// numbers of 32 bits, is read as that document and these journals, if it is no longer than an input may be. No entry is refused, and
+/// what a replay writes is the document and the journals in its form, without what was read.
 pub fn printed_runs_are_replayed()
     ensures { PrintedRunsAreReplayed }
 {}

@@ -38,8 +38,8 @@ pub fn ended(outcome: &Outcome) -> ExitCode
     ExitCode::from(outcome.status.exit_code())
 }
 
-/// The whole call on the words of these arguments, of which the first is the program's name. Where memory is refused to the
-/// arguments, the exit status is that of want of memory. The gate is the one that does nothing.
+/// The whole call on the words of these arguments, of which the first is the program's name. Where the arguments can't be had there are
+/// no words; where that is for want of memory the exit status says so, which no clause tells. The gate is the one that does nothing.
 pub fn run_program<R: Threads + Wait + Sync, S: Source, K: Sink>(
     rt: &R,
     alloc: Global,
