@@ -1,8 +1,8 @@
 #!/usr/bin/env bash
 # Runs a program of this repository: tools/run_program.sh LABEL CRATE WORDS..
 # The first run proves and builds it, several crates at a time, and tells on standard error how far it is. A later run starts at once.
-# It works in a copy of the program's crates under ~/.cache/statesman, a folder for each checkout, where what was proved stays for the next
-# change: some gigabytes, which may be removed at any time. (Under the checkout `rt ci` would take the copy's crates.txt for a second one.)
+# It works in a copy of the program's crates under ~/.cache/statesman, a folder for each checkout and program, where what was proved stays for the next
+# change: 10 GB, which may be removed at any time. (Under the checkout `rt ci` would take the copy's crates.txt for a second one.)
 set -euo pipefail
 label=$1 crate=$2
 shift 2
