@@ -333,15 +333,17 @@ fn feed_count(text: &[u8]) -> u32 {
     count
 }
 
-/// Whether a call ended as one on these first bytes of a printed run may end: well where they end with a whole line, at a bad line where that
-/// is the last or the one that is missing behind it, or at the last entry that it has.
+/// Whether a call ended as one on these first bytes of a printed run may end: well where they end in the document, whose last word may be
+/// cut short, or with a whole line of the journal; at their last line, where that is cut, or at the one that is missing behind it; or at
+/// the last entry that they have.
 fn is_beginning(called: &Called, text: &[u8], bytes: usize) -> bool
     requires { bytes < length text.now }
 {
-    let feeds = feed_count(&text[..bytes]);
     match called.outcome.status {
-        Status::Ok => text[bytes] == b'\n' || text[..bytes].ends_with(b"\n"),
-        Status::BadInput { line, .. } => line == feeds || line == feeds.wrapping_add(1),
+        Status::Ok => {
+            bytes < PRINTED.len() || text[bytes] == b'\n' || text[..bytes].ends_with(b"\n")
+        }
+        Status::BadInput { line, .. } => line == feed_count(&text[..bytes]).wrapping_add(1),
         Status::Illegal { group: 0, entry } => entry as usize == entry_count(&called.outcome),
         _ => false,
     }
