@@ -75,7 +75,7 @@ impl Board {
         Ok((board, places))
     }
 
-    // A board without its readers.
+    /// A board without its readers.
     fn open<R: Wait>(
         rt: &R,
         alloc: Global,
@@ -106,7 +106,7 @@ impl Board {
         Ok(Board { desk, head })
     }
 
-    // A reader at what is shown.
+    /// A reader at what is shown.
     fn reader(&mut self, alloc: Global) -> Result<TargetReader, AllocError>
         ensures board { self.new ≡ self.old }
         ensures front { IfOk result (λ reader. reader ≡ self.old) }

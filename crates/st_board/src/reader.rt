@@ -43,7 +43,7 @@ impl Model for TargetReader {
     ghost invariant = { IsReader };
 }
 
-// Takes the other front and its table, where that front is longer. It takes no memory.
+/// Takes the other front and its table, where that front is longer. It takes no memory.
 fn advance(table: &mut Table, front: &mut Front, target: &Table, other: &Front)
     requires book { other.now.seen.book ≡ front.old.seen.book }
     requires mine { IsMergeOf (group_in front.old.seen.log) (proposals_in front.old.seen.log) table.old }
@@ -61,8 +61,8 @@ fn advance(table: &mut Table, front: &mut Front, target: &Table, other: &Front)
     }
 }
 
-// Makes the table of a front that of what is shown, which the front begins. Where the table lacks no rows but those that were merged
-// last, these are enough, and those of them that it has already change nothing.
+/// Makes the table of a front that of what is shown, which the front begins. Where the table lacks no rows but those that were merged
+/// last, these are enough, and those of them that it has already change nothing.
 fn renew(table: &mut Table, front: &Front, shown: &Target)
     requires mine { IsMergeOf (group_in front.now.seen.log) (proposals_in front.now.seen.log) table.old }
     requires earlier { IsPrefix front.now.seen.log shown.now.front.seen.log }
@@ -76,7 +76,7 @@ fn renew(table: &mut Table, front: &Front, shown: &Target)
     }
 }
 
-// Takes the front that is shown, where it is longer, and makes the table that of it. It takes no memory.
+/// Takes the front that is shown, where it is longer, and makes the table that of it. It takes no memory.
 fn follow(table: &mut Table, front: &mut Front, shown: &Target)
     requires book { shown.now.front.seen.book ≡ front.old.seen.book }
     requires mine { IsMergeOf (group_in front.old.seen.log) (proposals_in front.old.seen.log) table.old }
@@ -92,7 +92,7 @@ fn follow(table: &mut Table, front: &mut Front, shown: &Target)
 }
 
 impl TargetReader {
-    // Brings the table and the front up to what is shown, where `left_right` gives it.
+    /// Brings the table and the front up to what is shown, where `left_right` gives it.
     fn caught_up(self) -> TargetReader
         ensures book { result.book ≡ self.book }
         ensures group { result.group ≡ self.group }

@@ -28,7 +28,7 @@ impl Model for Recent {
     ghost invariant = { HasRoom };
 }
 
-// Adds rows to a list that has room for them.
+/// Adds rows to a list that has room for them.
 fn push_all(kept: &mut Vec<Row>, rows: &[Row])
     requires { length kept.old.items + length rows.now ≤ vec_capacity kept.old }
     ensures items { kept.new.items ≡ kept.old.items ++ rows.now }

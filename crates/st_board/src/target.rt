@@ -94,7 +94,7 @@ pub type Desk = Writer<Target, Merge, [u64; 0], Binds>;
 
 pub type Place = Reader<Target, [u64; 0], Binds>;
 
-// Shows readers the copy that has each operation. It waits for those that still read that copy.
+/// Shows readers the copy that has each operation. It waits for those that still read that copy.
 pub fn show_next<R: Wait>(desk: Desk, rt: &R) -> (Desk, ())
     requires { IsReady desk.desk.shown.value (drop desk.behind desk.log.items) }
     ensures shown { result.0.desk.shown.value ≡ fold absorbed desk.desk.shown.value (drop desk.behind desk.log.items) }
@@ -108,7 +108,7 @@ pub fn show_next<R: Wait>(desk: Desk, rt: &R) -> (Desk, ())
     }
 }
 
-// Merges rows into what is shown.
+/// Merges rows into what is shown.
 pub fn show<R: Wait>(desk: &mut Desk, rt: &R, merge: Merge) -> Result<(), AllocError>
     requires ready { IsReady desk.old.desk.shown.value (merge ∷ []) }
     requires idle { drop desk.old.behind desk.old.log.items ≡ [] }

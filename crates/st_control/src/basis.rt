@@ -1,5 +1,5 @@
-//! A check away from its checker. A basis is what the oldest proposal is judged on, in copies; threads judge it with no checker at hand,
-//! and the checker decides by what was found, as far as that still tells of how it stands.
+//! A check away from its checker. A basis is what the oldest proposal is judged on, in copies but for the group, which is shared; threads
+//! judge it with no checker at hand, and the checker decides by what was found, as far as that still tells of how it stands.
 
 ghost use Rattle.std.specs.Prelude.{◌≡◌, ◌<◌, IfOk, IfSome};
 ghost use Rattle.st_net.specs.Demands.{first_broken_of};

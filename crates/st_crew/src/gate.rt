@@ -16,6 +16,7 @@ pub enum Point {
 
 /// What is called at each point, by the thread that has come there. It answers nothing, and may wait.
 pub trait Gate {
+    /// Is called when the thread comes to this point, and before it goes on.
     fn at<R: Wait>(&self, rt: &R, point: Point);
 }
 

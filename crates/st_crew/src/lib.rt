@@ -1,5 +1,5 @@
-//! Jobs that run as threads, and the gate that they call at named points of their work. The top call makes a job of each
-//! application and hands them to `crew_run`.
+//! Jobs that run as threads, and the gate that they call at named points of their work. `st_run` makes a job of each application and of
+//! each worker, and hands them to `crew_run`.
 #![tactic(auto)]
 
 mod crew;

@@ -87,32 +87,4 @@ mod tests {
         assert!(rt; is_same);
         Ok(())
     }
-
-    #[test]
-    fn entries_stand_in_the_order_given(rt: HostRuntime) -> Result<(), Fail> {
-        let mut entries = Vec::new(rt.alloc());
-        entries.push(Entry {
-            event: Event::Check,
-            reply: Reply::Idle,
-        })?;
-        entries.push(Entry {
-            event: Event::Hear { report: 1 },
-            reply: Reply::NoSuch { sent: 0 },
-        })?;
-        let journal = Journal {
-            group: 0,
-            entries: Items::new(entries),
-        };
-        let mut checks = 0;
-        let mut hears_after_check = 0;
-        for entry in journal.entries.as_slice() {
-            match &entry.event {
-                Event::Check => checks = 1,
-                Event::Hear { report } if checks == 1 => hears_after_check = *report,
-                _ => {}
-            }
-        }
-        assert_eq!(rt; hears_after_check, 1);
-        Ok(())
-    }
 }

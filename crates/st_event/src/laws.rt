@@ -70,14 +70,15 @@ pub fn agents_move()
     ensures { AgentsMove }
 {}
 
-/// What is observed of an entity is the report of it with the greatest number among those that were heard; and of two
+/// What is observed of an entity is the report of it with the greatest number among those that were heard, or the opening's where none
+/// was; and of two
 /// reports of one entity the one that was made later has the greater number.
 pub fn observed_is_greatest()
     ensures greatest { ObservedIsGreatest }
     ensures numbered { ReportsAscend }
 {}
 
-/// A fence is the greatest stamp of the commands that were delivered to its entity.
+/// A fence is the greatest stamp of the commands that were delivered to its entity, or 0 where none was.
 pub fn fence_is_greatest()
     ensures { FenceIsGreatest }
 {}

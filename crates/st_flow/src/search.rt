@@ -117,7 +117,7 @@ impl Search {
         Ok(None)
     }
 
-    // Forgets what it noted of each node.
+    /// Forgets what it noted of each node.
     fn forget(&mut self)
         ensures start { self.new.start ≡ self.old.start }
         ensures next { self.new.next ≡ self.old.next }
@@ -128,7 +128,7 @@ impl Search {
         }
     }
 
-    // Notes that the node `y` was reached.
+    /// Notes that the node `y` was reached.
     fn reach(&mut self, y: u32, edge: u32, width: u32) -> Result<(), AllocError>
         requires y_in { y < length self.old.marks.items }
         requires few { length self.old.queue.items < 4294967295 }

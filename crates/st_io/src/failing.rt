@@ -21,6 +21,7 @@ impl Model for FaultPlan {
 }
 
 impl FaultPlan {
+    /// The plan by which the calls of these numbers, from 1, fail. No call was made yet.
     pub fn new(fails: Vec<u32>) -> FaultPlan
         ensures fails { result.fails ≡ fails.items }
         ensures calls { result.calls ≡ 0 }

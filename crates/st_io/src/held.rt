@@ -23,6 +23,7 @@ impl Model for Held {
 }
 
 impl Held {
+    /// No bytes, and no memory yet.
     pub fn new(alloc: Global) -> Held
         ensures bytes { result.bytes ≡ [] }
     {
@@ -31,6 +32,7 @@ impl Held {
         }
     }
 
+    /// The bytes that are held.
     pub fn bytes(&self) -> &[u8]
         ensures { result.now ≡ self.now.bytes }
     {

@@ -9,7 +9,7 @@ use crate::unread::Unread;
 use std::alloc::{AllocError, Global};
 use std::marker::Model;
 
-/// Gives its bytes, as many at a time as the buffer holds, and never fails. It is seen as the bytes that are left.
+/// Gives its bytes, one at least at each read, and never fails. It is seen as the bytes that are left.
 #[derive(Drop)]
 pub struct SureSource {
     unread: Unread,
@@ -24,6 +24,7 @@ impl Model for SureSource {
 }
 
 impl SureSource {
+    /// The source that has these bytes to give.
     pub fn new(bytes: Vec<u8>) -> SureSource
         ensures { result ≡ bytes.items }
     {
@@ -60,6 +61,7 @@ impl Model for SureSink {
 }
 
 impl SureSink {
+    /// The sink that holds nothing, and takes its memory from here.
     pub fn new(alloc: Global) -> SureSink
         ensures { result.bytes ≡ [] }
     {
@@ -92,7 +94,7 @@ impl Sink for SureSink {
 
     ghost faults = { λ _. 0 };
 
-    /// Takes the whole piece where there is memory for it, and else as much as there is room for.
+    /// Takes the whole piece where there is memory for it, and else a part, as long as there is room.
     fn write(&mut self, piece: &[u8]) -> WriteStep
         requires { 0 < length piece.now }
         ensures step { Takes (Some self.old.bytes) (Some self.new.bytes) piece.now result }

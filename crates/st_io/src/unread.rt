@@ -23,6 +23,7 @@ impl Model for Unread {
 }
 
 impl Unread {
+    /// All of these bytes, of which none was given.
     pub fn new(bytes: Vec<u8>) -> Unread
         ensures { result ≡ bytes.items }
     {

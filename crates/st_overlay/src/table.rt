@@ -126,7 +126,7 @@ impl Table {
         }
     }
 
-    /// The values of an entity as they were with these rows set.
+    /// The values of an entity as they would be with these rows set.
     pub fn get_with(&self, rows: &[Row], e: Entity) -> Vals
         requires { IsIn self.now e }
         ensures { result ≡ vals_by e (vals_at self.now e) (target_with (value_in self.now) rows.now e) }

@@ -30,8 +30,8 @@ fn from_in(alloc: Global, args: io::Result<Args>) -> Result<Option<u32>, AllocEr
     }
 }
 
-/// How many entries of each journal stand before the page, by the words `--from N`, and 0 where there are no words; none where the words are
-/// others.
+/// How many entries of each journal stand before the page, by the words `--from N`, and 0 where there are no words; none where the words
+/// are others.
 fn from_of(words: &[String]) -> Option<u32>
     ensures { result ≡ from_of_lem (map string_bytes words.now) }
 {
@@ -72,8 +72,8 @@ fn prepare<S: Source>(
     }
 }
 
-/// The whole call: plays what the source gives behind the first `from` entries of each journal, and writes one text to the sink. Where there
-/// is no such number, the words were none of the player's, and nothing is read.
+/// The whole call: plays what the source gives behind the first `from` entries of each journal, and writes one text to the sink. Where
+/// there is no such number, the words were none of the player's, and nothing is read.
 pub fn player<S: Source, K: Sink>(
     alloc: Global,
     from: Option<u32>,

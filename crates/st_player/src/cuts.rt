@@ -1,5 +1,5 @@
-//! The cut that would be left of a promise: what is joined to its far end, and which links about it are left and which are out. It is made of
-//! the sets that a proposal was judged on, and told with its refusal.
+//! The cut that would be left of a promise: what is joined to its far end, and which links about it are left and which are out. It is made
+//! of the sets that a proposal was judged on, and told with its refusal.
 
 ghost use Rattle.std.specs.Prelude.{◌≡◌, ℕ, ◌<◌, ◌^◌, ◌==◌, ◌&&◌, ◌||◌, not, nat_lt, false, true, All, IfOk, IsTrue, length, slice_index_or, slice_set};
 ghost use Rattle.std.specs.List.{list_any};
@@ -15,8 +15,8 @@ use st_net::{Broken, Entity, EntitySet, GroupTopo};
 use std::alloc::{AllocError, Global};
 
 /// What stands about the least side of a promise that breaks, by numbers: the devices that are joined to its far end, the links of the side
-/// that are left, the links of the smaller part that are out, the entities that change, and what of the links that are out, with their ends,
-/// was not sure before.
+/// that are left, the links of the smaller part that are out, the entities that change, and what of the links that are out, with their
+/// ends, was not sure before.
 #[derive(Drop)]
 pub(crate) struct Cut {
     pub(crate) far: Vec<u32>,

@@ -5,8 +5,8 @@ ghost use Rattle.st_player.specs.declared.pictures.TheConstants.{MOST_BYTES};
 ghost use Rattle.st_player.specs.Laws.{AskedGaveTicket, CountsPlayBack, LongestFits, NoEntryIsLost, PromisesPlayBack, RefusalsTellCuts, StatesPlayBack};
 ghost use Rattle.st_player.specs.Pictures.{room_of};
 
-/// What the opening and the entries behind it tell is how the group stands after them: the state of each entity, the version and what waits,
-/// and whether each promise holds.
+/// What the opening and the entries behind it tell is how the group stands after them: the state of each entity, the version and what
+/// waits, and whether each promise holds.
 pub fn pages_play_back()
     ensures states { StatesPlayBack }
     ensures counts { CountsPlayBack }

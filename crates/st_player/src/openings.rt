@@ -1,4 +1,5 @@
-//! How a group stands where its page begins: the state of each entity, the promises that do not hold, the version, and how many proposals wait.
+//! How a group stands where its page begins: the state of each entity, the promises that do not hold, the version, and how many proposals
+//! wait.
 
 ghost use Rattle.std.specs.Prelude.{◌≡◌, ◌<◌, ◌^◌, IfOk, OnOk, length, map, true};
 ghost use Rattle.serde_json.specs.View.{view, members_view};

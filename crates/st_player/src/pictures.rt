@@ -80,8 +80,8 @@ fn opened_with_parts(
     Ok(opened)
 }
 
-/// Adds a group with its legal journal, the oldest entry first: the entries behind the first `from`, as far as there is room, and how the group
-/// stands before them.
+/// Adds a group with its legal journal, the oldest entry first: the entries behind the first `from`, as far as there is room, and how the
+/// group stands before them.
 fn write_group(
     out: &mut Text,
     alloc: Global,

@@ -26,8 +26,8 @@ pub(crate) struct Told {
     failed: Option<u32>,
 }
 
-/// A group that has gone through a part of its journal: its world; what its entities have told, in the order of entities; and the numbers of
-/// the entries that gave tickets. The world stands on the heap, since a playback goes from hand to hand.
+/// A group that has gone through a part of its journal: its world; what its entities have told, in the order of entities; and the numbers
+/// of the entries that gave tickets. The world stands on the heap, since a playback goes from hand to hand.
 #[derive(Drop)]
 pub(crate) struct Playback {
     world: Box<World>,

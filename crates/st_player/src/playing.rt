@@ -1,4 +1,5 @@
-//! A text is played: a document is read with its journals, these are gone through, and the page is made of them; or the first fault is told.
+//! A text is played: a document is read with its journals, these are gone through, and the page is made of them; or the first fault is
+//! told.
 
 ghost use Rattle.std.specs.Prelude.{◌≡◌, ◌≤◌, All, length, IfOk, true};
 ghost use Rattle.st_io.specs.declared.reading.TheConstants.{MAX_BYTES};
@@ -119,9 +120,9 @@ fn play_doc(alloc: Global, bytes: &[u8], doc: &Doc, from: u32) -> Result<Played,
     }
 }
 
-/// Plays a text of at most 1,048,576 bytes, which a replay form is: a document with its journals. Where it is one, and each journal is legal,
-/// the status is `Ok` and the text is the page, which shows each group behind the first `from` entries of its journal. Else the status and the
-/// text are those with which a replay tells of the first fault. `Err` is for want of memory alone.
+/// Plays a text of at most 1,048,576 bytes, which a replay form is: a document with its journals. Where it is one, and each journal is
+/// legal, the status is `Ok` and the text is the page, which shows each group behind the first `from` entries of its journal. Else the
+/// status and the text are those with which a replay tells of the first fault. `Err` is for want of memory alone.
 pub fn play(alloc: Global, bytes: &[u8], from: u32) -> Result<Played, AllocError>
     requires { length bytes.now ≤ MAX_BYTES }
     ensures { IfOk result (Plays from bytes.now) }

@@ -25,8 +25,8 @@ pub(crate) enum Touched {
     Nothing,
     /// This one, and what is shown of the links that end at it.
     Near(Entity),
-    /// These, whose target a proposal alters that is accepted, and what is shown of the links that end at them. The network is as it was, and
-    /// the same promises hold in the sure set.
+    /// These, whose target a proposal alters that is accepted, and what is shown of the links that end at them. The network is as it was,
+    /// and the same promises hold in the sure set.
     Altered(EntitySet),
 }
 

@@ -1,5 +1,5 @@
-//! Which promises turn with an entry, in the network and in the sure set. They are judged where the entry may have changed the set, but where
-//! it is shown that all hold before and after, or where the entry accepts a proposal: then each holds as before.
+//! Which promises turn with an entry, in the network and in the sure set. They are judged where the entry may have changed the set, but
+//! where it is shown that all hold before and after, or where the entry accepts a proposal: then each holds as before.
 
 ghost use Rattle.std.specs.Prelude.{◌≡◌, ◌<◌, ◌^◌, IfOk, IfSome, length, option_map, true};
 ghost use Rattle.serde_json.specs.View.{view};
@@ -127,8 +127,8 @@ fn moved_set(alloc: Global, set: &EntitySet, at: Entity, is: bool) -> Result<Ent
     Ok(moved)
 }
 
-/// The same where one entity may have come in or gone out. None is judged where all held and it came in, or where all hold in a set beside it
-/// that is within it.
+/// The same where one entity may have come in or gone out. None is judged where all held and it came in, or where all hold in a set beside
+/// it that is within it.
 fn turn_at(
     alloc: Global,
     control: &Control,

@@ -24,8 +24,9 @@ pub enum Status {
     TooLong,
     /// The input is no document: its first bad line, from 1, and the first kind that applies to it.
     BadInput { line: u32, kind: DocKind },
-    /// The journal of this group, from 0, has 200,000 entries. Of `serial` and `demo` an event met it so, and the run stopped there. Of `run`
-    /// it is the lowest at which a job stopped, of which no more is promised than that it is full. No other call ends so.
+    /// The journal of this group, from 0, has 200,000 entries. Of `serial` and `demo` an event met it so, and the run stopped there. Of
+    /// `run` it is the lowest at which a job stopped or an await behind the jobs met it so; no more is promised than that it is full. No
+    /// other call ends so.
     JournalFull { group: u32 },
     /// The reply of this entry, from 1, of the journal of this group, from 0, is not the one that is called for. It is the first such.
     Illegal { group: u32, entry: u32 },

@@ -1,4 +1,4 @@
-//! What every list of names is known for. It is asked where the texts are gathered that name applications.
+//! That each of a list of names is spelled as one. It is asked where the texts are gathered that name applications.
 
 ghost use Rattle.std.specs.Prelude.{◌≡◌, true};
 ghost use Rattle.st_net.specs.Groups.{are_names as are_names_lem};

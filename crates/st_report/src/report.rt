@@ -17,7 +17,7 @@ use crate::names::are_names;
 use crate::promises::{Held, judge_promises, lost_lines, mark_count};
 use crate::receipts::receipt_lines;
 use crate::state::{name_lines, target_lines};
-use crate::wire::{command_count, old_count, report_count, stale_count};
+use crate::wire::{old_count, stale_count};
 use st_event::Log;
 use st_net::Name;
 use st_world::World;
@@ -101,8 +101,8 @@ fn wire_counts(world: &World) -> WireCounts
     let wire = world.wire();
     let entries = world.journal();
     WireCounts {
-        commands: u64::from(command_count(wire)),
-        reports: u64::from(report_count(wire)),
+        commands: u64::from(wire.command_count()),
+        reports: u64::from(wire.report_count()),
         stale: stale_count(entries) as u64,
         old: old_count(entries) as u64,
     }

@@ -10,7 +10,6 @@ ghost use Rattle.st_report.specs.Sums.{is_refusing as is_refusing_lem, accepted_
 
 use crate::promises::{judge_promises, mark_count};
 use crate::report::version;
-use crate::wire::{command_count, report_count};
 use st_event::{Entry, Reply, Verdict};
 use st_net::GroupTopo;
 use st_text::{Text, Word, print_line};
@@ -88,9 +87,9 @@ fn print_sent(world: &World, out: &mut Text) -> Result<(), AllocError>
     print_line(
         b"commands",
         &[
-            Word::Number(u64::from(command_count(wire))),
+            Word::Number(u64::from(wire.command_count())),
             Word::Plain(b"reports"),
-            Word::Number(u64::from(report_count(wire))),
+            Word::Number(u64::from(wire.report_count())),
             Word::Plain(b"unsettled"),
             Word::Number(unsettled.len() as u64),
         ],

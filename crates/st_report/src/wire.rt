@@ -1,32 +1,9 @@
 //! What passed the wire of a group: how many messages were sent, and how many of them came too late.
 
-ghost use Rattle.std.specs.Prelude.{◌≡◌, length};
+ghost use Rattle.std.specs.Prelude.{◌≡◌};
 ghost use Rattle.st_report.specs.Counts.{is_stale as is_stale_lem, is_old as is_old_lem, stale_count as stale_count_lem, old_count as old_count_lem};
 
 use st_event::{Entry, Reply};
-use st_wire::{Took, Wire};
-
-/// How many commands were sent.
-pub(crate) fn command_count(wire: &Wire) -> u32
-    ensures { result ≡ length wire.now.commands }
-{
-    // There is no command of number 0, and the answer says how many there are.
-    match wire.command(0) {
-        Took::NoSuch { sent } => sent,
-        Took::Got(_) => unreachable!(),
-    }
-}
-
-/// How many reports were made.
-pub(crate) fn report_count(wire: &Wire) -> u32
-    ensures { result ≡ length wire.now.reports }
-{
-    // As with commands.
-    match wire.report(0) {
-        Took::NoSuch { sent } => sent,
-        Took::Got(_) => unreachable!(),
-    }
-}
 
 /// Whether an entry is the arrival of a command that came too late.
 fn is_stale(entry: &Entry) -> bool

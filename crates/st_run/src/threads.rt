@@ -109,10 +109,11 @@ fn all_numbered(journals: &[Journal])
 /// Runs the scripts of a document by threads over a service of its groups: one for each application; one for the checker of each group to
 /// which a `propose` goes, which makes a check off the lock for each of them; and one for the updater and one for the monitor of each group
 /// that a `settle` names, which make a half of a round for each of them. It calls the gate behind each read, before each half that an
-/// updater or a monitor makes, and before each judgement off the lock that a job makes. The order in which what different threads do comes is free. Where
-/// no event met a full journal the scripts were carried out. Else a group is named whose journal is full: the lowest at which a job
-/// stopped, while the others went on, or which an await behind the jobs met full. No more is promised here of that group than that its
-/// journal is full. Journals and logs stand in the order of the document. It waits for its threads. At `Err`, which is want of memory alone, nothing is handed back.
+/// updater or a monitor makes, and before each judgement off the lock that a job makes. The order in which what different threads do comes
+/// is free. Where no event met a full journal the scripts were carried out. Else a group is named whose journal is full: the lowest at
+/// which a job stopped, while the others went on, or which an await behind the jobs met full. No more is promised here of that group than
+/// that its journal is full. Journals and logs stand in the order of the document. It waits for its threads. At `Err`, which is want of
+/// memory alone, nothing is handed back.
 pub fn run_scripts<R: Threads + Wait + Sync, G: Gate + Sync>(
     rt: &R,
     alloc: Global,

@@ -41,7 +41,7 @@ apps_of scripts = map (λ acts. record { name = codes "up"; acts = acts }) scrip
 abbrev doc_of : List WireLine → List (List Act) → Doc
 doc_of lines scripts = record { groups = two_paths ∷ []; wires = lines ∷ []; apps = apps_of scripts; order = []; journal_at = None }
 
--- the first act comes late, at turn 2
+-- the first command comes late, at turn 2
 abbrev late : List WireLine
 late = Hold Command 1 2 ∷ []
 

@@ -11,7 +11,7 @@ use Rattle.st_event.specs.declared.journal.Entry.{Entry}
 use Rattle.st_wire.specs.declared.line.WireLine.{WireLine}
 use Rattle.st_world.specs.declared.world.rounds.Going.{Going}
 use Rattle.st_world.specs.World.{WorldView}
-use Rattle.st_world.specs.Rounds.{Course, course_from, is_full, Goes, HasSamePlant}
+use Rattle.st_world.specs.Rounds.{Course, course_from, is_full, Goes, HasSameSetting}
 use Rattle.st_world.specs.Acts.{ActFits, act_course, all_checked, group_number, seen_by}
 use Rattle.st_serial.specs.Serial.{GroupState, FitsIn, act_done, checks_in, course_in, groups_in, logged, state_at, state_of, states_of}
 use Rattle.st_serial.proofs.Runs.{decide_full, decide_next, decided_from, fits_group, group_in, other_done, read_done, run_of}
@@ -34,7 +34,7 @@ low_state : (ws : List WorldView) (n : ℕ) → n < length ws → n < length (st
 low_state ws n low = omega (arith, low, states_many ws)
 
 -- a world that has gone through a course
-went : (old new : WorldView) (course : Course) (going : Going) → HasSamePlant old new → Goes new course going → state_of new ≡ state_at (state_of old) course
+went : (old new : WorldView) (course : Course) (going : Going) → HasSameSetting old new → Goes new course going → state_of new ≡ state_at (state_of old) course
 went old new course going plant goes =
     ap (λ (g : Group). record { history = record { group = g; past = new.history.past }; lines = new.lines }) plant.group
     ∙ ap (λ (lines : List WireLine). record { history = record { group = old.history.group; past = new.history.past }; lines = lines }) plant.lines
@@ -57,7 +57,7 @@ world_read app act ws logs longer n d entry number low seen adds =
     ∙ read_done app act (states_of ws) logs longer n (state_of d) entry number (low_state ws n low) seen_in adds
 
 -- another act changes its own
-pub world_acted : (app : AppId) (act : Act) (ws : List WorldView) (logs : List (List LogEntry)) (n : ℕ) (d new : WorldView) (going : Going) (full : Option ℕ) → n ≡ group_number act → n < length ws → None ≡ seen_by act (slice_index_or ws n d).history → HasSamePlant (slice_index_or ws n d) new → Goes new (act_course app act (slice_index_or ws n d).history (slice_index_or ws n d).lines) going → full ≡ (if is_full going then Some n else None) → run_of (states_of (set ws n new)) logs full ≡ act_done app act (run_of (states_of ws) logs None)
+pub world_acted : (app : AppId) (act : Act) (ws : List WorldView) (logs : List (List LogEntry)) (n : ℕ) (d new : WorldView) (going : Going) (full : Option ℕ) → n ≡ group_number act → n < length ws → None ≡ seen_by act (slice_index_or ws n d).history → HasSameSetting (slice_index_or ws n d) new → Goes new (act_course app act (slice_index_or ws n d).history (slice_index_or ws n d).lines) going → full ≡ (if is_full going then Some n else None) → run_of (states_of (set ws n new)) logs full ≡ act_done app act (run_of (states_of ws) logs None)
 world_acted app act ws logs n d new going full number low seen plant goes full_is =
     let w = slice_index_or ws n d in
     let here = sym (state_in ws n d) in
@@ -71,7 +71,7 @@ world_acted app act ws logs n d new going full number low seen plant goes full_i
 
 -- the checks of the group of a number led to this world
 abbrev pub IsChecked : List WorldView → ℕ → WorldView → WorldView → Going → Type 0
-IsChecked ws i d new going = HasSamePlant (slice_index_or ws i d) new × Goes new (all_checked (slice_index_or ws i d).history.group (course_from (slice_index_or ws i d).history.past)) going
+IsChecked ws i d new going = HasSameSetting (slice_index_or ws i d) new × Goes new (all_checked (slice_index_or ws i d).history.group (course_from (slice_index_or ws i d).history.past)) going
 
 pub world_full : (i : ℕ) (ws : List WorldView) (d new : WorldView) (going : Going) → i < length ws → IsChecked ws i d new going → is_full going ≡ true → record { groups = states_of (set ws i new); full = Some i } ≡ decided_from i (states_of ws)
 world_full i ws d new going low checked full =

@@ -34,11 +34,12 @@ pub enum Acted {
 }
 
 impl<J: Naming, L: Ledger, H: Wait + Drop> Service<J, L, H> {
-    /// Does an act for the pass of an application. An act that takes the lock of a room teaches the pass the room's latest front, and
-    /// what that accepts; a read takes no lock, and the gate is called behind it; the checks of an await are judged off the lock, and the
-    /// gate is called before each. Entries made before a refusal stand, and are in the pass's list. Where a publication is refused the
-    /// room is spent: this call answers want of memory, and so does each later call that takes its lock, which enters nothing. A read goes
-    /// on. It may wait for the room, and for readers.
+    /// Does an act for the pass of an application. An act that takes the lock of a room teaches the pass the room's latest front, and what
+    /// that accepts; a read takes no lock, and the gate is called behind it; the checks of an await are judged off the lock, and the gate
+    /// is called before each. Entries made before a refusal stand, and are in the pass's list. Where a publication is refused the room is
+    /// spent: this call answers want of memory, and so does each later call that takes its lock, which enters nothing. A read goes on. At
+    /// `Err` nothing is logged. What is said of a spent room stands in clauses inside the crate (`Room::work`, `Locked::work`). It may wait
+    /// for the room, and for readers.
     pub fn step_app<R: Threads + Wait + Sync, G: Gate>(
         &self,
         rt: &R,
@@ -121,6 +122,7 @@ impl<J: Naming, L: Ledger, H: Wait + Drop> Service<J, L, H> {
         ensures err { OnErr result (pass.new.log ≡ pass.old.log) }
     {
         let room = self.rooms[group].lock(rt);
+        // Each room stands at its own number, so this never comes: under a lock only the type of a room is known.
         if room.group != group {
             return Err(AllocError);
         }

@@ -49,7 +49,8 @@ pub(crate) struct Shut<J: Naming, H: Wait + Drop> {
 
 impl<J: Naming, L: Ledger, H: Wait + Drop> Service<J, L, H> {
     /// Ends the service, of which all passes are handed in, in their order, and gives the journals of the rooms and the logs of the
-    /// applications. At `Err`, as where a room is spent, the service and the passes are given up. It may wait for readers.
+    /// applications. Each journal is legal, of a sound group, and each pass's list has the places of just its own entries (`IsWhole`). At
+    /// `Err`, as where a room is spent, the service and the passes are given up. It may wait for readers.
     pub fn close(self, alloc: Global, passes: Vec<Pass<J, L>>) -> Result<Closed, AllocError>
         requires all { length passes.items ≡ self.passes }
         requires numbers { (n : ℕ) (p : _) → n < length passes.items → (slice_index_or passes.items n p).number ≡ n }

@@ -1,4 +1,4 @@
-//! The rooms of all groups behind their locks, and the passes by which threads work in them. The top call starts a service over worlds,
+//! The rooms of all groups behind their locks, and the passes by which threads work in them. `st_run` starts a service over worlds,
 //! hands each job a pass, and takes journals and logs when it closes.
 #![tactic(auto)]
 

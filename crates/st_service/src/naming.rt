@@ -1,4 +1,5 @@
-//! What the rooms of a service are of, by their numbers. It stands in proofs alone: under a lock only the type is known.
+//! The group, the lines and the loss plan of each room of a service, by its number. It stands in proofs alone: under a lock only the type
+//! is known.
 
 use std::marker::Brand;
 

@@ -135,6 +135,7 @@ impl<J: Naming, L: Ledger, H: Wait + Drop> Service<J, L, H> {
         ensures reads { IfOk result (λ _. IsTaught pass.new group) }
     {
         let room = self.rooms[group].lock(rt);
+        // Each room stands at its own number, so this never comes: under a lock only the type of a room is known.
         if room.group != group {
             return Err(AllocError);
         }
@@ -158,6 +159,7 @@ impl<J: Naming, L: Ledger, H: Wait + Drop> Service<J, L, H> {
         ensures reads { IfOk result (λ _. IsTaught pass.new group) }
     {
         let mut room = self.rooms[group].lock(rt);
+        // Each room stands at its own number, so this never comes: under a lock only the type of a room is known.
         if room.group != group {
             return Err(AllocError);
         }

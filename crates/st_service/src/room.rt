@@ -11,7 +11,7 @@ ghost use Rattle.st_event.specs.Legal.{IsLegal};
 ghost use Rattle.st_event.specs.Proposals.{first_rows, pending, overlays, deciders};
 ghost use Rattle.st_world.specs.Acts.{seen_at as seen_at_lem};
 ghost use Rattle.st_world.specs.Commits.{Begins, MayCommit};
-ghost use Rattle.st_world.specs.Rounds.{HasSamePlant, IsPartOf, is_full, unsettled as unsettled_lem};
+ghost use Rattle.st_world.specs.Rounds.{HasSameSetting, IsPartOf, is_full, unsettled as unsettled_lem};
 ghost use Rattle.st_world.specs.World.{IsBeginning};
 ghost use Rattle.st_service.specs.OffLock.{going_by};
 ghost use Rattle.st_service.specs.Rooms.{Adds, IsSameRoom, WasRefused};
@@ -54,7 +54,7 @@ fn enter(world: &mut World, number: u32, work: Work<'_>) -> Result<Going, AllocE
     requires may { MayDo work world.old.history.past }
     ensures ok { IfOk result (λ going. course_at number work.entry world.old.history.group world.old.lines world.old.history.past ≡ record { past = world.new.history.past; stopped = is_full going }) }
     ensures err { OnErr result (IsPartOf world.old world.new (course_at number work.entry world.old.history.group world.old.lines world.old.history.past)) }
-    ensures plant { HasSamePlant world.old world.new }
+    ensures setting { HasSameSetting world.old world.new }
 {
     match work {
         Work::OneAct(act) => world.act(AppId(number), act),
@@ -71,7 +71,7 @@ fn commit(world: &mut World, judged: &Judged) -> Result<Going, AllocError>
     requires { MayCommit world.old.history.past judged.now.ticket }
     ensures ok { IfOk result (λ going. check_course judged.now.ticket world.old.history.group world.old.history.past ≡ record { past = world.new.history.past; stopped = is_full going }) }
     ensures err { OnErr result (world.new.history ≡ world.old.history) }
-    ensures plant { HasSamePlant world.old world.new }
+    ensures setting { HasSameSetting world.old world.new }
 {
     let committed = world.commit(judged)?;
     Ok(going_of(&committed))
@@ -115,8 +115,9 @@ impl<H: Wait + Drop> Room<H> {
         }
     }
 
-    /// Does a work for the pass of this number, and publishes what that overlays the target with. At `Full` an event met a full journal; then, and at
-    /// `Err`, a part of the events was entered, from the first, and stands. Where the publication is refused, the room is spent.
+    /// Does a work for the pass of this number, and publishes what that overlays the target with. At `Full` an event met a full journal;
+    /// then, and at `Err`, a part of the events was entered, from the first, and stands. Where the publication is refused, the room is
+    /// spent.
     pub fn work(&mut self, alloc: Global, number: u32, work: Work<'_>) -> Result<Going, AllocError>
         requires open { self.old.spent ≡ false }
         requires fits { WorkFits work self.old.history.group }
@@ -187,7 +188,7 @@ impl<H: Wait + Drop> Room<H> {
         self.world.control().store().decided(ticket)
     }
 
-    /// What the oldest proposal is judged on, in copies. `Idle` where none is pending.
+    /// What the oldest proposal is judged on, in copies but for the group, which is shared. `Idle` where none is pending.
     pub fn begin_check(&self) -> Result<Begin, AllocError>
         ensures { IfOk result (Begins self.now.history) }
     {

@@ -1,5 +1,5 @@
-//! Rounds in a room, each a chain of holds: one at which the entities that are not settled are listed, and one for each entity's turn. The
-//! lock is given back between them.
+//! Rounds in a room, each a chain of holds: one at which the entities that are not settled are listed, and one for each entity's turn; a
+//! `round` or a half has one more, which counts what is left. The lock is given back between them.
 
 ghost use Rattle.std.specs.Prelude.{◌≡◌, ◌*◌, ◌<◌, All, length, IfOk};
 ghost use Rattle.st_net.specs.Groups.{IsEntityOf};

@@ -61,6 +61,7 @@ impl<J: Naming, L: Ledger, H: Wait + Drop> Service<J, L, H> {
         ensures reads { IfOk result (λ _. IsTaught pass.new group) }
     {
         let mut room = self.rooms[group].lock(rt);
+        // Each room stands at its own number, so this never comes: under a lock only the type of a room is known.
         if room.group != group {
             return Err(AllocError);
         }
@@ -80,6 +81,7 @@ impl<J: Naming, L: Ledger, H: Wait + Drop> Service<J, L, H> {
         ensures reads { OnOk result (IsTaught pass.new group) }
     {
         let room = self.rooms[group].lock(rt);
+        // Each room stands at its own number, so this never comes: under a lock only the type of a room is known.
         if room.group != group {
             return Err(AllocError);
         }
@@ -100,12 +102,13 @@ impl<J: Naming, L: Ledger, H: Wait + Drop> Service<J, L, H> {
         ensures reads { IfOk result (λ _. IsTaught pass.new group) }
     {
         let room = self.rooms[group].lock(rt);
+        // Each room stands at its own number, so this never comes: under a lock only the type of a room is known.
         if room.group != group {
             return Err(AllocError);
         }
         pass.unsettled_in(&room)
     }
 
-    /// Ends the service without its passes, at any time. It may wait for readers, and has no refusal.
+    /// Ends the service without its passes, at any time. It may wait for readers, and cannot be refused.
     pub fn give_up(self) {}
 }

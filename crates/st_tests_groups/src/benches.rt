@@ -1,5 +1,5 @@
-//! Each public function once. The numbers of parts are those of a fat tree of ten pods and those of the limits; the rest is worked by hand on
-//! two ToRs that two switches join, with a promise of half the capacity between them.
+//! Each public function once. The numbers of parts are those of a fat tree of ten pods and those of the limits; the rest is worked by hand
+//! on two ToRs that two switches join, with a promise of half the capacity between them.
 ghost use Rattle.st_net.specs.Sets.{MarksOf};
 
 use st_bench_groups::{

@@ -78,7 +78,7 @@ struct Runs {
     more_runs: u64,
 }
 
-// The link p9e0a0 is the first of the 50 of pod 9, the ToR p9e0 device 90, and the promise of p0e0 and p9e0 number 44.
+/// The link p9e0a0 is the first of the 50 of pod 9, the ToR p9e0 device 90, and the promise of p0e0 and p9e0 number 44.
 fn seen_of(alloc: Global, topo: &GroupTopo, book: &mut Book) -> Result<Runs, AllocError>
     requires book { IsBookOf topo.now book.old.of }
 {

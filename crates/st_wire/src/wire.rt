@@ -98,6 +98,20 @@ impl Wire {
         self.reports.reserve(n as usize)
     }
 
+    /// How many commands were sent.
+    pub fn command_count(&self) -> u32
+        ensures { result ≡ length self.now.commands }
+    {
+        self.commands.len() as u32
+    }
+
+    /// How many reports were made.
+    pub fn report_count(&self) -> u32
+        ensures { result ≡ length self.now.reports }
+    {
+        self.reports.len() as u32
+    }
+
     /// The command of a number. `NoSuch` comes exactly where the number is 0 or above those sent.
     pub fn command(&self, n: u32) -> Took<Command>
         ensures { result ≡ took_of self.now.commands n }

@@ -16,7 +16,7 @@ use Rattle.st_world.specs.declared.world.rounds.Going.TheVariants.{On, Full}
 use Rattle.st_world.specs.declared.world.rounds.Rounded.{Rounded}
 use Rattle.st_world.specs.declared.world.rounds.Rounded.TheVariants.{Did, JournalFull}
 use Rattle.st_world.specs.World.{WorldView, IsBeginning}
-use Rattle.st_world.specs.Rounds.{Course, course_from, course_with, enter, turns, unsettled, round, Rounds, Goes, HasSamePlant, IsPartOf}
+use Rattle.st_world.specs.Rounds.{Course, course_from, course_with, enter, turns, unsettled, round, Rounds, Goes, HasSameSetting, IsPartOf}
 use Rattle.st_world.specs.Acts.{checked_while, is_something, is_none_left, proposed, rounds_done, with_room}
 use Rattle.st_world.proofs.RunLaws.{beginning-self, beginning-more, enter-grows, enter-stopped, turns-grows, turns-stopped, round-grows}
 use Rattle.st_world.proofs.RoundLaws.{IsOnWay, part_goes, part_parts, stops_there}
@@ -122,7 +122,7 @@ first_check waits now made few some =
     ap (λ (n : ℕ). checks_from waits n now) fewer ∙ while_one now.history.group waits (MAX_PENDING - (made + 1)) (course_from now.history.past) some
 
 -- after one check more the others are left
-pub check_goes : (waits : List Proposal → Bool) (old now next : WorldView) (made : ℕ) (going : Going) → IsChecking waits old now made → made < MAX_PENDING → waits (pending now.history.past) ≡ true → Goes next (check_now now) going → going ≡ On → HasSamePlant now next → IsChecking waits old next (made + 1)
+pub check_goes : (waits : List Proposal → Bool) (old now next : WorldView) (made : ℕ) (going : Going) → IsChecking waits old now made → made < MAX_PENDING → waits (pending now.history.past) ≡ true → Goes next (check_now now) going → going ≡ On → HasSameSetting now next → IsChecking waits old next (made + 1)
 check_goes waits old now next made going way few some =
     part_goes (checks_behind waits made) old now next (checks_from waits MAX_PENDING old) (checks_from waits (MAX_PENDING - made) now) (check_now now) going way
     (first_check waits now made few some) (enter-grows now.history.group (course_from now.history.past) Check)
@@ -236,14 +236,14 @@ first_round rounds now made few =
     ap (λ (n : ℕ). rounds_from n now) fewer ∙ rounds_one now.history.group now.lines (rounds - (made + 1)) now.history.past
 
 -- after one round more the others are left
-pub round_goes : (rounds : ℕ) (old now next : WorldView) (made : ℕ) (answer : Rounded) (count : ℕ) → IsSettling rounds old now made → made < rounds → answer ≡ Did count → Rounds now next answer → HasSamePlant now next → IsSettling rounds old next (made + 1)
+pub round_goes : (rounds : ℕ) (old now next : WorldView) (made : ℕ) (answer : Rounded) (count : ℕ) → IsSettling rounds old now made → made < rounds → answer ≡ Did count → Rounds now next answer → HasSameSetting now next → IsSettling rounds old next (made + 1)
 round_goes rounds old now next made answer count way few is does plant =
     let did : Rounds now next (Did count) = subst (λ (a : Rounded). Rounds now next a) is does in
     part_goes (rounds_behind rounds made) old now next (rounds_from rounds old) (rounds_from (rounds - made) now) (round_now now) On way
     (first_round rounds now made few) (round-grows now.history.group now.lines now.history.past) (sym did.0) refl plant
 
 -- where it leaves none unsettled it is the last
-pub round_settles : (rounds : ℕ) (old now next : WorldView) (made : ℕ) (answer : Rounded) (count : ℕ) → IsSettling rounds old now made → made < rounds → answer ≡ Did count → count ≡ 0 → Rounds now next answer → HasSamePlant now next → Goes next (rounds_from rounds old) On
+pub round_settles : (rounds : ℕ) (old now next : WorldView) (made : ℕ) (answer : Rounded) (count : ℕ) → IsSettling rounds old now made → made < rounds → answer ≡ Did count → count ≡ 0 → Rounds now next answer → HasSameSetting now next → Goes next (rounds_from rounds old) On
 round_settles rounds old now next made answer count way few is none does plant =
     let did : Rounds now next (Did count) = subst (λ (a : Rounded). Rounds now next a) is does in
     settles_none rounds old next (made + 1) (sym did.1 ∙ none) (round_goes rounds old now next made answer count way few is does plant)

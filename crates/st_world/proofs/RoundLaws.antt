@@ -36,7 +36,7 @@ use Rattle.st_world.specs.declared.world.Stepped.TheVariants.{Did}
 use Rattle.st_world.specs.declared.world.rounds.Going.{Going}
 use Rattle.st_world.specs.declared.world.rounds.Going.TheVariants.{On, Full}
 use Rattle.st_world.specs.World.{WorldView, IsBeginning, Steps}
-use Rattle.st_world.specs.Rounds.{Course, course_from, course_with, enter, enter_all, follow_ups_of, follow_ups, poll, turn, turns, round, unsettled, HasSamePlant, IsPartOf, SettlesSent}
+use Rattle.st_world.specs.Rounds.{Course, course_from, course_with, enter, enter_all, follow_ups_of, follow_ups, poll, turn, turns, round, unsettled, HasSameSetting, IsPartOf, SettlesSent}
 use Rattle.st_world.proofs.RunLaws.{entered, beginning-self, beginning-more, enter-grows, enter_all-grows, turn-grows, turns-grows, enter_all-stopped, turns-stopped, unsettled_fit}
 use Rattle.st_world.proofs.SettleLaws.{round_made}
 
@@ -45,11 +45,11 @@ use Rattle.st_world.proofs.SettleLaws.{round_made}
 -- a world that was reached on the way of a course: what is left, from where the world stands, ends as all of the course
 pub record IsOnWay (old now : WorldView) (whole left : Course) : Type 0 where
   pub began : IsBeginning old.history.past now.history.past
-  pub plant : HasSamePlant old now
+  pub plant : HasSameSetting old now
   pub ends : left ≡ whole
 
 -- the plant is as at the start, since it is as it was in between
-plant_whole : (old now new : WorldView) → HasSamePlant old now → HasSamePlant now new → HasSamePlant old new
+plant_whole : (old now new : WorldView) → HasSameSetting old now → HasSameSetting now new → HasSameSetting old new
 plant_whole old now new before after = record { group = after.group ∙ before.group; lines = after.lines ∙ before.lines }
 
 -- on the way of what was left on the way
@@ -61,7 +61,7 @@ way_more old now next whole left less way more = record {
 }
 
 -- a first part was entered whole: what follows it is left
-pub way_from : (rest : Group → List WireLine → Course → Course) (old now : WorldView) (first : Course) (going : Going) → IsBeginning old.history.past first.past → course_with going now ≡ first → going ≡ On → HasSamePlant old now → IsOnWay old now (rest old.history.group old.lines first) (rest now.history.group now.lines (course_from now.history.past))
+pub way_from : (rest : Group → List WireLine → Course → Course) (old now : WorldView) (first : Course) (going : Going) → IsBeginning old.history.past first.past → course_with going now ≡ first → going ≡ On → HasSameSetting old now → IsOnWay old now (rest old.history.group old.lines first) (rest now.history.group now.lines (course_from now.history.past))
 way_from rest old now first going grows is on plant = record {
   began = subst (λ (course : Course). IsBeginning old.history.past course.past) (sym is) grows;
   plant = plant;
@@ -127,7 +127,7 @@ first_left : {X : Type 0} (xs : List X) (i : ℕ) (default : X) → i < length x
 first_left xs i default low = rw (add-one, drop-cons xs i default low) refl
 
 -- the next part was entered whole
-pub part_goes : (rest : Group → List WireLine → Course → Course) (old now next : WorldView) (whole left first : Course) (going : Going) → IsOnWay old now whole left → left ≡ rest now.history.group now.lines first → IsBeginning now.history.past first.past → course_with going next ≡ first → going ≡ On → HasSamePlant now next → IsOnWay old next whole (rest next.history.group next.lines (course_from next.history.past))
+pub part_goes : (rest : Group → List WireLine → Course → Course) (old now next : WorldView) (whole left first : Course) (going : Going) → IsOnWay old now whole left → left ≡ rest now.history.group now.lines first → IsBeginning now.history.past first.past → course_with going next ≡ first → going ≡ On → HasSameSetting now next → IsOnWay old next whole (rest next.history.group next.lines (course_from next.history.past))
 part_goes rest old now next whole left first going way split grows is on plant =
     let here = way_from rest now next first going grows is on plant in
     way_more old now next whole left (rest next.history.group next.lines (course_from next.history.past)) way (record { began = here.began; plant = here.plant; ends = here.ends ∙ sym split })
@@ -164,7 +164,7 @@ first_arrival : (make : ℕ → Event) (w : WorldView) (numbers : List ℕ) (i :
 first_arrival make w numbers i low = ap (arrivals_from make w) (first_left numbers i 0 low)
 
 -- one message more arrived
-pub arrival_goes : (make : ℕ → Event) (old now next : WorldView) (numbers : List ℕ) (i : ℕ) (going : Going) → IsArriving make old now numbers i → i < length numbers → course_with going next ≡ arrival_at make now numbers i → going ≡ On → HasSamePlant now next → IsArriving make old next numbers (i + 1)
+pub arrival_goes : (make : ℕ → Event) (old now next : WorldView) (numbers : List ℕ) (i : ℕ) (going : Going) → IsArriving make old now numbers i → i < length numbers → course_with going next ≡ arrival_at make now numbers i → going ≡ On → HasSameSetting now next → IsArriving make old next numbers (i + 1)
 arrival_goes make old now next numbers i going way low =
     part_goes (arrivals_behind make numbers i) old now next (arrivals_from make old numbers) (arrivals_from make now (drop i numbers)) (arrival_at make now numbers i) going way
     (first_arrival make now numbers i low) (enter-grows now.history.group (course_from now.history.past) (make (get_or numbers i 0)))
@@ -220,7 +220,7 @@ first_turn : (w : WorldView) (es : List Entity) (i : ℕ) → i < length es → 
 first_turn w es i low = ap (turns_from w) (first_left es i (Device 0) low)
 
 -- one entity more had its turn
-pub turn_goes : (old now next : WorldView) (es : List Entity) (i : ℕ) (going : Going) → IsTurning old now es i → i < length es → course_with going next ≡ turn_at now es i → going ≡ On → HasSamePlant now next → IsTurning old next es (i + 1)
+pub turn_goes : (old now next : WorldView) (es : List Entity) (i : ℕ) (going : Going) → IsTurning old now es i → i < length es → course_with going next ≡ turn_at now es i → going ≡ On → HasSameSetting now next → IsTurning old next es (i + 1)
 turn_goes old now next es i going way low =
     part_goes (turns_behind es i) old now next (turns_from old es) (turns_from now (drop i es)) (turn_at now es i) going way
     (first_turn now es i low) (turn-grows now.history.group now.lines (course_from now.history.past) (get_or es i (Device 0)))
@@ -303,7 +303,7 @@ all_part r old new whole going grows is =
     })
 
 -- a round that met no full journal settles what it is to settle
-pub round_did_settle : (old new : WorldView) → IsLegal old.history.group old.history.past → course_with On new ≡ round old.history.group old.lines old.history.past → HasSamePlant old new → SettlesSent old new
+pub round_did_settle : (old new : WorldView) → IsLegal old.history.group old.history.past → course_with On new ≡ round old.history.group old.lines old.history.past → HasSameSetting old new → SettlesSent old new
 round_did_settle old new legal is plant =
     let made = round_made old.history.group old.lines old.history.past new.history.past legal (sym is) in
     record {

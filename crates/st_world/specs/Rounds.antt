@@ -130,7 +130,7 @@ pub record IsPartOf (old new : WorldView) (course : Course) : Type 0 where
   pub part : IsBeginning new.history.past course.past
 
 -- the group and the loss plan are as before
-pub record HasSamePlant (old new : WorldView) : Type 0 where
+pub record HasSameSetting (old new : WorldView) : Type 0 where
   pub group : new.history.group ≡ old.history.group
   pub lines : new.lines ≡ old.lines
 

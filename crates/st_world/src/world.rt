@@ -15,7 +15,7 @@ ghost use Rattle.st_event.specs.Standing.{standing_of};
 ghost use Rattle.st_event.specs.Versions.{value_at};
 ghost use Rattle.st_control.specs.Control.{standing_in, versions_in};
 ghost use Rattle.st_world.specs.Machine.{is_without_memory};
-ghost use Rattle.st_world.specs.Rounds.{enter as enter_lem, course_from, Goes, IsPartOf, HasSamePlant};
+ghost use Rattle.st_world.specs.Rounds.{enter as enter_lem, course_from, Goes, IsPartOf, HasSameSetting};
 ghost use Rattle.st_world.specs.World.{StepSpends, Steps};
 
 pub mod acts;
@@ -137,9 +137,9 @@ impl World {
         ensures ok { IfOk result (Goes self.new (enter_lem self.old.history.group (course_from self.old.history.past) event)) }
         ensures err { OnErr result (IsPartOf self.old self.new (enter_lem self.old.history.group (course_from self.old.history.past) event)) }
         ensures none { OnErr result (self.new.history ≡ self.old.history) }
-        ensures plant { HasSamePlant self.old self.new }
+        ensures setting { HasSameSetting self.old self.new }
     {
-        // Room first, as there.
+        // The room is taken first, so that no entry is answered and not kept.
         let Some(entry) = next_entry(&mut self.journal)? else {
             return Ok(Going::Full);
         };
@@ -246,9 +246,10 @@ impl World {
         self.is_legal();
     }
 
-    /// At each moment so far commands, agents and reports agreed with the target: no command is newer than its entity's stamp, and it
-    /// has the target's values of its stamp; no fence is above the stamp; a report that is not busy tells what its agent is until that one
-    /// begins a command or its entity fails; and an agent that is not busy and was not spoiled by a failure has the target's values of its fence.
+    /// At each moment so far commands, agents and reports agreed with the target: no command is newer than its entity's stamp, and it has
+    /// the target's values of its stamp; no fence is above the stamp; a report that is not busy tells what its agent is until that one
+    /// begins a command or its entity fails; and an agent that is not busy and was not spoiled by a failure has the target's values of its
+    /// fence.
     pub fn agents_agree(&self)
         ensures { AtEach (AgentsAgree self.now.history.group) self.now.history.past }
     {

@@ -1,5 +1,5 @@
-//! The journal player as a program: its arguments, standard input and standard output are handed to the whole call, whose status is the exit
-//! status. There is no logic here.
+//! The journal player as a program: its arguments, standard input and standard output are handed to the whole call, whose status is the
+//! exit status. There is no logic here.
 #![tactic(auto)]
 
 use st_io::{StdSink, StdSource};

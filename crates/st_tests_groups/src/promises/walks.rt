@@ -1,5 +1,5 @@
-//! Walks and single promises, worked by hand on two ToRs that two switches join, with a promise of six tenths of the capacity: while
-//! one of the switches is down half of the capacity is left.
+//! Walks and single promises, worked by hand on two ToRs that two switches join, with a promise of half of the capacity: a half is left
+//! while one of the switches is down, and nothing while both are.
 ghost use Rattle.std.specs.Prelude.{◌<◌, length, IfOk};
 ghost use Rattle.st_net.specs.Sets.{MarksOf};
 ghost use Rattle.st_promise.specs.Book.{IsBookOf};
@@ -7,23 +7,9 @@ ghost use Rattle.st_promise.specs.Book.{IsBookOf};
 use super::every_entity;
 use st_net::{Entity, EntitySet, GroupTopo};
 use st_promise::{Book, Reached, reach};
-use st_samples::group;
+use st_samples::{TWO_PATH, group};
 use std::alloc::{AllocError, Global};
 use std::test::Fail;
-
-/// Two ToRs, t1 and t2, and two switches, a1 and a2.
-const SIX_TENTHS: &str = "statesman 1
-group dc1
-device t1 tor
-device t2 tor
-device a1 switch
-device a2 switch
-link l1 t1 a1 10
-link l2 t1 a2 10
-link l3 t2 a1 10
-link l4 t2 a2 10
-promise t1 t2 60
-";
 
 /// Every entity but these devices.
 fn all_but(alloc: Global, topo: &GroupTopo, down: &[u32]) -> Result<EntitySet, AllocError>
@@ -67,7 +53,7 @@ fn is_alone(found: &Reached) -> bool {
 #[test]
 fn a_walk_goes_by_either_switch(rt: HostRuntime) -> Result<(), Fail> {
     let alloc = rt.alloc();
-    let topo = group(alloc, SIX_TENTHS)?;
+    let topo = group(alloc, TWO_PATH)?;
     for (down, to, links) in [
         ([].as_slice(), 1, 2),
         ([2].as_slice(), 1, 2),
@@ -84,7 +70,7 @@ fn a_walk_goes_by_either_switch(rt: HostRuntime) -> Result<(), Fail> {
 #[test]
 fn without_both_switches_a_rack_stands_alone(rt: HostRuntime) -> Result<(), Fail> {
     let alloc = rt.alloc();
-    let topo = group(alloc, SIX_TENTHS)?;
+    let topo = group(alloc, TWO_PATH)?;
     let found = reached(alloc, &topo, [2, 3].as_slice(), 1)?;
     assert!(rt; is_alone(&found));
     Ok(())
@@ -100,13 +86,13 @@ fn holds(alloc: Global, topo: &GroupTopo, book: &mut Book, down: &[u32]) -> Resu
     book.promise_holds(topo, &up, 0)
 }
 
-/// Whether it holds with all devices, without a switch, and with all of them again.
+/// Whether it holds without a switch, without both, and with all devices again.
 fn held_of(alloc: Global, topo: &GroupTopo, book: &mut Book) -> Result<[bool; 3], AllocError>
     requires book { IsBookOf topo.now book.old.of }
     requires promise { 0 < length topo.now.promises }
 {
-    let first = holds(alloc, topo, book, [].as_slice())?;
-    let second = holds(alloc, topo, book, [2].as_slice())?;
+    let first = holds(alloc, topo, book, [2].as_slice())?;
+    let second = holds(alloc, topo, book, [2, 3].as_slice())?;
     let third = holds(alloc, topo, book, [].as_slice())?;
     Ok([first, second, third])
 }
@@ -123,9 +109,9 @@ fn held(alloc: Global, topo: &GroupTopo) -> Result<[bool; 3], Fail> {
 }
 
 #[test]
-fn a_promise_holds_while_both_switches_are_up(rt: HostRuntime) -> Result<(), Fail> {
+fn half_the_capacity_holds_while_a_switch_is_up(rt: HostRuntime) -> Result<(), Fail> {
     let alloc = rt.alloc();
-    let topo = group(alloc, SIX_TENTHS)?;
+    let topo = group(alloc, TWO_PATH)?;
     assert_eq!(rt; held(alloc, &topo)?, [true, false, true]);
     Ok(())
 }

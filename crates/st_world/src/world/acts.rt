@@ -7,7 +7,7 @@ ghost use Rattle.st_net.specs.Ranges.{RowsFit, IsChangeOf};
 ghost use Rattle.st_event.specs.declared.event.Event.TheVariants.{Lock as lock_event, Unlock as unlock_event};
 ghost use Rattle.st_event.specs.Proposals.{pending};
 ghost use Rattle.st_world.specs.Acts.{ActFits, act_course, all_checked, awaited, failed, failed_vals as failed_vals_lem, group_number as group_number_lem, has_one_of, proposed, rounds_done, seen_at as seen_at_lem, seen_by as seen_by_lem, seen_now as seen_now_lem, with_room};
-ghost use Rattle.st_world.specs.Rounds.{enter, course_from, Goes, IsPartOf, HasSamePlant};
+ghost use Rattle.st_world.specs.Rounds.{enter, course_from, Goes, IsPartOf, HasSameSetting};
 
 use crate::world::World;
 use crate::world::rounds::{Going, Rounded};
@@ -118,7 +118,7 @@ impl World {
     fn make_room(&mut self) -> Result<Going, AllocError>
         ensures ok { IfOk result (Goes self.new (with_room self.old.history.group (course_from self.old.history.past))) }
         ensures err { OnErr result (IsPartOf self.old self.new (with_room self.old.history.group (course_from self.old.history.past))) }
-        ensures plant { HasSamePlant self.old self.new }
+        ensures setting { HasSameSetting self.old self.new }
     {
         if self.pending() == MAX_PENDING {
             return self.enter(Event::Check);
@@ -132,7 +132,7 @@ impl World {
         requires { RowsFit self.old.history.group rows }
         ensures ok { IfOk result (Goes self.new (proposed self.old.history.group (course_from self.old.history.past) app rows)) }
         ensures err { OnErr result (IsPartOf self.old self.new (proposed self.old.history.group (course_from self.old.history.past) app rows)) }
-        ensures plant { HasSamePlant self.old self.new }
+        ensures setting { HasSameSetting self.old self.new }
     {
         match self.make_room()? {
             Going::On => self.enter(Event::Submit { app, rows }),
@@ -145,7 +145,7 @@ impl World {
         requires { RowsFit self.old.history.group rows.now }
         ensures ok { IfOk result (Goes self.new (proposed self.old.history.group (course_from self.old.history.past) app rows.now)) }
         ensures err { OnErr result (IsPartOf self.old self.new (proposed self.old.history.group (course_from self.old.history.past) app rows.now)) }
-        ensures plant { HasSamePlant self.old self.new }
+        ensures setting { HasSameSetting self.old self.new }
     {
         let rows = rows.copy(self.alloc)?;
         self.propose(app, rows)
@@ -156,7 +156,7 @@ impl World {
     pub fn await_latest(&mut self, app: AppId) -> Result<Going, AllocError>
         ensures ok { IfOk result (Goes self.new (awaited self.old.history.group (course_from self.old.history.past) app)) }
         ensures err { OnErr result (IsPartOf self.old self.new (awaited self.old.history.group (course_from self.old.history.past) app)) }
-        ensures plant { HasSamePlant self.old self.new }
+        ensures setting { HasSameSetting self.old self.new }
     {
         for _left in 0..MAX_PENDING {
             if !self.has_one_of(app) {
@@ -175,7 +175,7 @@ impl World {
     pub fn check_all(&mut self) -> Result<Going, AllocError>
         ensures ok { IfOk result (Goes self.new (all_checked self.old.history.group (course_from self.old.history.past))) }
         ensures err { OnErr result (IsPartOf self.old self.new (all_checked self.old.history.group (course_from self.old.history.past))) }
-        ensures plant { HasSamePlant self.old self.new }
+        ensures setting { HasSameSetting self.old self.new }
     {
         for _left in 0..MAX_PENDING {
             if self.pending() == 0 {
@@ -194,7 +194,7 @@ impl World {
     pub fn settle(&mut self, rounds: u32) -> Result<Going, AllocError>
         ensures ok { IfOk result (Goes self.new (rounds_done self.old.history.group self.old.lines rounds (course_from self.old.history.past))) }
         ensures err { OnErr result (IsPartOf self.old self.new (rounds_done self.old.history.group self.old.lines rounds (course_from self.old.history.past))) }
-        ensures plant { HasSamePlant self.old self.new }
+        ensures setting { HasSameSetting self.old self.new }
     {
         for _round in 0..rounds {
             match self.round()? {
@@ -212,7 +212,7 @@ impl World {
         ensures ok { IfOk result (Goes self.new (enter self.old.history.group (course_from self.old.history.past) (lock_event app entity prio))) }
         ensures err { OnErr result (IsPartOf self.old self.new (enter self.old.history.group (course_from self.old.history.past) (lock_event app entity prio))) }
         ensures none { OnErr result (self.new.history ≡ self.old.history) }
-        ensures plant { HasSamePlant self.old self.new }
+        ensures setting { HasSameSetting self.old self.new }
     {
         self.enter(Event::Lock { app, entity, prio })
     }
@@ -223,7 +223,7 @@ impl World {
         ensures ok { IfOk result (Goes self.new (enter self.old.history.group (course_from self.old.history.past) (unlock_event app entity prio))) }
         ensures err { OnErr result (IsPartOf self.old self.new (enter self.old.history.group (course_from self.old.history.past) (unlock_event app entity prio))) }
         ensures none { OnErr result (self.new.history ≡ self.old.history) }
-        ensures plant { HasSamePlant self.old self.new }
+        ensures setting { HasSameSetting self.old self.new }
     {
         self.enter(Event::Unlock { app, entity, prio })
     }
@@ -235,7 +235,7 @@ impl World {
         ensures ok { IfOk result (Goes self.new (failed self.old.history.group (course_from self.old.history.past) entity health rows.now)) }
         ensures err { OnErr result (IsPartOf self.old self.new (failed self.old.history.group (course_from self.old.history.past) entity health rows.now)) }
         ensures none { OnErr result (self.new.history ≡ self.old.history) }
-        ensures plant { HasSamePlant self.old self.new }
+        ensures setting { HasSameSetting self.old self.new }
     {
         // Of a legal journal an agent's values are in range.
         self.is_legal();
@@ -254,7 +254,7 @@ impl World {
         requires { ActFits act.now self.old.history.group }
         ensures ok { IfOk result (Goes self.new (act_course app act.now self.old.history self.old.lines)) }
         ensures err { OnErr result (IsPartOf self.old self.new (act_course app act.now self.old.history self.old.lines)) }
-        ensures plant { HasSamePlant self.old self.new }
+        ensures setting { HasSameSetting self.old self.new }
     {
         match act {
             Act::Propose { rows, .. } => self.propose_copy(app, rows),

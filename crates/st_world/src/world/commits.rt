@@ -20,7 +20,8 @@ pub enum Committed {
 }
 
 impl World {
-    /// What the oldest proposal that waits is judged on, in copies. No entry is made. `Idle` comes exactly where nothing waits.
+    /// What the oldest proposal that waits is judged on, in copies but for the group, which is shared. No entry is made. `Idle` comes
+    /// exactly where nothing waits.
     pub fn begin_check(&self) -> Result<Begin, AllocError>
         ensures { IfOk result (Begins self.now.history) }
     {

@@ -7,7 +7,7 @@ ghost use Rattle.st_event.specs.declared.event.Event.TheVariants.{Deliver, Hear}
 ghost use Rattle.st_event.specs.declared.journal.Entry.{Entry};
 ghost use Rattle.st_event.specs.Legal.{Fits};
 ghost use Rattle.st_wire.specs.declared.line.WireLine.{WireLine};
-ghost use Rattle.st_world.specs.Rounds.{arrivals_of, follow_ups, follow_ups_of, enter_all, enter_told, update_turn as update_turn_lem, poll as poll_lem, turn as turn_lem, turns as turns_lem, round as round_lem, course_from, unsettled as unsettled_lem, Goes, Rounds, IsPartOf, HasSamePlant, DidSettle};
+ghost use Rattle.st_world.specs.Rounds.{arrivals_of, follow_ups, follow_ups_of, enter_all, enter_told, update_turn as update_turn_lem, poll as poll_lem, turn as turn_lem, turns as turns_lem, round as round_lem, course_from, unsettled as unsettled_lem, Goes, Rounds, IsPartOf, HasSameSetting, DidSettle};
 
 use crate::world::World;
 use st_event::{Event, MAX_ENTRIES, Reply};
@@ -94,7 +94,7 @@ impl World {
     fn deliver_all(&mut self, commands: &[u32]) -> Result<Going, AllocError>
         ensures ok { IfOk result (Goes self.new (enter_all self.old.history.group (course_from self.old.history.past) (map Deliver commands.now))) }
         ensures err { OnErr result (IsPartOf self.old self.new (enter_all self.old.history.group (course_from self.old.history.past) (map Deliver commands.now))) }
-        ensures plant { HasSamePlant self.old self.new }
+        ensures setting { HasSameSetting self.old self.new }
     {
         for command in commands {
             match self.enter(Event::Deliver { command: *command })? {
@@ -109,7 +109,7 @@ impl World {
     fn hear_all(&mut self, reports: &[u32]) -> Result<Going, AllocError>
         ensures ok { IfOk result (Goes self.new (enter_all self.old.history.group (course_from self.old.history.past) (map Hear reports.now))) }
         ensures err { OnErr result (IsPartOf self.old self.new (enter_all self.old.history.group (course_from self.old.history.past) (map Hear reports.now))) }
-        ensures plant { HasSamePlant self.old self.new }
+        ensures setting { HasSameSetting self.old self.new }
     {
         for report in reports {
             match self.enter(Event::Hear { report: *report })? {
@@ -132,7 +132,7 @@ impl World {
     fn enter_follow_ups(&mut self) -> Result<Going, AllocError>
         ensures ok { IfOk result (Goes self.new (enter_all self.old.history.group (course_from self.old.history.past) (follow_ups self.old.history.group self.old.lines self.old.history.past))) }
         ensures err { OnErr result (IsPartOf self.old self.new (enter_all self.old.history.group (course_from self.old.history.past) (follow_ups self.old.history.group self.old.lines self.old.history.past))) }
-        ensures plant { HasSamePlant self.old self.new }
+        ensures setting { HasSameSetting self.old self.new }
     {
         let Some(message) = self.newest_message() else {
             return Ok(Going::On);
@@ -149,7 +149,7 @@ impl World {
         requires { Fits self.old.history.group event }
         ensures ok { IfOk result (Goes self.new (enter_told self.old.history.group self.old.lines (course_from self.old.history.past) event)) }
         ensures err { OnErr result (IsPartOf self.old self.new (enter_told self.old.history.group self.old.lines (course_from self.old.history.past) event)) }
-        ensures plant { HasSamePlant self.old self.new }
+        ensures setting { HasSameSetting self.old self.new }
     {
         match self.enter(event)? {
             Going::On => self.enter_follow_ups(),
@@ -164,7 +164,7 @@ impl World {
         requires { IsEntityOf self.old.history.group entity }
         ensures ok { IfOk result (Goes self.new (update_turn_lem self.old.history.group self.old.lines (course_from self.old.history.past) entity)) }
         ensures err { OnErr result (IsPartOf self.old self.new (update_turn_lem self.old.history.group self.old.lines (course_from self.old.history.past) entity)) }
-        ensures plant { HasSamePlant self.old self.new }
+        ensures setting { HasSameSetting self.old self.new }
     {
         match self.enter_with_follow_ups(Event::Send { entity })? {
             Going::On => self.enter(Event::Finish { entity }),
@@ -178,7 +178,7 @@ impl World {
         requires { IsEntityOf self.old.history.group entity }
         ensures ok { IfOk result (Goes self.new (poll_lem self.old.history.group self.old.lines (course_from self.old.history.past) entity)) }
         ensures err { OnErr result (IsPartOf self.old self.new (poll_lem self.old.history.group self.old.lines (course_from self.old.history.past) entity)) }
-        ensures plant { HasSamePlant self.old self.new }
+        ensures setting { HasSameSetting self.old self.new }
     {
         self.enter_with_follow_ups(Event::Report { entity })
     }
@@ -189,7 +189,7 @@ impl World {
         requires { IsEntityOf self.old.history.group entity }
         ensures ok { IfOk result (Goes self.new (turn_lem self.old.history.group self.old.lines (course_from self.old.history.past) entity)) }
         ensures err { OnErr result (IsPartOf self.old self.new (turn_lem self.old.history.group self.old.lines (course_from self.old.history.past) entity)) }
-        ensures plant { HasSamePlant self.old self.new }
+        ensures setting { HasSameSetting self.old self.new }
     {
         match self.update_turn(entity)? {
             Going::On => self.poll(entity),
@@ -202,7 +202,7 @@ impl World {
         requires { All (IsEntityOf self.old.history.group) entities.now }
         ensures ok { IfOk result (Goes self.new (turns_lem self.old.history.group self.old.lines (course_from self.old.history.past) entities.now)) }
         ensures err { OnErr result (IsPartOf self.old self.new (turns_lem self.old.history.group self.old.lines (course_from self.old.history.past) entities.now)) }
-        ensures plant { HasSamePlant self.old self.new }
+        ensures setting { HasSameSetting self.old self.new }
     {
         for entity in entities {
             match self.turn(*entity)? {
@@ -221,7 +221,7 @@ impl World {
     pub fn round(&mut self) -> Result<Rounded, AllocError>
         ensures ok { IfOk result (Rounds self.old self.new) }
         ensures err { OnErr result (IsPartOf self.old self.new (round_lem self.old.history.group self.old.lines self.old.history.past)) }
-        ensures plant { HasSamePlant self.old self.new }
+        ensures setting { HasSameSetting self.old self.new }
         ensures settles { IfOk result (DidSettle self.old self.new) }
     {
         self.is_legal();

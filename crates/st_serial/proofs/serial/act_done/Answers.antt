@@ -22,4 +22,4 @@ returns-in_ok-act-in-None c =
     let ws = c.args.worlds.now in
     let n = c.group_number-group.result in
     let low : n < length ws = world_there c.args.act.now ws n c.group_number-group.ensures c.requires.fits in
-    world_acted c.args.app c.args.act.now ws c.args.logs.now n c.index-worlds-group.result c.act.new.self c.in_ok-act-in-None.field-0 c.full_at.result c.group_number-group.ensures low (sym c.in-None.is ∙ c.seen_by.ensures) c.act.ensures.plant c.in_ok-act-in-None.ensures.ok c.full_at.ensures
+    world_acted c.args.app c.args.act.now ws c.args.logs.now n c.index-worlds-group.result c.act.new.self c.in_ok-act-in-None.field-0 c.full_at.result c.group_number-group.ensures low (sym c.in-None.is ∙ c.seen_by.ensures) c.act.ensures.setting c.in_ok-act-in-None.ensures.ok c.full_at.ensures

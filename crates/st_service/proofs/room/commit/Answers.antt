@@ -15,11 +15,11 @@ returns-clause-ok c =
     subst (λ (going : Going). check_course ticket old.group old.past ≡ record { past = new.past; stopped = is_full going }) (sym c.going_of.ensures)
     (commit_ran c.in_ok-committed.committed old new ticket c.requires c.in_ok-committed.ensures.ok)
 
-pub returns-clause-plant : goal.returns-clause-plant
-returns-clause-plant c = record {
+pub returns-clause-setting : goal.returns-clause-setting
+returns-clause-setting c = record {
   group = commit_stays c.in_ok-committed.committed c.args.world.now.history c.commit.new.self.history c.args.judged.now.ticket c.in_ok-committed.ensures.ok;
   lines = c.commit.ensures.losses;
 }
 
-pub returns-in_err-committed-clause-plant : goal.returns-in_err-committed-clause-plant
-returns-in_err-committed-clause-plant c = record { group = ap (λ (h : History). h.group) c.in_err-committed.ensures.err; lines = c.commit.ensures.losses }
+pub returns-in_err-committed-clause-setting : goal.returns-in_err-committed-clause-setting
+returns-in_err-committed-clause-setting c = record { group = ap (λ (h : History). h.group) c.in_err-committed.ensures.err; lines = c.commit.ensures.losses }

@@ -15,7 +15,7 @@ invariant_of-self g c =
     let new = c.enter-going.new.world in
     let went = went_from c.enter-going.result c.args.number c.args.work old new c.self.inside.held.board c.self.inside.spent c.args.self.now c.self.view_is c.enter-going.ensures.ok c.enter-going.ensures.err c.requires.fits in
     let same : length (overlays new.history.past) ≡ length (overlays old.history.past) = sym c.version_of.ensures ∙ (c.if-version_of-version.true ∙ c.version_of-version.ensures) in
-    room_stands old.history new.history c.self.inside.held.board c.self.inside.spent c.enter-going.ensures.plant.group
+    room_stands old.history new.history c.self.inside.held.board c.self.inside.spent c.enter-going.ensures.setting.group
     (same_version (decides c.args.work) new.history.group c.args.number (work_share c.args.work old.history.group old.lines) old.history.past new.history.past went c.is_legal.ensures.legal same) c.self.invariant
 
 pub invariant_of-self-in-Ok : goal.invariant_of-self-in-Ok
@@ -28,7 +28,7 @@ invariant_of-self-in-Ok g c =
     let next = next_version (decides c.args.work) new.history.group c.args.number (work_share c.args.work old.history.group old.lines) old.history.past new.history.past went c.is_legal.ensures.legal apart in
     let rows : c.as_slice.result.now ≡ first_rows (pending old.history.past) = c.as_slice.ensures ∙ (c.in_ok-rows.ensures next.0 ∙ ap (λ (r : RoomView). first_rows (pending r.history.past)) (sym c.self.view_is)) in
     let going : c.self.inside.spent ≡ false = ap (λ (r : RoomView). r.spent) c.self.view_is ∙ c.requires.open in
-    room_publishes old.history new.history board c.publish.new.self c.self.inside.spent c.as_slice.result.now c.enter-going.ensures.plant.group next.1 rows c.in-Ok.ensures.ok going c.self.invariant
+    room_publishes old.history new.history board c.publish.new.self c.self.inside.spent c.as_slice.result.now c.enter-going.ensures.setting.group next.1 rows c.in-Ok.ensures.ok going c.self.invariant
 
 pub invariant_of-self-in-Err : goal.invariant_of-self-in-Err
 invariant_of-self-in-Err g c =
@@ -37,7 +37,7 @@ invariant_of-self-in-Err g c =
     let went = went_from c.enter-going.result c.args.number c.args.work old new c.self.inside.held.board c.self.inside.spent c.args.self.now c.self.view_is c.enter-going.ensures.ok c.enter-going.ensures.err c.requires.fits in
     let apart : length (overlays new.history.past) ≢ length (overlays old.history.past) = λ e. c.if-version_of-version.false (c.version_of.ensures ∙ (e ∙ sym c.version_of-version.ensures)) in
     let next = next_version (decides c.args.work) new.history.group c.args.number (work_share c.args.work old.history.group old.lines) old.history.past new.history.past went c.is_legal.ensures.legal apart in
-    room_spends old.history new.history c.self.inside.held.board c.publish.new.self c.self.inside.spent c.enter-going.ensures.plant.group next.1 c.in-Err.ensures.err c.self.invariant
+    room_spends old.history new.history c.self.inside.held.board c.publish.new.self c.self.inside.spent c.enter-going.ensures.setting.group next.1 c.in-Err.ensures.err c.self.invariant
 
 pub publish-requires-clause-fits : goal.publish-requires-clause-fits
 publish-requires-clause-fits g c =
@@ -48,7 +48,7 @@ publish-requires-clause-fits g c =
     let next = next_version (decides c.args.work) new.history.group c.args.number (work_share c.args.work old.history.group old.lines) old.history.past new.history.past went c.is_legal.ensures.legal apart in
     let legal : IsLegal new.history.group old.history.past = legal_begun new.history.group went.more old.history.past (subst (IsLegal new.history.group) went.all c.is_legal.ensures.legal) in
     let rows : decides c.args.work ≡ true → c.in_ok-rows.rows ≡ first_rows (pending old.history.past) = λ d. c.in_ok-rows.ensures d ∙ ap (λ (r : RoomView). first_rows (pending r.history.past)) (sym c.self.view_is) in
-    rows_fit new.history.group c.self.inside.held.board.group (decides c.args.work) old.history.past c.as_slice.result.now c.in_ok-rows.rows (c.self.invariant.group ∙ sym c.enter-going.ensures.plant.group) next.0 rows c.as_slice.ensures legal
+    rows_fit new.history.group c.self.inside.held.board.group (decides c.args.work) old.history.past c.as_slice.result.now c.in_ok-rows.rows (c.self.invariant.group ∙ sym c.enter-going.ensures.setting.group) next.0 rows c.as_slice.ensures legal
 
 pub publish-requires-clause-room : goal.publish-requires-clause-room
 publish-requires-clause-room g c =

@@ -16,7 +16,7 @@ pub returns-in-Full-clause-ok : goal.returns-in-Full-clause-ok
 returns-in-Full-clause-ok c = check_stops (has_one_of c.args.app) c.args.self.now c.loop-left.self c.enter.new.self c.loop-left._left c.in_ok-enter.field-0 c.loop-left.invariant c.loop-left-test.true (sym c.has_one_of.ensures ∙ c.if-not-has_one_of.false) c.in_ok-enter.ensures.ok c.in-Full.is
 
 pub loop-left-preserved : goal.loop-left-preserved
-loop-left-preserved c = check_goes (has_one_of c.args.app) c.args.self.now c.loop-left.self c.enter.new.self c.loop-left._left c.in_ok-enter.field-0 c.loop-left.invariant c.loop-left-test.true (sym c.has_one_of.ensures ∙ c.if-not-has_one_of.false) c.in_ok-enter.ensures.ok c.in-On.is c.enter.ensures.plant
+loop-left-preserved c = check_goes (has_one_of c.args.app) c.args.self.now c.loop-left.self c.enter.new.self c.loop-left._left c.in_ok-enter.field-0 c.loop-left.invariant c.loop-left-test.true (sym c.has_one_of.ensures ∙ c.if-not-has_one_of.false) c.in_ok-enter.ensures.ok c.in-On.is c.enter.ensures.setting
 
 pub returns-clause-ok : goal.returns-clause-ok
 returns-clause-ok c = checks_all (has_one_of c.args.app) c.args.self.now c.loop-left.self c.loop-left._left c.loop-left-test.false c.loop-left.invariant

@@ -23,7 +23,7 @@ returns-in-Full-clause-ok c =
 pub loop-left-preserved : goal.loop-left-preserved
 loop-left-preserved c =
     let some : is_something (pending c.loop-left.self.history.past) ≡ true = something_waits (pending c.loop-left.self.history.past) (λ none. c.if-pending-eq0.false (c.pending.ensures ∙ none)) in
-    check_goes is_something c.args.self.now c.loop-left.self c.enter.new.self c.loop-left._left c.in_ok-enter.field-0 c.loop-left.invariant c.loop-left-test.true some c.in_ok-enter.ensures.ok c.in-On.is c.enter.ensures.plant
+    check_goes is_something c.args.self.now c.loop-left.self c.enter.new.self c.loop-left._left c.in_ok-enter.field-0 c.loop-left.invariant c.loop-left-test.true some c.in_ok-enter.ensures.ok c.in-On.is c.enter.ensures.setting
 
 pub returns-clause-ok : goal.returns-clause-ok
 returns-clause-ok c = checks_all is_something c.args.self.now c.loop-left.self c.loop-left._left c.loop-left-test.false c.loop-left.invariant

@@ -9,4 +9,4 @@ pub returns-in-Full-clause-ok : goal.returns-in-Full-clause-ok
 returns-in-Full-clause-ok c = arrival_stops Deliver c.args.self.now c.loop-command.self c.enter.new.self c.args.commands.now c.loop-command.command-index c.in_ok-enter.field-0 c.loop-command.invariant c.loop-command-test.true c.in_ok-enter.ensures.ok c.in-Full.is
 
 pub loop-command-preserved : goal.loop-command-preserved
-loop-command-preserved c = arrival_goes Deliver c.args.self.now c.loop-command.self c.enter.new.self c.args.commands.now c.loop-command.command-index c.in_ok-enter.field-0 c.loop-command.invariant c.loop-command-test.true c.in_ok-enter.ensures.ok c.in-On.is c.enter.ensures.plant
+loop-command-preserved c = arrival_goes Deliver c.args.self.now c.loop-command.self c.enter.new.self c.args.commands.now c.loop-command.command-index c.in_ok-enter.field-0 c.loop-command.invariant c.loop-command-test.true c.in_ok-enter.ensures.ok c.in-On.is c.enter.ensures.setting

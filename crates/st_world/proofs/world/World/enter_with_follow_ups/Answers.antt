@@ -13,7 +13,7 @@ returns-in_err-enter-clause-err c =
 pub returns-in-On-clause-err : goal.returns-in-On-clause-err
 returns-in-On-clause-err c =
     let first = enter c.args.self.now.history.group (course_from c.args.self.now.history.past) c.args.event in
-    let way = way_from with_newest c.args.self.now c.enter.new.self first c.in_ok-enter.field-0 (enter-grows c.args.self.now.history.group (course_from c.args.self.now.history.past) c.args.event) c.in_ok-enter.ensures.ok c.in-On.is c.enter.ensures.plant in
+    let way = way_from with_newest c.args.self.now c.enter.new.self first c.in_ok-enter.field-0 (enter-grows c.args.self.now.history.group (course_from c.args.self.now.history.past) c.args.event) c.in_ok-enter.ensures.ok c.in-On.is c.enter.ensures.setting in
     part_whole c.enter_follow_ups.result c.args.self.now c.enter.new.self c.enter_follow_ups.new.self _ _ way c.enter_follow_ups.ensures.err
 
 pub returns-in-Full-clause-ok : goal.returns-in-Full-clause-ok

@@ -18,7 +18,7 @@ pub returns-in-On-clause-err : goal.returns-in-On-clause-err
 returns-in-On-clause-err c =
     let g = c.args.self.now.history.group in
     let first = with_room g (course_from c.args.self.now.history.past) in
-    let way = way_from (submitting c.args.app c.args.rows) c.args.self.now c.make_room.new.self first c.in_ok-make_room.field-0 (with_room-grows g (course_from c.args.self.now.history.past)) c.in_ok-make_room.ensures.ok c.in-On.is c.make_room.ensures.plant in
+    let way = way_from (submitting c.args.app c.args.rows) c.args.self.now c.make_room.new.self first c.in_ok-make_room.field-0 (with_room-grows g (course_from c.args.self.now.history.past)) c.in_ok-make_room.ensures.ok c.in-On.is c.make_room.ensures.setting in
     part_whole c.enter.result c.args.self.now c.make_room.new.self c.enter.new.self _ _ way c.enter.ensures.err
 
 pub returns-in-Full-clause-ok : goal.returns-in-Full-clause-ok

@@ -18,10 +18,10 @@ returns-in_err-left-in-On-clause-err c =
 
 pub overflow_cast-result : goal.overflow_cast-result
 overflow_cast-result c =
-    let few = count_fits c.args.self.now.history.group c.turns.new.self.history.group c.turns.new.self.history.past c.in_ok-left-in-On.left.items c.len.result c.is_legal.ensures.sound c.turns.ensures.plant.group c.in_ok-left-in-On.ensures.entities (c.len.ensures ∙ c.in_ok-left-in-On.left.ok.0) in
+    let few = count_fits c.args.self.now.history.group c.turns.new.self.history.group c.turns.new.self.history.past c.in_ok-left-in-On.left.items c.len.result c.is_legal.ensures.sound c.turns.ensures.setting.group c.in_ok-left-in-On.ensures.entities (c.len.ensures ∙ c.in_ok-left-in-On.left.ok.0) in
     omega (arith, few)
 
 pub returns-in-On-clause-settles : goal.returns-in-On-clause-settles
 returns-in-On-clause-settles c =
     let entered = round_entered c.args.self.now c.turns.new.self c.as_slice.result.now c.in_ok-entities.entities.items c.in_ok-turns.field-0 On c.in_ok-turns.ensures.ok c.in-On.is c.as_slice.ensures.value c.in_ok-entities.ensures.entities in
-    round_did_settle c.args.self.now c.turns.new.self c.is_legal.ensures.legal entered c.turns.ensures.plant
+    round_did_settle c.args.self.now c.turns.new.self c.is_legal.ensures.legal entered c.turns.ensures.setting

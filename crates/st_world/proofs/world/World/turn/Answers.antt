@@ -13,7 +13,7 @@ returns-in_err-update_turn-clause-err c =
 pub returns-in-On-clause-err : goal.returns-in-On-clause-err
 returns-in-On-clause-err c =
     let first = update_turn c.args.self.now.history.group c.args.self.now.lines (course_from c.args.self.now.history.past) c.args.entity in
-    let way = way_from (polling c.args.entity) c.args.self.now c.update_turn.new.self first c.in_ok-update_turn.field-0 (update_turn-grows c.args.self.now.history.group c.args.self.now.lines (course_from c.args.self.now.history.past) c.args.entity) c.in_ok-update_turn.ensures.ok c.in-On.is c.update_turn.ensures.plant in
+    let way = way_from (polling c.args.entity) c.args.self.now c.update_turn.new.self first c.in_ok-update_turn.field-0 (update_turn-grows c.args.self.now.history.group c.args.self.now.lines (course_from c.args.self.now.history.past) c.args.entity) c.in_ok-update_turn.ensures.ok c.in-On.is c.update_turn.ensures.setting in
     part_whole c.poll.result c.args.self.now c.update_turn.new.self c.poll.new.self _ _ way c.poll.ensures.err
 
 pub returns-in-Full-clause-ok : goal.returns-in-Full-clause-ok

@@ -14,7 +14,7 @@ returns-in_err-enter_with_follow_ups-clause-err c =
 pub returns-in-On-clause-err : goal.returns-in-On-clause-err
 returns-in-On-clause-err c =
     let first = enter_told c.args.self.now.history.group c.args.self.now.lines (course_from c.args.self.now.history.past) (Send c.args.entity) in
-    let way = way_from (finishing c.args.entity) c.args.self.now c.enter_with_follow_ups.new.self first c.in_ok-enter_with_follow_ups.field-0 (enter_told-grows c.args.self.now.history.group c.args.self.now.lines (course_from c.args.self.now.history.past) (Send c.args.entity)) c.in_ok-enter_with_follow_ups.ensures.ok c.in-On.is c.enter_with_follow_ups.ensures.plant in
+    let way = way_from (finishing c.args.entity) c.args.self.now c.enter_with_follow_ups.new.self first c.in_ok-enter_with_follow_ups.field-0 (enter_told-grows c.args.self.now.history.group c.args.self.now.lines (course_from c.args.self.now.history.past) (Send c.args.entity)) c.in_ok-enter_with_follow_ups.ensures.ok c.in-On.is c.enter_with_follow_ups.ensures.setting in
     part_whole c.enter.result c.args.self.now c.enter_with_follow_ups.new.self c.enter.new.self _ _ way c.enter.ensures.err
 
 pub returns-in-Full-clause-ok : goal.returns-in-Full-clause-ok
