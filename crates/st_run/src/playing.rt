@@ -103,8 +103,6 @@ fn first_of(a: Option<u32>, b: Option<u32>) -> Option<u32>
 
 /// Where a pass met a full journal, unless memory was refused.
 fn full_of(came: Came) -> Result<Option<u32>, AllocError>
-    ensures none { IfOk result (λ full. full ≡ None → came ≡ Came.Through) }
-    ensures one { IfOk result (λ full. IfSome full (λ n. came ≡ Came.ToFull n)) }
     ensures met { IfOk result (λ full. full ≡ met_full came) }
     ensures had { IfOk result (λ full. HadMemory came) }
 {
