@@ -71,8 +71,7 @@ pub fn agents_move()
 {}
 
 /// What is observed of an entity is the report of it with the greatest number among those that were heard, or the opening's where none
-/// was; and of two
-/// reports of one entity the one that was made later has the greater number.
+/// was; and of two reports of one entity the one that was made later has the greater number.
 pub fn observed_is_greatest()
     ensures greatest { ObservedIsGreatest }
     ensures numbered { ReportsAscend }

@@ -23,7 +23,7 @@ use Rattle.st_world.proofs.RoundLaws.{IsOnWay, part_goes, part_parts, stops_ther
 
 -- at the start all of a course is left
 pub way_start : (w : WorldView) (whole : Course) → IsOnWay w w whole whole
-way_start w whole = record { began = beginning-self w.history.past; plant = record { group = refl; lines = refl }; ends = refl }
+way_start w whole = record { began = beginning-self w.history.past; setting = record { group = refl; lines = refl }; ends = refl }
 
 -- where nothing is left the world has gone through all of the course
 goes_none : (old now : WorldView) (whole left : Course) → IsOnWay old now whole left → left ≡ course_from now.history.past → Goes now whole On
@@ -237,16 +237,16 @@ first_round rounds now made few =
 
 -- after one round more the others are left
 pub round_goes : (rounds : ℕ) (old now next : WorldView) (made : ℕ) (answer : Rounded) (count : ℕ) → IsSettling rounds old now made → made < rounds → answer ≡ Did count → Rounds now next answer → HasSameSetting now next → IsSettling rounds old next (made + 1)
-round_goes rounds old now next made answer count way few is does plant =
+round_goes rounds old now next made answer count way few is does setting =
     let did : Rounds now next (Did count) = subst (λ (a : Rounded). Rounds now next a) is does in
     part_goes (rounds_behind rounds made) old now next (rounds_from rounds old) (rounds_from (rounds - made) now) (round_now now) On way
-    (first_round rounds now made few) (round-grows now.history.group now.lines now.history.past) (sym did.0) refl plant
+    (first_round rounds now made few) (round-grows now.history.group now.lines now.history.past) (sym did.0) refl setting
 
 -- where it leaves none unsettled it is the last
 pub round_settles : (rounds : ℕ) (old now next : WorldView) (made : ℕ) (answer : Rounded) (count : ℕ) → IsSettling rounds old now made → made < rounds → answer ≡ Did count → count ≡ 0 → Rounds now next answer → HasSameSetting now next → Goes next (rounds_from rounds old) On
-round_settles rounds old now next made answer count way few is none does plant =
+round_settles rounds old now next made answer count way few is none does setting =
     let did : Rounds now next (Did count) = subst (λ (a : Rounded). Rounds now next a) is does in
-    settles_none rounds old next (made + 1) (sym did.1 ∙ none) (round_goes rounds old now next made answer count way few is does plant)
+    settles_none rounds old next (made + 1) (sym did.1 ∙ none) (round_goes rounds old now next made answer count way few is does setting)
 
 -- where it meets a full journal no other follows
 pub round_stops : (rounds : ℕ) (old now next : WorldView) (made : ℕ) (answer : Rounded) (entries : ℕ) → IsSettling rounds old now made → made < rounds → answer ≡ JournalFull entries → Rounds now next answer → Goes next (rounds_from rounds old) Full

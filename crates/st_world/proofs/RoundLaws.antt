@@ -45,27 +45,27 @@ use Rattle.st_world.proofs.SettleLaws.{round_made}
 -- a world that was reached on the way of a course: what is left, from where the world stands, ends as all of the course
 pub record IsOnWay (old now : WorldView) (whole left : Course) : Type 0 where
   pub began : IsBeginning old.history.past now.history.past
-  pub plant : HasSameSetting old now
+  pub setting : HasSameSetting old now
   pub ends : left ≡ whole
 
--- the plant is as at the start, since it is as it was in between
-plant_whole : (old now new : WorldView) → HasSameSetting old now → HasSameSetting now new → HasSameSetting old new
-plant_whole old now new before after = record { group = after.group ∙ before.group; lines = after.lines ∙ before.lines }
+-- the setting is as at the start, since it is as it was in between
+setting_whole : (old now new : WorldView) → HasSameSetting old now → HasSameSetting now new → HasSameSetting old new
+setting_whole old now new before after = record { group = after.group ∙ before.group; lines = after.lines ∙ before.lines }
 
 -- on the way of what was left on the way
 way_more : (old now next : WorldView) (whole left less : Course) → IsOnWay old now whole left → IsOnWay now next left less → IsOnWay old next whole less
 way_more old now next whole left less way more = record {
   began = beginning-more old.history.past now.history.past next.history.past way.began more.began;
-  plant = plant_whole old now next way.plant more.plant;
+  setting = setting_whole old now next way.setting more.setting;
   ends = more.ends ∙ way.ends;
 }
 
 -- a first part was entered whole: what follows it is left
 pub way_from : (rest : Group → List WireLine → Course → Course) (old now : WorldView) (first : Course) (going : Going) → IsBeginning old.history.past first.past → course_with going now ≡ first → going ≡ On → HasSameSetting old now → IsOnWay old now (rest old.history.group old.lines first) (rest now.history.group now.lines (course_from now.history.past))
-way_from rest old now first going grows is on plant = record {
+way_from rest old now first going grows is on setting = record {
   began = subst (λ (course : Course). IsBeginning old.history.past course.past) (sym is) grows;
-  plant = plant;
-  ends = ap (λ (g : Group). rest g now.lines (course_from now.history.past)) plant.group ∙ ap (λ (lines : List WireLine). rest old.history.group lines (course_from now.history.past)) plant.lines ∙ ap (λ (at : Going). rest old.history.group old.lines (course_with at now)) (sym on) ∙ ap (rest old.history.group old.lines) is;
+  setting = setting;
+  ends = ap (λ (g : Group). rest g now.lines (course_from now.history.past)) setting.group ∙ ap (λ (lines : List WireLine). rest old.history.group lines (course_from now.history.past)) setting.lines ∙ ap (λ (at : Going). rest old.history.group old.lines (course_with at now)) (sym on) ∙ ap (rest old.history.group old.lines) is;
 }
 
 -- a part of what is left makes a part of all
@@ -128,9 +128,9 @@ first_left xs i default low = rw (add-one, drop-cons xs i default low) refl
 
 -- the next part was entered whole
 pub part_goes : (rest : Group → List WireLine → Course → Course) (old now next : WorldView) (whole left first : Course) (going : Going) → IsOnWay old now whole left → left ≡ rest now.history.group now.lines first → IsBeginning now.history.past first.past → course_with going next ≡ first → going ≡ On → HasSameSetting now next → IsOnWay old next whole (rest next.history.group next.lines (course_from next.history.past))
-part_goes rest old now next whole left first going way split grows is on plant =
-    let here = way_from rest now next first going grows is on plant in
-    way_more old now next whole left (rest next.history.group next.lines (course_from next.history.past)) way (record { began = here.began; plant = here.plant; ends = here.ends ∙ sym split })
+part_goes rest old now next whole left first going way split grows is on setting =
+    let here = way_from rest now next first going grows is on setting in
+    way_more old now next whole left (rest next.history.group next.lines (course_from next.history.past)) way (record { began = here.began; setting = here.setting; ends = here.ends ∙ sym split })
 
 -- the next part met a full journal: the course stops there, whatever was to follow
 pub stops_there : (rest : Course → Course) (now : WorldView) (first : Course) (going : Going) → course_with going now ≡ first → going ≡ Full → rest (course_with Full now) ≡ course_with Full now → course_with Full now ≡ rest first
@@ -304,10 +304,10 @@ all_part r old new whole going grows is =
 
 -- a round that met no full journal settles what it is to settle
 pub round_did_settle : (old new : WorldView) → IsLegal old.history.group old.history.past → course_with On new ≡ round old.history.group old.lines old.history.past → HasSameSetting old new → SettlesSent old new
-round_did_settle old new legal is plant =
+round_did_settle old new legal is setting =
     let made = round_made old.history.group old.lines old.history.past new.history.past legal (sym is) in
     record {
       made = made.0;
       all = made.1;
-      settled = λ none e sent never. ap (λ (g : Group). is_settled g new.history.past e) plant.group ∙ made.2 none e sent never;
+      settled = λ none e sent never. ap (λ (g : Group). is_settled g new.history.past e) setting.group ∙ made.2 none e sent never;
     }
