@@ -13,7 +13,7 @@ use Rattle.st_event.specs.declared.journal.TheConstants.{MAX_PENDING}
 use Rattle.st_event.specs.declared.reply.Reply.{Reply}
 use Rattle.st_event.specs.declared.reply.Reply.TheVariants.{Queued}
 use Rattle.st_event.specs.Legal.{IsLegal}
-use Rattle.st_event.specs.Proposals.{proposals, proposals_after, verdicts, deciders, pending}
+use Rattle.st_event.specs.Proposals.{proposals, proposals_after, verdicts, deciders}
 use Rattle.st_event.proofs.Begun.{deciders_grow}
 use Rattle.st_event.proofs.LawLemmas.{few_wait}
 use Rattle.st_event.proofs.Standings.{length-deciders}

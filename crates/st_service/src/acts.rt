@@ -2,7 +2,6 @@
 
 ghost use Rattle.std.specs.Prelude.{◌≡◌, ◌<◌, ◌++◌, ◌∷◌, [], length, IfOk, OnOk, OnErr};
 ghost use Rattle.st_net.specs.Groups.{IsEntityOf};
-ghost use Rattle.st_event.specs.declared.journal.TheConstants.{MAX_ENTRIES};
 ghost use Rattle.st_world.specs.Acts.{group_number as group_number_lem, seen_at as seen_at_lem};
 ghost use Rattle.st_world.specs.declared.world.rounds.Going.TheVariants.{On as all_done, Full as met_full};
 ghost use Rattle.st_service.specs.Acts.{ActDone, ActFull, Acts, CanDo};
@@ -121,11 +120,7 @@ impl<J: Naming, L: Ledger, H: Wait + Drop> Service<J, L, H> {
         ensures reads { OnOk result (IsTaught pass.new group) }
         ensures err { OnErr result (pass.new.log ≡ pass.old.log) }
     {
-        let room = self.rooms[group].lock(rt);
-        // Each room stands at its own number, so this never comes: under a lock only the type of a room is known.
-        if room.group != group {
-            return Err(AllocError);
-        }
+        let room = self.room_at(rt, group)?;
         pass.read_at_in(&room, version, entity, var)
     }
 }

@@ -83,11 +83,7 @@ impl<J: Naming, L: Ledger, H: Wait + Drop> Service<J, L, H> {
         ensures begins { IfOk result (BeginsFor ticket (J.group group) (past_in (front_at pass.new.fronts group))) }
         ensures reads { IfOk result (λ _. IsTaught pass.new group) }
     {
-        let room = self.rooms[group].lock(rt);
-        // Each room stands at its own number, so this never comes: under a lock only the type of a room is known.
-        if room.group != group {
-            return Err(AllocError);
-        }
+        let room = self.room_at(rt, group)?;
         begin_for_in(pass, &room, ticket)
     }
 

@@ -134,11 +134,7 @@ impl<J: Naming, L: Ledger, H: Wait + Drop> Service<J, L, H> {
         ensures begins { IfOk result (Begins (record { group = J.group group; past = past_in (front_at pass.new.fronts group) })) }
         ensures reads { IfOk result (λ _. IsTaught pass.new group) }
     {
-        let room = self.rooms[group].lock(rt);
-        // Each room stands at its own number, so this never comes: under a lock only the type of a room is known.
-        if room.group != group {
-            return Err(AllocError);
-        }
+        let room = self.room_at(rt, group)?;
         pass.begin_in(&room)
     }
 
@@ -158,11 +154,7 @@ impl<J: Naming, L: Ledger, H: Wait + Drop> Service<J, L, H> {
         ensures committed { IfOk result (λ committed. CommitsIn committed (J.group group) judged.now.ticket pass.old.number (front_at pass.old.fronts group) (mine_at pass.old.mines group) (front_at pass.new.fronts group) (mine_at pass.new.mines group)) }
         ensures reads { IfOk result (λ _. IsTaught pass.new group) }
     {
-        let mut room = self.rooms[group].lock(rt);
-        // Each room stands at its own number, so this never comes: under a lock only the type of a room is known.
-        if room.group != group {
-            return Err(AllocError);
-        }
+        let mut room = self.room_at(rt, group)?;
         commit_in(alloc, pass, &mut room, judged)
     }
 

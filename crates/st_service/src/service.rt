@@ -2,6 +2,7 @@
 //! lock at the most.
 
 ghost use Rattle.std.specs.Prelude.{◌≡◌, ◌+◌, ◌*◌, ◌<◌, ◌≤◌, List, length, IfOk, OnOk};
+ghost use Rattle.std.specs.Sync.Mutex.{mutex_guard_value};
 ghost use Rattle.st_world.specs.Rounds.{unsettled as unsettled_lem};
 ghost use Rattle.st_service.specs.Kept.{Kept};
 ghost use Rattle.st_service.specs.Made.{Made, past_in};
@@ -18,7 +19,7 @@ use st_net::Entity;
 use st_world::Going;
 use std::alloc::{AllocError, Global};
 use std::sync::ledger::{Ledger, Share, Total};
-use std::sync::{Mutex, Wait};
+use std::sync::{Mutex, MutexGuard, Wait};
 
 /// The share to which the others come back at the end. It lies behind a lock, since a share is not `Sync`.
 #[derive(Drop)]
@@ -43,6 +44,23 @@ pub struct Service<J: Naming, L: Ledger, H: Wait + Drop> {
 }
 
 impl<J: Naming, L: Ledger, H: Wait + Drop> Service<J, L, H> {
+    /// The room of a number, under its lock. It may wait for the room. A proof knows only the type of what lies under a lock, so the
+    /// room's number is asked. Each room stands at its own number, so this is never refused.
+    pub(crate) fn room_at<R: Wait>(
+        &self,
+        rt: &R,
+        group: usize,
+    ) -> Result<MutexGuard<'_, Locked<J, L, H>>, AllocError>
+        requires room { group < length self.now.rooms.items }
+        ensures group { IfOk result (λ room. (mutex_guard_value room).group ≡ group) }
+    {
+        let room = self.rooms[group].lock(rt);
+        if room.group != group {
+            return Err(AllocError);
+        }
+        Ok(room)
+    }
+
     /// Does a work in a room, under one hold of its lock. It may wait for the room.
     pub(crate) fn work<R: Wait>(
         &self,
@@ -60,11 +78,7 @@ impl<J: Naming, L: Ledger, H: Wait + Drop> Service<J, L, H> {
         ensures entered { IfOk result (λ going. (mid : List Made) × Enters (course_at pass.old.number work.entry (J.group group) (J.lines group)) going pass.old.number mid (front_at pass.old.fronts group) (mine_at pass.old.mines group) (front_at pass.new.fronts group) (mine_at pass.new.mines group)) }
         ensures reads { IfOk result (λ _. IsTaught pass.new group) }
     {
-        let mut room = self.rooms[group].lock(rt);
-        // Each room stands at its own number, so this never comes: under a lock only the type of a room is known.
-        if room.group != group {
-            return Err(AllocError);
-        }
+        let mut room = self.room_at(rt, group)?;
         pass.work_in(alloc, &mut room, work)
     }
 
@@ -80,11 +94,7 @@ impl<J: Naming, L: Ledger, H: Wait + Drop> Service<J, L, H> {
         ensures log { pass.new.log ≡ pass.old.log }
         ensures reads { OnOk result (IsTaught pass.new group) }
     {
-        let room = self.rooms[group].lock(rt);
-        // Each room stands at its own number, so this never comes: under a lock only the type of a room is known.
-        if room.group != group {
-            return Err(AllocError);
-        }
+        let room = self.room_at(rt, group)?;
         pass.look_in(&room)
     }
 
@@ -101,11 +111,7 @@ impl<J: Naming, L: Ledger, H: Wait + Drop> Service<J, L, H> {
         ensures entities { IfOk result (λ entities. entities.items ≡ unsettled_lem (J.group group) (past_in (front_at pass.new.fronts group))) }
         ensures reads { IfOk result (λ _. IsTaught pass.new group) }
     {
-        let room = self.rooms[group].lock(rt);
-        // Each room stands at its own number, so this never comes: under a lock only the type of a room is known.
-        if room.group != group {
-            return Err(AllocError);
-        }
+        let room = self.room_at(rt, group)?;
         pass.unsettled_in(&room)
     }
 
