@@ -9,7 +9,7 @@ use Rattle.st_board.specs.declared.post.Post.{Post}
 use Rattle.st_board.specs.declared.post.Post.TheVariants.{Open, Merge, End}
 use Rattle.st_board.specs.Posts.{MarkIsLast, is_ended}
 use Rattle.st_board.specs.LineInside.{IsCounted, Adds}
-use Rattle.st_event.proofs.Prefixes.{prefix_whole}
+use Rattle.st_event.proofs.Prefixes.{prefix_length, prefix_whole}
 
 abbrev pub shown : List Post → List Post
 shown log = []
@@ -41,14 +41,15 @@ adds_goes log v e old state len going last pre true is =
     )
 adds_goes log v e old state len going last pre false is =
     let all : log ++ [] ≡ log = append-nil log in
-    let n : either (length log == old) (old + 1) (length log) ≡ length (log ++ []) = rw is (ap length (sym all)) in (
+    let n : either (length log == old) (old + 1) (length log) ≡ length (log ++ []) = rw is (ap length (sym all)) in
+    let longer : length v < length log = grind (arith, nat_tests, prefix_length v log pre) in (
       keeps,
       [],
       state,
       tt,
       record { words = ap (λ (k : ℕ). (k, true) ∷ (0, true) ∷ []) n; marked = subst MarkIsLast (sym all) last },
       inl (refl, refl),
-      rw is tt,
+      rw is (subst (λ (l : List Post). length v < length l) (sym all) longer),
     )
 
 -- whatever the line is, the exchange adds the post to all that was seen, or finds that the line is longer

@@ -88,7 +88,8 @@ impl Board {
     {
         let table = Table::opening(alloc, topo)?;
         let spare = table.copy(alloc)?;
-        let Some((head, front)) = line.open(topo) else {
+        // Nothing was posted on a new line, so this is never refused. The same goes for the posts below, since none posts but the board.
+        let Ok((head, front)) = line.open(topo) else {
             return Err(AllocError);
         };
         let first = Target {
@@ -140,9 +141,9 @@ impl Board {
     {
         let rows = Rows::from_slice(alloc, rows)?;
         let mut front = self.desk.published().front.again();
-        if !front.merge(&self.head, &rows) {
+        let Ok(()) = front.merge(&self.head, &rows) else {
             return Err(AllocError);
-        }
+        };
         // The note first: what is shown takes the front.
         let note = front.again();
         let merge = Merge { rows, front };
@@ -160,9 +161,9 @@ impl Board {
     {
         let rows = Rows::new(Vec::new(alloc));
         let mut front = self.desk.published().front.again();
-        if !front.end(&self.head) {
+        let Ok(()) = front.end(&self.head) else {
             return Err(AllocError);
-        }
+        };
         let whole = front.again();
         let mark = Merge { rows, front };
         show(&mut self.desk, rt, mark)?;

@@ -1,14 +1,15 @@
 //! The line of a board: all that its writer posts, in order. It stands in proofs alone, but for the word that counts its posts,
 //! by which a post is added behind all that was seen or not at all.
 
-ghost use Rattle.std.specs.Prelude.{◌≡◌, ◌<◌, ◌^◌, ◌++◌, ◌∷◌, [], length, false, MatchBool, IfSome};
+ghost use Rattle.std.specs.Prelude.{◌≡◌, ◌<◌, ◌^◌, ◌++◌, ◌∷◌, [], length, false, MatchBool, IfErr, IfOk};
+ghost use mathlib.Core.List.{IsPrefix};
 ghost use Rattle.st_board.specs.Posts.{is_ended};
 ghost use Rattle.st_board.specs.LineInside.{head_of};
 ghost use Rattle.st_board.specs.declared.post.Post.TheVariants.{Open as open_post};
 ghost use Rattle.logbook.specs.Pages.{nib, may_make_home};
 
 use crate::front::Front;
-use crate::post::{Add, LineRule, Nothing, Opens, Post};
+use crate::post::{Add, LineRule, Log, Nothing, Opens, Post};
 use logbook::{Offer, Pen, Plain, Seen, Start, Word};
 use st_net::GroupTopo;
 use std::marker::Model;
@@ -22,7 +23,7 @@ pub struct Head {
 /// A line on which nothing was posted yet. It has no bytes. Contracts see which line it is.
 #[derive(Drop)]
 pub struct Line {
-    seen: Seen<Post, u64, LineRule>,
+    seen: Log,
     pen: Pen,
     ghost empty: { seen.log ≡ [] },
     ghost pen_is: { (pen.book ≡ seen.book) × (pen.nib ≡ nib may_make_home 0 0) },
@@ -43,32 +44,35 @@ impl Line {
         Line { seen, pen }
     }
 
-    /// The head of the line, and its front once the group was posted. The line is lost where something was posted already.
-    pub(crate) fn open(self, topo: &GroupTopo) -> Option<(Head, Front)>
-        ensures head { IfSome result (λ made. made.0.word ≡ head_of self) }
-        ensures book { IfSome result (λ made. made.1.seen.book ≡ self) }
-        ensures log { IfSome result (λ made. made.1.seen.log ≡ open_post topo.now ∷ []) }
+    /// The head of the line, and its front once the group was posted. At `Err` something was posted already: the line is lost, and the
+    /// error is what is seen of it now.
+    pub(crate) fn open(self, topo: &GroupTopo) -> Result<(Head, Front), Log>
+        ensures head { IfOk result (λ made. made.0.word ≡ head_of self) }
+        ensures book { IfOk result (λ made. made.1.seen.book ≡ self) }
+        ensures log { IfOk result (λ made. made.1.seen.log ≡ open_post topo.now ∷ []) }
+        ensures longer { IfErr result (λ seen. (seen.book ≡ self) × (0 < length seen.log)) }
     {
         let Line { mut seen, mut pen } = self;
         let head = Head {
             word: Word::tracked(0, &mut pen),
         };
         if !add_post::<GroupTopo, Opens>(&head, &mut seen, 0, topo) {
-            return None;
+            return Err(seen);
         }
         let front = Front {
             version: 0,
             ended: false,
             seen,
         };
-        Some((head, front))
+        Ok((head, front))
     }
 }
 
-/// Adds a post to all that was seen, and says whether it did. It did not where the line is longer.
+/// Adds a post to all that had been seen, and says whether it did. It did not where the line is longer, and then more of it
+/// has been seen.
 pub fn add_post<X, M: Plain<X, Post, u64>>(
     head: &Head,
-    seen: &mut Seen<Post, u64, LineRule>,
+    seen: &mut Log,
     posts: u64,
     about: &X,
 ) -> bool
@@ -76,7 +80,8 @@ pub fn add_post<X, M: Plain<X, Post, u64>>(
     requires posts { (posts ≡ length seen.old.log) × (posts < 2 ^ 63) }
     requires open { is_ended seen.old.log ≡ false }
     ensures book { seen.new.book ≡ seen.old.book }
-    ensures added { MatchBool result (seen.new.log ≡ seen.old.log ++ M.ask about.now ∷ []) (Unit {0}) }
+    ensures later { IsPrefix seen.old.log seen.new.log }
+    ensures added { MatchBool result (seen.new.log ≡ seen.old.log ++ M.ask about.now ∷ []) (length seen.old.log < length seen.new.log) }
 {
     let mut offer: Offer<Post, u64, LineRule, Nothing> = seen.plain::<Nothing, X, M>(about);
     let mut pen = seen.no_pen();

@@ -1,7 +1,7 @@
 //! What is posted on the line of a board, and the rule that a line keeps. All of it stands in proofs alone: a line is a book of
 //! `logbook`, of which `Front` is a beginning that was seen.
 
-use logbook::{Gain, Plain, Play, Rule};
+use logbook::{Gain, Plain, Play, Rule, Seen};
 use st_event::Rows;
 use st_net::GroupTopo;
 
@@ -32,6 +32,9 @@ impl Rule<Post, u64> for LineRule {
 
     ghost moves = { λ ask before after answer. Unit {0} };
 }
+
+/// What was seen of a line.
+pub type Log = Seen<Post, u64, LineRule>;
 
 /// Those who post trade nothing.
 pub struct Nothing;

@@ -66,18 +66,24 @@ not_in_the_second k = absurd (omega (arith, ap second_in k.words))
 pub not_a_third : IsKept ((1, true) ∷ (0, true) ∷ (0, true) ∷ []) (batch 0 [] ∷ []) → ⊥
 not_a_third k = absurd (omega (arith, ap length k.words))
 
--- a step that finds the word at 3 as it had seen it adds its batch, and one that finds it at 5 tells nothing
+-- a step that finds the word at 3 as it had seen it adds its batch, and one that finds it at 5 has then seen more
 abbrev told : Step Batch
 told = step 0 3 4 (batch 0 [])
 
 pub adds_its_batch : (v w : View Batch ℕ) → w.0 ≡ v.0 ++ batch 0 [] ∷ [] → Adds told v 3 w
 adds_its_batch v w e = e
 
-pub adds_where_longer : (v w : View Batch ℕ) → Adds told v 5 w
-adds_where_longer v w = tt
+pub adds_where_longer : (v w : View Batch ℕ) → w.0 ≡ v.0 ++ batch 1 [] ∷ [] → Adds told v 5 w
+adds_where_longer v w e = omega (arith, ap length e, length-append v.0 (batch 1 [] ∷ []))
 
 pub not_nothing_added : (v w : View Batch ℕ) → w.0 ≡ v.0 → Adds told v 3 w → ⊥
 not_nothing_added v w same added = absurd (omega (arith, ap length same, ap length added, length-append v.0 (batch 0 [] ∷ [])))
+
+pub not_two_added : (v w : View Batch ℕ) → w.0 ≡ v.0 ++ batch 0 [] ∷ batch 0 [] ∷ [] → Adds told v 3 w → ⊥
+not_two_added v w two added = absurd (omega (arith, ap length two, ap length added, length-append v.0 (batch 0 [] ∷ batch 0 [] ∷ []), length-append v.0 (batch 0 [] ∷ [])))
+
+pub not_refused_where_no_more_is_seen : (v w : View Batch ℕ) → w.0 ≡ v.0 → Adds told v 5 w → ⊥
+not_refused_where_no_more_is_seen v w same longer = absurd (omega (arith, ap length same, longer))
 
 -- Journals of fronts
 

@@ -192,9 +192,11 @@ fn hand_in<J: Naming, L: Ledger, H: Wait + Drop>(
     Ok(log)
 }
 
-/// Teaches a place what its closed room has published, and says whether the journal goes on from what the place has seen.
+/// Teaches a place what its closed room has published, and says whether the journal goes on from what the place has seen. It does not
+/// where the place has seen more than there is, as none has.
 fn stands_in<J: Naming, H: Wait + Drop>(place: &mut Place<J>, shut: &Shut<J, H>) -> bool
     requires group { shut.now.group ≡ place.old.group }
+    ensures few { MatchBool result (place.old.batches ≤ shut.now.batches) (shut.now.batches < place.old.batches) }
     ensures begins { MatchBool result (IsPrefix (flat place.old.seen.log) (flat shut.now.seen.log)) (Unit {0}) }
     ensures mine { MatchBool result (IsMine place.old.number (flat shut.now.seen.log) place.old.mine.items) (Unit {0}) }
     ensures reads { IsPrefix place.old.reader.proposals (overlays (past_in (flat shut.now.seen.log))) }

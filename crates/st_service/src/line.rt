@@ -2,6 +2,7 @@
 
 ghost use Rattle.std.specs.Prelude.{◌≡◌, ◌+◌, ◌<◌, ◌≤◌, ◌^◌, ◌++◌, ◌∷◌, [], length, MatchBool};
 ghost use Rattle.std.specs.Vec.{vec_len, vec_capacity};
+ghost use mathlib.Core.List.{IsPrefix};
 ghost use Rattle.logbook.specs.Pages.{nib, may_make_home};
 ghost use Rattle.st_service.specs.Rules.{head_of};
 ghost use Rattle.st_service.specs.Lines.{numbers};
@@ -71,6 +72,7 @@ impl<'a> Plain<Fresh<'a>, Batch, u64> for Add {
     ghost state = { λ x. None };
 }
 
+/// What was seen of a line.
 pub type Log = Seen<Batch, u64, Law>;
 
 /// The word that counts the batches of a line.
@@ -116,12 +118,14 @@ impl JournalLine {
     }
 }
 
-/// Adds a batch to all that was seen, and says whether it did. It did not where the line is longer.
+/// Adds a batch to all that had been seen, and says whether it did. It did not where the line is longer, and then more of it
+/// has been seen.
 pub fn add_batch(head: &Head, seen: &mut Log, count: u64, by: u32, entries: &[Entry]) -> bool
     requires head { head.now.word ≡ head_of seen.old.book }
     requires count { (count ≡ length seen.old.log) × (count < 2 ^ 63) }
     ensures book { seen.new.book ≡ seen.old.book }
-    ensures added { MatchBool result (seen.new.log ≡ seen.old.log ++ record { by = by; entries = entries.now } ∷ []) (Unit {0}) }
+    ensures later { IsPrefix seen.old.log seen.new.log }
+    ensures added { MatchBool result (seen.new.log ≡ seen.old.log ++ record { by = by; entries = entries.now } ∷ []) (length seen.old.log < length seen.new.log) }
 {
     let fresh = Fresh { by, entries };
     let mut offer: Offer<Batch, u64, Law, Nothing> = seen.plain::<Nothing, Fresh, Add>(&fresh);

@@ -1,7 +1,7 @@
 //! What lies under a room's lock: the room, and the line that tells which pass made each entry of its journal. Every hold of the lock is a
 //! call of this type, which is lent a pass's place.
 
-ghost use Rattle.std.specs.Prelude.{◌≡◌, ◌+◌, ◌<◌, true, false, ◌≤◌, length, IfOk, IsErr, OnOk, OnErr, MatchBool};
+ghost use Rattle.std.specs.Prelude.{◌≡◌, ◌⊎◌, ◌+◌, ◌<◌, true, false, ◌≤◌, length, IfOk, IsErr, OnOk, OnErr, MatchBool};
 ghost use mathlib.Core.List.{IsPrefix};
 ghost use Rattle.st_net.specs.Groups.{IsEntityOf};
 ghost use Rattle.st_event.specs.Legal.{IsLegal};
@@ -50,7 +50,7 @@ impl<J: Naming, L: Ledger, H: Wait + Drop> Locked<J, L, H> {
     /// Whether the journal goes on from what a place has seen of it, as it does.
     fn goes_on_from(&self, place: &Place<J>) -> bool
         requires { place.now.group ≡ self.now.group }
-        ensures few { MatchBool result (place.now.batches ≤ self.now.makers.batches) (Unit {0}) }
+        ensures few { MatchBool result (place.now.batches ≤ self.now.makers.batches) (self.now.makers.batches < place.now.batches) }
         ensures begins { MatchBool result (IsPrefix (flat place.now.seen.log) (flat self.now.makers.seen.log)) (Unit {0}) }
     {
         // In proofs alone: of two that saw one line, one has seen the beginning of what the other has.
@@ -62,7 +62,7 @@ impl<J: Naming, L: Ledger, H: Wait + Drop> Locked<J, L, H> {
     /// Whether nothing more is entered here, or the place has seen more than there is, as none has.
     fn is_shut_to(&self, place: &Place<J>) -> bool
         requires { place.now.group ≡ self.now.group }
-        ensures { MatchBool result (Unit {0}) ((self.now.lost ≡ false) × (self.now.room.spent ≡ false) × (place.now.batches ≤ self.now.makers.batches) × IsPrefix (flat place.now.seen.log) (flat self.now.makers.seen.log)) }
+        ensures { MatchBool result (IsShut self.now.lost self.now.room ⊎ (self.now.makers.batches < place.now.batches)) ((self.now.lost ≡ false) × (self.now.room.spent ≡ false) × (place.now.batches ≤ self.now.makers.batches) × IsPrefix (flat place.now.seen.log) (flat self.now.makers.seen.log)) }
     {
         self.lost || self.room.is_spent() || !self.goes_on_from(place)
     }
@@ -106,11 +106,13 @@ impl<J: Naming, L: Ledger, H: Wait + Drop> Locked<J, L, H> {
         let going = self.room.work(alloc, place.number, work);
         self.room.is_legal();
         let entries = self.room.since(from);
-        if !self.makers.take_in(place, share, entries, from) {
-            self.lost = true;
-            return Err(AllocError);
+        match self.makers.take_in(place, share, entries, from) {
+            Ok(()) => self.room.tell(&mut place.reader, going),
+            Err(_longer) => {
+                self.lost = true;
+                Err(AllocError)
+            }
         }
-        self.room.tell(&mut place.reader, going)
     }
 
     /// Teaches a pass the journal and what is published.

@@ -1,7 +1,8 @@
 //! Which pass made each entry of a room's journal, in proofs; and the units of the entries that may still come.
 
-ghost use Rattle.std.specs.Prelude.{◌≡◌, ◌+◌, ◌<◌, ◌≤◌, ◌++◌, ◌∷◌, [], length, true, MatchBool};
+ghost use Rattle.std.specs.Prelude.{◌≡◌, ◌+◌, ◌<◌, ◌≤◌, ◌++◌, ◌∷◌, [], length, true, IfErr, OnErr, OnOk};
 ghost use Rattle.std.specs.Vec.{vec_len, vec_capacity};
+ghost use mathlib.Core.List.{IsPrefix};
 ghost use Rattle.st_service.specs.Asked.{all_asked, all_own};
 ghost use Rattle.st_service.specs.Lines.{flat};
 ghost use Rattle.st_service.specs.Puts.{Puts};
@@ -50,15 +51,15 @@ impl<J: Naming, L: Ledger> Makers<J, L> {
         }
     }
 
-    /// Enters what a pass has made at the end of the journal, hands over its units, and teaches the pass the journal. It did not where
-    /// the line is longer.
+    /// Enters what a pass has made at the end of the journal, hands over its units, and teaches the pass the journal. At `Err` the line is
+    /// longer: nothing changes, and the error is what is seen of it now.
     pub fn enter(
         &mut self,
         place: &mut Place<J>,
         share: &mut Share<L>,
         entries: &[Entry],
         from: u32,
-    ) -> bool
+    ) -> Result<(), Log>
         requires group { place.old.group ≡ self.old.group }
         requires behind { place.old.batches ≤ self.old.batches }
         requires part { 0 < share.old.parts }
@@ -71,31 +72,33 @@ impl<J: Naming, L: Ledger> Makers<J, L> {
         ensures group { self.new.group ≡ self.old.group }
         ensures place { (place.new.group ≡ place.old.group) × (place.new.number ≡ place.old.number) × (place.new.reader ≡ place.old.reader) }
         ensures parts { share.new.parts ≡ share.old.parts }
-        ensures entered { MatchBool result (self.new.seen.log ≡ self.old.seen.log ++ record { by = place.old.number; entries = entries.now } ∷ []) (self.new.seen.log ≡ self.old.seen.log) }
-        ensures units { MatchBool result ((self.new.units.amount + length entries.now ≡ self.old.units.amount) × (share.new.amount ≡ share.old.amount + length entries.now)) ((self.new.units.amount ≡ self.old.units.amount) × (share.new.amount ≡ share.old.amount)) }
-        ensures puts { MatchBool result (Puts place.old.number entries.now (flat self.old.seen.log) (flat place.old.seen.log) place.old.mine.items (flat place.new.seen.log) place.new.mine.items) (place.new ≡ place.old) }
-        ensures journal { MatchBool result (place.new.seen.log ≡ self.new.seen.log) (Unit {0}) }
+        ensures entered { OnOk result (self.new.seen.log ≡ self.old.seen.log ++ record { by = place.old.number; entries = entries.now } ∷ []) }
+        ensures units { OnOk result ((self.new.units.amount + length entries.now ≡ self.old.units.amount) × (share.new.amount ≡ share.old.amount + length entries.now)) }
+        ensures puts { OnOk result (Puts place.old.number entries.now (flat self.old.seen.log) (flat place.old.seen.log) place.old.mine.items (flat place.new.seen.log) place.new.mine.items) }
+        ensures journal { OnOk result (place.new.seen.log ≡ self.new.seen.log) }
+        ensures err { OnErr result ((self.new.seen ≡ self.old.seen) × (self.new.units ≡ self.old.units) × (place.new ≡ place.old) × (share.new ≡ share.old)) }
+        ensures longer { IfErr result (λ seen. (seen.book ≡ self.old.seen.book) × IsPrefix self.old.seen.log seen.log × (length self.old.seen.log < length seen.log)) }
     {
         let mut seen = self.seen.again();
         if !add_batch(&self.head, &mut seen, self.batches, place.number, entries) {
-            return false;
+            return Err(seen);
         }
         self.seen = seen;
         self.batches += 1;
         self.units.transfer(share, entries.len() as u64);
         place.made(&self.seen, self.batches, from, entries);
-        true
+        Ok(())
     }
 
-    /// Takes in what a room has entered for a pass behind so many entries, which may be nothing, and teaches the pass the journal. It did
-    /// not where the line is longer.
+    /// Takes in what a room has entered for a pass behind so many entries, which may be nothing, and teaches the pass the journal. At `Err`
+    /// the line is longer: nothing changes, and the error is what is seen of it now.
     pub fn take_in(
         &mut self,
         place: &mut Place<J>,
         share: &mut Share<L>,
         entries: &[Entry],
         from: u32,
-    ) -> bool
+    ) -> Result<(), Log>
         requires group { place.old.group ≡ self.old.group }
         requires behind { place.old.batches ≤ self.old.batches }
         requires part { 0 < share.old.parts }
@@ -107,14 +110,16 @@ impl<J: Naming, L: Ledger> Makers<J, L> {
         ensures group { self.new.group ≡ self.old.group }
         ensures place { (place.new.group ≡ place.old.group) × (place.new.number ≡ place.old.number) × (place.new.reader ≡ place.old.reader) }
         ensures parts { share.new.parts ≡ share.old.parts }
-        ensures units { MatchBool result ((self.new.units.amount + length entries.now ≡ self.old.units.amount) × (share.new.amount ≡ share.old.amount + length entries.now)) (share.new.amount ≡ share.old.amount) }
-        ensures puts { MatchBool result (Puts place.old.number entries.now (flat self.old.seen.log) (flat place.old.seen.log) place.old.mine.items (flat place.new.seen.log) place.new.mine.items) (place.new ≡ place.old) }
-        ensures journal { MatchBool result (place.new.seen.log ≡ self.new.seen.log) (Unit {0}) }
-        ensures missed { MatchBool result (Unit {0}) ((self.new.seen.log ≡ self.old.seen.log) × (0 < length entries.now)) }
+        ensures units { OnOk result ((self.new.units.amount + length entries.now ≡ self.old.units.amount) × (share.new.amount ≡ share.old.amount + length entries.now)) }
+        ensures puts { OnOk result (Puts place.old.number entries.now (flat self.old.seen.log) (flat place.old.seen.log) place.old.mine.items (flat place.new.seen.log) place.new.mine.items) }
+        ensures journal { OnOk result (place.new.seen.log ≡ self.new.seen.log) }
+        ensures err { OnErr result ((self.new.seen ≡ self.old.seen) × (self.new.units ≡ self.old.units) × (place.new ≡ place.old) × (share.new ≡ share.old)) }
+        ensures some { OnErr result (0 < length entries.now) }
+        ensures longer { IfErr result (λ seen. (seen.book ≡ self.old.seen.book) × IsPrefix self.old.seen.log seen.log × (length self.old.seen.log < length seen.log)) }
     {
         if entries.is_empty() {
             place.look(&self.seen, self.batches);
-            return true;
+            return Ok(());
         }
         self.enter(place, share, entries, from)
     }

@@ -18,22 +18,22 @@ show-requires-clause-ready g c =
     let old = c.self.inside.desk.desk.shown.value in
     let rows = c.in_ok-rows.rows in
     let front : c.again-front.result ≡ old.front = c.again-front.ensures ∙ ap (λ (t : Target). t.front) c.published.ensures in
-    let more : c.merge.new.self.seen.log ≡ old.front.seen.log ++ Merge rows ∷ [] = c.if-not-merge.ensures.done ∙ ap (λ (f : Front). f.seen.log ++ Merge rows ∷ []) front in
+    let more : c.merge.new.self.seen.log ≡ old.front.seen.log ++ Merge rows ∷ [] = c.in-Ok.ensures.done ∙ ap (λ (f : Front). f.seen.log ++ Merge rows ∷ []) front in
     let some : 0 < length old.front.seen.log = omega (arith, old.front.counted) in
     let group : All (RowFits (group_in old.front.seen.log)) c.args.rows.now = subst (λ (p : Published). All (RowFits p.group) c.args.rows.now) (sym c.self.view_is) c.requires.fits in
     let fits : All (RowFits (group_in old.front.seen.log)) rows = subst (All (RowFits (group_in old.front.seen.log))) (sym c.in_ok-rows.ensures) group in
-    (shows_more old.front.seen.log c.merge.new.self.seen.log rows old.table old.recent c.merge.new.self.version some more c.self.invariant.shown fits c.merge.new.self.merges, c.if-not-merge.ensures.book ∙ ap (λ (f : Front). f.seen.book) front)
+    (shows_more old.front.seen.log c.merge.new.self.seen.log rows old.table old.recent c.merge.new.self.version some more c.self.invariant.shown fits c.merge.new.self.merges, c.in-Ok.ensures.book ∙ ap (λ (f : Front). f.seen.book) front)
 
 pub invariant_of-self-2 : goal.invariant_of-self-2
 invariant_of-self-2 g c =
     let old = c.self.inside.desk.desk.shown.value in
     let rows = c.in_ok-rows.rows in
     let front : c.again-front.result ≡ old.front = c.again-front.ensures ∙ ap (λ (t : Target). t.front) c.published.ensures in
-    let more : c.merge.new.self.seen.log ≡ old.front.seen.log ++ Merge rows ∷ [] = c.if-not-merge.ensures.done ∙ ap (λ (f : Front). f.seen.log ++ Merge rows ∷ []) front in
+    let more : c.merge.new.self.seen.log ≡ old.front.seen.log ++ Merge rows ∷ [] = c.in-Ok.ensures.done ∙ ap (λ (f : Front). f.seen.log ++ Merge rows ∷ []) front in
     let some : 0 < length old.front.seen.log = omega (arith, old.front.counted) in
     let group : All (RowFits (group_in old.front.seen.log)) c.args.rows.now = subst (λ (p : Published). All (RowFits p.group) c.args.rows.now) (sym c.self.view_is) c.requires.fits in
     let fits : All (RowFits (group_in old.front.seen.log)) rows = subst (All (RowFits (group_in old.front.seen.log))) (sym c.in_ok-rows.ensures) group in
-    let book : c.merge.new.self.seen.book ≡ old.front.seen.book = c.if-not-merge.ensures.book ∙ ap (λ (f : Front). f.seen.book) front in
+    let book : c.merge.new.self.seen.book ≡ old.front.seen.book = c.in-Ok.ensures.book ∙ ap (λ (f : Front). f.seen.book) front in
     record {
       idle = c.in_ok-show.ensures.idle;
       shown = subst IsShown (sym c.in_ok-show.ensures.shown) (shows_more old.front.seen.log c.merge.new.self.seen.log rows old.table old.recent c.merge.new.self.version some more c.self.invariant.shown fits c.merge.new.self.merges);
@@ -46,9 +46,9 @@ returns-clause-ok g c =
     let old = c.self.inside.desk.desk.shown.value in
     let rows = c.in_ok-rows.rows in
     let front : c.again-front.result ≡ old.front = c.again-front.ensures ∙ ap (λ (t : Target). t.front) c.published.ensures in
-    let more : c.merge.new.self.seen.log ≡ old.front.seen.log ++ Merge rows ∷ [] = c.if-not-merge.ensures.done ∙ ap (λ (f : Front). f.seen.log ++ Merge rows ∷ []) front in
+    let more : c.merge.new.self.seen.log ≡ old.front.seen.log ++ Merge rows ∷ [] = c.in-Ok.ensures.done ∙ ap (λ (f : Front). f.seen.log ++ Merge rows ∷ []) front in
     let some : 0 < length old.front.seen.log = omega (arith, old.front.counted) in
-    let book : c.merge.new.self.seen.book ≡ old.front.seen.book = c.if-not-merge.ensures.book ∙ ap (λ (f : Front). f.seen.book) front in
+    let book : c.merge.new.self.seen.book ≡ old.front.seen.book = c.in-Ok.ensures.book ∙ ap (λ (f : Front). f.seen.book) front in
     ap (λ (t : Target). published_in t.front.seen.book t.front.seen.log) c.in_ok-show.ensures.shown
     ∙ (ap (λ (b : Book). published_in b c.merge.new.self.seen.log) book
     ∙ (published_more old.front.seen.book old.front.seen.log c.merge.new.self.seen.log rows some more

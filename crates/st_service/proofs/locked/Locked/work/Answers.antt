@@ -9,6 +9,9 @@ use Rattle.st_event.proofs.Accepting.{legal_within}
 use Rattle.st_board.specs.Published.{Published}
 use Rattle.st_world.specs.declared.world.rounds.Going.{Going}
 use Rattle.st_event.proofs.Prefixes.{prefix_self}
+use Rattle.logbook.specs.declared.tokens.Seen.{Seen}
+use Rattle.st_service.specs.declared.line.Batch.{Batch}
+use Rattle.st_service.specs.declared.line.Law.{Law}
 use Rattle.st_service.specs.declared.place.Place.{Place}
 use Rattle.st_service.specs.Lines.{flat}
 use Rattle.st_service.specs.Made.{IsMine, past_in}
@@ -212,8 +215,8 @@ take_in-requires-clause-spare g c =
     let enough = c.most_of.ensures (length es) t.few (omega (arith, within, t.count)) in
     omega (arith, enough, c.in_ok-reserve.ensures.ok, c.reserve.ensures.len)
 
-pub invariant_of-self-then-not-take_in : goal.invariant_of-self-then-not-take_in
-invariant_of-self-then-not-take_in g c =
+pub invariant_of-self-in-Err : goal.invariant_of-self-in-Err
+invariant_of-self-in-Err g c =
     let room = c.args.self.now in
     record {
       of_group = c.take_in.ensures.group ∙ room.of_group;
@@ -224,39 +227,39 @@ invariant_of-self-then-not-take_in g c =
       left = λ e. absurd cc;
     }
 
-pub returns-then-not-take_in-clause-group : goal.returns-then-not-take_in-clause-group
-returns-then-not-take_in-clause-group g c = refl
+pub returns-in-Err-clause-group : goal.returns-in-Err-clause-group
+returns-in-Err-clause-group g c = refl
 
-pub returns-then-not-take_in-clause-place : goal.returns-then-not-take_in-clause-place
-returns-then-not-take_in-clause-place g c = (c.take_in.ensures.place.0, c.take_in.ensures.place.1)
+pub returns-in-Err-clause-place : goal.returns-in-Err-clause-place
+returns-in-Err-clause-place g c = (c.take_in.ensures.place.0, c.take_in.ensures.place.1)
 
-pub returns-then-not-take_in-clause-share : goal.returns-then-not-take_in-clause-share
-returns-then-not-take_in-clause-share g c =
-    let same = c.if-not-take_in.ensures.puts in
-    (c.take_in.ensures.parts, omega (arith, c.if-not-take_in.ensures.units, ap (λ (p : Place g.row.J.Denot g.J.Naming). length p.mine.items) same, ap length c.reserve.ensures.items))
+pub returns-in-Err-clause-share : goal.returns-in-Err-clause-share
+returns-in-Err-clause-share g c =
+    let same = c.in-Err.ensures.err.2 in
+    (c.take_in.ensures.parts, omega (arith, ap (λ s. s.amount) c.in-Err.ensures.err.3, ap (λ (p : Place g.row.J.Denot g.J.Naming). length p.mine.items) same, ap length c.reserve.ensures.items))
 
-pub returns-then-not-take_in-clause-entered : goal.returns-then-not-take_in-clause-entered
-returns-then-not-take_in-clause-entered g c = tt
+pub returns-in-Err-clause-entered : goal.returns-in-Err-clause-entered
+returns-in-Err-clause-entered g c = tt
 
-pub returns-then-not-take_in-clause-refused : goal.returns-then-not-take_in-clause-refused
-returns-then-not-take_in-clause-refused g c =
-    let same = c.if-not-take_in.ensures.puts in
+pub returns-in-Err-clause-refused : goal.returns-in-Err-clause-refused
+returns-in-Err-clause-refused g c =
+    let same = c.in-Err.ensures.err.2 in
     inl (ap (λ (p : Place g.row.J.Denot g.J.Naming). flat p.seen.log) same, ap (λ (p : Place g.row.J.Denot g.J.Naming). p.mine.items) same ∙ c.reserve.ensures.items)
 
-pub returns-then-not-take_in-clause-journal : goal.returns-then-not-take_in-clause-journal
-returns-then-not-take_in-clause-journal g c = tt
+pub returns-in-Err-clause-journal : goal.returns-in-Err-clause-journal
+returns-in-Err-clause-journal g c = tt
 
-pub returns-then-not-take_in-clause-open : goal.returns-then-not-take_in-clause-open
-returns-then-not-take_in-clause-open g c = tt
+pub returns-in-Err-clause-open : goal.returns-in-Err-clause-open
+returns-in-Err-clause-open g c = tt
 
-pub returns-then-not-take_in-clause-shut : goal.returns-then-not-take_in-clause-shut
-returns-then-not-take_in-clause-shut g c = λ shut. absurd (open_not_shut c.args.self.now.lost c.args.self.now.room (c.if-is_shut_to.ensures.0, c.if-is_shut_to.ensures.1) shut)
+pub returns-in-Err-clause-shut : goal.returns-in-Err-clause-shut
+returns-in-Err-clause-shut g c = λ shut. absurd (open_not_shut c.args.self.now.lost c.args.self.now.room (c.if-is_shut_to.ensures.0, c.if-is_shut_to.ensures.1) shut)
 
-pub returns-then-not-take_in-clause-spent : goal.returns-then-not-take_in-clause-spent
-returns-then-not-take_in-clause-spent g c = λ was is. ((c.work-going.ensures.spent is).0, refl)
+pub returns-in-Err-clause-spent : goal.returns-in-Err-clause-spent
+returns-in-Err-clause-spent g c = λ was is. ((c.work-going.ensures.spent is).0, refl)
 
-pub returns-then-not-take_in-clause-lost : goal.returns-then-not-take_in-clause-lost
-returns-then-not-take_in-clause-lost g c =
+pub returns-in-Err-clause-lost : goal.returns-in-Err-clause-lost
+returns-in-Err-clause-lost g c =
     let room = c.args.self.now in
     let place = c.args.place.now in
     let old = room.room.history in
@@ -264,29 +267,28 @@ returns-then-not-take_in-clause-lost g c =
     let es = c.since-entries.result.now in
     let most = work_share c.args.work old.group room.room.lines in
     let t = taken place.number most c.count-from.result old.past new.past es c.work-going.ensures.adds c.count-from.ensures.count c.since-entries.ensures in
-    let missed = c.if-not-take_in.ensures.missed in
-    λ was is. (lacks old.past new.past es (flat room.makers.seen.log) (flat c.take_in.new.self.seen.log) (room.kept c.if-is_shut_to.ensures.0) t.count (ap flat missed.0) missed.1, refl)
+    λ was is. (lacks old.past new.past es (flat room.makers.seen.log) (flat c.take_in.new.self.seen.log) (room.kept c.if-is_shut_to.ensures.0) t.count (ap (λ (s : Seen Batch ℕ Law). flat s.log) c.in-Err.ensures.err.0) c.in-Err.ensures.some, refl)
 
-pub returns-then-not-take_in-clause-grows : goal.returns-then-not-take_in-clause-grows
-returns-then-not-take_in-clause-grows g c =
+pub returns-in-Err-clause-grows : goal.returns-in-Err-clause-grows
+returns-in-Err-clause-grows g c =
     let place = c.args.place.now in
     let q = c.take_in.new.place in
-    let same = c.if-not-take_in.ensures.puts in
+    let same = c.in-Err.ensures.err.2 in
     look_grows _ (flat place.seen.log) (flat q.seen.log) place.mine.items q.mine.items (subst (λ (p : Place g.row.J.Denot g.J.Naming). IsPrefix (flat place.seen.log) (flat p.seen.log)) (sym same) (prefix_self (flat place.seen.log))) (ap (λ (p : Place g.row.J.Denot g.J.Naming). p.mine.items) same ∙ c.reserve.ensures.items)
 
-pub returns-then-not-take_in-clause-legal : goal.returns-then-not-take_in-clause-legal
-returns-then-not-take_in-clause-legal g c =
-    let same = c.if-not-take_in.ensures.puts in
+pub returns-in-Err-clause-legal : goal.returns-in-Err-clause-legal
+returns-in-Err-clause-legal g c =
+    let same = c.in-Err.ensures.err.2 in
     λ legal. subst (λ (p : Place g.row.J.Denot g.J.Naming). IsLegal (g.J.Naming.group c.args.self.now.group) (past_in (flat p.seen.log))) (sym same) legal
 
-pub returns-then-not-take_in-clause-reader : goal.returns-then-not-take_in-clause-reader
-returns-then-not-take_in-clause-reader g c = subst (λ (r : Published). IsPrefix c.args.place.now.reader.proposals r.proposals) (sym c.take_in.ensures.place.2) (prefix_self c.args.place.now.reader.proposals)
+pub returns-in-Err-clause-reader : goal.returns-in-Err-clause-reader
+returns-in-Err-clause-reader g c = subst (λ (r : Published). IsPrefix c.args.place.now.reader.proposals r.proposals) (sym c.take_in.ensures.place.2) (prefix_self c.args.place.now.reader.proposals)
 
-pub returns-then-not-take_in-clause-reads : goal.returns-then-not-take_in-clause-reads
-returns-then-not-take_in-clause-reads g c = tt
+pub returns-in-Err-clause-reads : goal.returns-in-Err-clause-reads
+returns-in-Err-clause-reads g c = tt
 
-pub invariant_of-self-else-not-take_in : goal.invariant_of-self-else-not-take_in
-invariant_of-self-else-not-take_in g c =
+pub invariant_of-self-in-Ok : goal.invariant_of-self-in-Ok
+invariant_of-self-in-Ok g c =
     let room = c.args.self.now in
     let place = c.args.place.now in
     let old = room.room.history in
@@ -295,25 +297,25 @@ invariant_of-self-else-not-take_in g c =
     let most = work_share c.args.work old.group room.room.lines in
     let q = c.take_in.new.place in
     let h = held place.number most c.count-from.result old.past new.past es (flat room.makers.seen.log) (flat place.seen.log) place.mine.items c.reserve.new.self.items (flat q.seen.log) q.mine.items
-    (room.kept c.if-is_shut_to.ensures.0) c.work-going.ensures.adds c.count-from.ensures.count c.since-entries.ensures c.reserve.ensures.items c.if-not-take_in.ensures.puts in
-    let left : c.take_in.new.self.units.amount + length new.past ≡ 200000 = omega (arith, c.if-not-take_in.ensures.units.0, room.left c.if-is_shut_to.ensures.0, h.taken.count) in
+    (room.kept c.if-is_shut_to.ensures.0) c.work-going.ensures.adds c.count-from.ensures.count c.since-entries.ensures c.reserve.ensures.items c.in-Ok.ensures.puts in
+    let left : c.take_in.new.self.units.amount + length new.past ≡ 200000 = omega (arith, c.in-Ok.ensures.units.0, room.left c.if-is_shut_to.ensures.0, h.taken.count) in
     record {
       of_group = c.take_in.ensures.group ∙ room.of_group;
       group_is = c.work-going.ensures.room.group ∙ room.group_is;
       lines_are = c.work-going.ensures.room.lines ∙ room.lines_are;
       board_is = c.work-going.ensures.room.board ∙ room.board_is;
-      kept = λ ok. ap (λ l. past_in (flat l)) (sym c.if-not-take_in.ensures.journal) ∙ h.line;
+      kept = λ ok. ap (λ l. past_in (flat l)) (sym c.in-Ok.ensures.journal) ∙ h.line;
       left = λ ok. left;
     }
 
-pub returns-clause-group : goal.returns-clause-group
-returns-clause-group g c = refl
+pub returns-in-Ok-clause-group : goal.returns-in-Ok-clause-group
+returns-in-Ok-clause-group g c = refl
 
-pub returns-clause-place : goal.returns-clause-place
-returns-clause-place g c = (c.take_in.ensures.place.0, c.take_in.ensures.place.1)
+pub returns-in-Ok-clause-place : goal.returns-in-Ok-clause-place
+returns-in-Ok-clause-place g c = (c.take_in.ensures.place.0, c.take_in.ensures.place.1)
 
-pub returns-clause-share : goal.returns-clause-share
-returns-clause-share g c =
+pub returns-in-Ok-clause-share : goal.returns-in-Ok-clause-share
+returns-in-Ok-clause-share g c =
     let room = c.args.self.now in
     let place = c.args.place.now in
     let old = room.room.history in
@@ -322,17 +324,17 @@ returns-clause-share g c =
     let most = work_share c.args.work old.group room.room.lines in
     let q = c.take_in.new.place in
     let h = held place.number most c.count-from.result old.past new.past es (flat room.makers.seen.log) (flat place.seen.log) place.mine.items c.reserve.new.self.items (flat q.seen.log) q.mine.items
-    (room.kept c.if-is_shut_to.ensures.0) c.work-going.ensures.adds c.count-from.ensures.count c.since-entries.ensures c.reserve.ensures.items c.if-not-take_in.ensures.puts in
-    (c.take_in.ensures.parts, puts_share place.number es (flat room.makers.seen.log) (flat place.seen.log) place.mine.items (flat q.seen.log) q.mine.items c.args.share.now.amount c.take_in.new.share.amount h.puts c.if-not-take_in.ensures.units.1)
+    (room.kept c.if-is_shut_to.ensures.0) c.work-going.ensures.adds c.count-from.ensures.count c.since-entries.ensures c.reserve.ensures.items c.in-Ok.ensures.puts in
+    (c.take_in.ensures.parts, puts_share place.number es (flat room.makers.seen.log) (flat place.seen.log) place.mine.items (flat q.seen.log) q.mine.items c.args.share.now.amount c.take_in.new.share.amount h.puts c.in-Ok.ensures.units.1)
 
-pub returns-clause-shut : goal.returns-clause-shut
-returns-clause-shut g c = λ shut. absurd (open_not_shut c.args.self.now.lost c.args.self.now.room (c.if-is_shut_to.ensures.0, c.if-is_shut_to.ensures.1) shut)
+pub returns-in-Ok-clause-shut : goal.returns-in-Ok-clause-shut
+returns-in-Ok-clause-shut g c = λ shut. absurd (open_not_shut c.args.self.now.lost c.args.self.now.room (c.if-is_shut_to.ensures.0, c.if-is_shut_to.ensures.1) shut)
 
-pub returns-clause-lost : goal.returns-clause-lost
-returns-clause-lost g c = λ was is. absurd (cc (was, is))
+pub returns-in-Ok-clause-lost : goal.returns-in-Ok-clause-lost
+returns-in-Ok-clause-lost g c = λ was is. absurd (cc (was, is))
 
-pub returns-clause-grows : goal.returns-clause-grows
-returns-clause-grows g c =
+pub returns-in-Ok-clause-grows : goal.returns-in-Ok-clause-grows
+returns-in-Ok-clause-grows g c =
     let room = c.args.self.now in
     let place = c.args.place.now in
     let old = room.room.history in
@@ -341,11 +343,11 @@ returns-clause-grows g c =
     let most = work_share c.args.work old.group room.room.lines in
     let q = c.take_in.new.place in
     let h = held place.number most c.count-from.result old.past new.past es (flat room.makers.seen.log) (flat place.seen.log) place.mine.items c.reserve.new.self.items (flat q.seen.log) q.mine.items
-    (room.kept c.if-is_shut_to.ensures.0) c.work-going.ensures.adds c.count-from.ensures.count c.since-entries.ensures c.reserve.ensures.items c.if-not-take_in.ensures.puts in
+    (room.kept c.if-is_shut_to.ensures.0) c.work-going.ensures.adds c.count-from.ensures.count c.since-entries.ensures c.reserve.ensures.items c.in-Ok.ensures.puts in
     rw (← room.group_is, ← room.lines_are) (puts_grows place.number most es (flat room.makers.seen.log) (flat place.seen.log) place.mine.items (flat q.seen.log) q.mine.items h.taken.few h.puts)
 
-pub returns-clause-legal : goal.returns-clause-legal
-returns-clause-legal g c =
+pub returns-in-Ok-clause-legal : goal.returns-in-Ok-clause-legal
+returns-in-Ok-clause-legal g c =
     let room = c.args.self.now in
     let place = c.args.place.now in
     let old = room.room.history in
@@ -354,7 +356,7 @@ returns-clause-legal g c =
     let most = work_share c.args.work old.group room.room.lines in
     let q = c.take_in.new.place in
     let h = held place.number most c.count-from.result old.past new.past es (flat room.makers.seen.log) (flat place.seen.log) place.mine.items c.reserve.new.self.items (flat q.seen.log) q.mine.items
-    (room.kept c.if-is_shut_to.ensures.0) c.work-going.ensures.adds c.count-from.ensures.count c.since-entries.ensures c.reserve.ensures.items c.if-not-take_in.ensures.puts in
+    (room.kept c.if-is_shut_to.ensures.0) c.work-going.ensures.adds c.count-from.ensures.count c.since-entries.ensures c.reserve.ensures.items c.in-Ok.ensures.puts in
     λ _. legal_taught (g.J.Naming.group room.group) new.group (flat q.seen.log) new.past h.line (c.work-going.ensures.room.group ∙ room.group_is) c.is_legal.ensures
 
 pub tell-requires-clause-book : goal.tell-requires-clause-book
@@ -367,8 +369,8 @@ pub tell-requires-clause-open : goal.tell-requires-clause-open
 tell-requires-clause-open g c =
     c.work-going.ensures.open
 
-pub invariant_of-self-2 : goal.invariant_of-self-2
-invariant_of-self-2 g c =
+pub invariant_of-self-in-Ok-2 : goal.invariant_of-self-in-Ok-2
+invariant_of-self-in-Ok-2 g c =
     let room = c.args.self.now in
     let place = c.args.place.now in
     let old = room.room.history in
@@ -377,19 +379,19 @@ invariant_of-self-2 g c =
     let most = work_share c.args.work old.group room.room.lines in
     let q = c.take_in.new.place in
     let h = held place.number most c.count-from.result old.past new.past es (flat room.makers.seen.log) (flat place.seen.log) place.mine.items c.reserve.new.self.items (flat q.seen.log) q.mine.items
-    (room.kept c.if-is_shut_to.ensures.0) c.work-going.ensures.adds c.count-from.ensures.count c.since-entries.ensures c.reserve.ensures.items c.if-not-take_in.ensures.puts in
-    let left : c.take_in.new.self.units.amount + length new.past ≡ 200000 = omega (arith, c.if-not-take_in.ensures.units.0, room.left c.if-is_shut_to.ensures.0, h.taken.count) in
+    (room.kept c.if-is_shut_to.ensures.0) c.work-going.ensures.adds c.count-from.ensures.count c.since-entries.ensures c.reserve.ensures.items c.in-Ok.ensures.puts in
+    let left : c.take_in.new.self.units.amount + length new.past ≡ 200000 = omega (arith, c.in-Ok.ensures.units.0, room.left c.if-is_shut_to.ensures.0, h.taken.count) in
     record {
       of_group = c.take_in.ensures.group ∙ room.of_group;
       group_is = c.work-going.ensures.room.group ∙ room.group_is;
       lines_are = c.work-going.ensures.room.lines ∙ room.lines_are;
       board_is = c.work-going.ensures.room.board ∙ room.board_is;
-      kept = λ ok. ap (λ l. past_in (flat l)) (sym c.if-not-take_in.ensures.journal) ∙ h.line;
+      kept = λ ok. ap (λ l. past_in (flat l)) (sym c.in-Ok.ensures.journal) ∙ h.line;
       left = λ ok. left;
     }
 
-pub invariant_of-place-2 : goal.invariant_of-place-2
-invariant_of-place-2 g c =
+pub invariant_of-place-in-Ok : goal.invariant_of-place-in-Ok
+invariant_of-place-in-Ok g c =
     let q = c.take_in.new.place in
     record {
       named = q.named;
@@ -400,8 +402,8 @@ invariant_of-place-2 g c =
       reads_group = c.tell.ensures.board.1 ∙ q.reads_group;
     }
 
-pub returns-clause-journal : goal.returns-clause-journal
-returns-clause-journal g c =
+pub returns-in-Ok-clause-journal : goal.returns-in-Ok-clause-journal
+returns-in-Ok-clause-journal g c =
     let room = c.args.self.now in
     let place = c.args.place.now in
     let old = room.room.history in
@@ -410,21 +412,21 @@ returns-clause-journal g c =
     let most = work_share c.args.work old.group room.room.lines in
     let q = c.take_in.new.place in
     let h = held place.number most c.count-from.result old.past new.past es (flat room.makers.seen.log) (flat place.seen.log) place.mine.items c.reserve.new.self.items (flat q.seen.log) q.mine.items
-    (room.kept c.if-is_shut_to.ensures.0) c.work-going.ensures.adds c.count-from.ensures.count c.since-entries.ensures c.reserve.ensures.items c.if-not-take_in.ensures.puts in
+    (room.kept c.if-is_shut_to.ensures.0) c.work-going.ensures.adds c.count-from.ensures.count c.since-entries.ensures c.reserve.ensures.items c.in-Ok.ensures.puts in
     if_any c.tell.result h.line
 
-pub returns-clause-open : goal.returns-clause-open
-returns-clause-open g c =
+pub returns-in-Ok-clause-open : goal.returns-in-Ok-clause-open
+returns-in-Ok-clause-open g c =
     on_any c.tell.result (c.if-is_shut_to.ensures.0, c.if-is_shut_to.ensures.1)
 
-pub returns-clause-spent : goal.returns-clause-spent
-returns-clause-spent g c =
+pub returns-in-Ok-clause-spent : goal.returns-in-Ok-clause-spent
+returns-in-Ok-clause-spent g c =
     λ was is.
     let refused = c.work-going.ensures.spent is in
     (refused.0, subst (λ (r : Result Going _). IsErr r) (sym c.tell.ensures.same) refused.1)
 
-pub returns-clause-entered : goal.returns-clause-entered
-returns-clause-entered g c =
+pub returns-in-Ok-clause-entered : goal.returns-in-Ok-clause-entered
+returns-in-Ok-clause-entered g c =
     let room = c.args.self.now in
     let place = c.args.place.now in
     let old = room.room.history in
@@ -433,13 +435,13 @@ returns-clause-entered g c =
     let most = work_share c.args.work old.group room.room.lines in
     let q = c.take_in.new.place in
     let h = held place.number most c.count-from.result old.past new.past es (flat room.makers.seen.log) (flat place.seen.log) place.mine.items c.reserve.new.self.items (flat q.seen.log) q.mine.items
-    (room.kept c.if-is_shut_to.ensures.0) c.work-going.ensures.adds c.count-from.ensures.count c.since-entries.ensures c.reserve.ensures.items c.if-not-take_in.ensures.puts in
+    (room.kept c.if-is_shut_to.ensures.0) c.work-going.ensures.adds c.count-from.ensures.count c.since-entries.ensures c.reserve.ensures.items c.in-Ok.ensures.puts in
     let course : List Entry → _ = course_at place.number c.args.work old.group room.room.lines in
     subst (λ (r : Result Going _). IfOk r (λ going. Enters (course_at place.number c.args.work (g.J.Naming.group room.group) (g.J.Naming.lines room.group)) going place.number (flat room.makers.seen.log) (flat place.seen.log) place.mine.items (flat q.seen.log) q.mine.items)) (sym c.tell.ensures.same)
     (rw (← room.group_is, ← room.lines_are) (enters_all c.work-going.result course place.number most old.past new.past es (flat room.makers.seen.log) (flat place.seen.log) place.mine.items (flat q.seen.log) q.mine.items c.work-going.ensures.ok c.work-going.ensures.full h.taken (room.kept c.if-is_shut_to.ensures.0) h.puts))
 
-pub returns-clause-refused : goal.returns-clause-refused
-returns-clause-refused g c =
+pub returns-in-Ok-clause-refused : goal.returns-in-Ok-clause-refused
+returns-in-Ok-clause-refused g c =
     let room = c.args.self.now in
     let place = c.args.place.now in
     let old = room.room.history in
@@ -448,16 +450,16 @@ returns-clause-refused g c =
     let most = work_share c.args.work old.group room.room.lines in
     let q = c.take_in.new.place in
     let h = held place.number most c.count-from.result old.past new.past es (flat room.makers.seen.log) (flat place.seen.log) place.mine.items c.reserve.new.self.items (flat q.seen.log) q.mine.items
-    (room.kept c.if-is_shut_to.ensures.0) c.work-going.ensures.adds c.count-from.ensures.count c.since-entries.ensures c.reserve.ensures.items c.if-not-take_in.ensures.puts in
+    (room.kept c.if-is_shut_to.ensures.0) c.work-going.ensures.adds c.count-from.ensures.count c.since-entries.ensures c.reserve.ensures.items c.in-Ok.ensures.puts in
     let course : List Entry → _ = course_at place.number c.args.work old.group room.room.lines in
     on_err c.tell.result (inr (rw (← room.group_is, ← room.lines_are) (enters_part course place.number most old.past new.past es (flat room.makers.seen.log) (flat place.seen.log) place.mine.items (flat q.seen.log) q.mine.items c.work-going.ensures.part h.taken (room.kept c.if-is_shut_to.ensures.0) h.puts)))
 
-pub returns-clause-reader : goal.returns-clause-reader
-returns-clause-reader g c =
+pub returns-in-Ok-clause-reader : goal.returns-in-Ok-clause-reader
+returns-in-Ok-clause-reader g c =
     subst (λ (r : Published). IsPrefix r.proposals c.tell.new.reader.proposals) c.take_in.ensures.place.2 c.tell.ensures.later
 
-pub returns-clause-reads : goal.returns-clause-reads
-returns-clause-reads g c =
+pub returns-in-Ok-clause-reads : goal.returns-in-Ok-clause-reads
+returns-in-Ok-clause-reads g c =
     let room = c.args.self.now in
     let place = c.args.place.now in
     let old = room.room.history in
@@ -466,5 +468,5 @@ returns-clause-reads g c =
     let most = work_share c.args.work old.group room.room.lines in
     let q = c.take_in.new.place in
     let h = held place.number most c.count-from.result old.past new.past es (flat room.makers.seen.log) (flat place.seen.log) place.mine.items c.reserve.new.self.items (flat q.seen.log) q.mine.items
-    (room.kept c.if-is_shut_to.ensures.0) c.work-going.ensures.adds c.count-from.ensures.count c.since-entries.ensures c.reserve.ensures.items c.if-not-take_in.ensures.puts in
+    (room.kept c.if-is_shut_to.ensures.0) c.work-going.ensures.adds c.count-from.ensures.count c.since-entries.ensures c.reserve.ensures.items c.in-Ok.ensures.puts in
     reads_taught c.tell.result (flat q.seen.log) new.past c.tell.new.reader.proposals h.line c.tell.ensures.reads
