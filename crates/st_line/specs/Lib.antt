@@ -1,0 +1,3 @@
+pub mod LineInside
+pub mod Lines
+pub mod WriterInside
