@@ -1,5 +1,5 @@
 -- What one post more makes of a front, and what two fronts of one line have in common.
-use Rattle.std.proofs.Common.{◌≡◌, ℕ, ◌<◌, ◌+◌, Bool, true, false, List, [], ◌∷◌, ◌++◌, length, All, refl, ap, sym, ◌∙◌, arith, length-append}
+use Rattle.std.proofs.Common.{◌≡◌, ◌⊎◌, ℕ, ◌<◌, ◌+◌, Bool, true, false, List, [], ◌∷◌, ◌++◌, length, All, inl, inr, refl, ap, sym, ◌∙◌, arith, append_assoc, length-append}
 use Rattle.std.proofs.lemmas.List.{append-nil}
 use mathlib.Core.List.{IsPrefix}
 use Rattle.st_net.specs.declared.entity.Row.{Row}
@@ -12,13 +12,10 @@ use Rattle.st_overlay.proofs.Overlaying.{Overlays-overlaid}
 use Rattle.st_overlay.proofs.FittingRows.{rows_in}
 use Rattle.st_board.specs.declared.post.Post.{Post}
 use Rattle.st_board.specs.declared.post.Post.TheVariants.{Open, Merge, End}
-use Rattle.st_board.specs.Posts.{MarkIsLast, is_end, is_ended, flag, group_in, proposals_in}
-use Rattle.logbook.specs.Pages.{Book}
+use Rattle.st_board.specs.Posts.{MarkIsLast, is_ended, flag, group_in, proposals_in}
+use Rattle.st_line.specs.Lines.{LineName}
+use Rattle.st_line.proofs.Chains.{cut}
 use Rattle.st_board.specs.Published.{IsMergeOf, published_in}
-
-append_empty : {A : Type 0} (xs ys : List A) → xs ++ ys ≡ [] → xs ≡ []
-append_empty [] ys e = refl
-append_empty (x ∷ xs) ys e = absurd (cc e)
 
 group_any : (x : Post) (xs ys : List Post) → group_in (x ∷ xs) ≡ group_in (x ∷ ys)
 group_any (Open g) xs ys = refl
@@ -34,18 +31,42 @@ group_same [] ys p some = absurd (omega arith)
 group_same (x ∷ xs) [] p some = absurd (cc (p.1))
 group_same (x ∷ xs) (y ∷ ys) p some = let e : x ≡ y = cc (p.1) in group_first x y xs ys e
 
+append_rest : {A : Type 0} (xs ys : List A) → xs ++ ys ≡ [] → ys ≡ []
+append_rest [] ys e = e
+append_rest (x ∷ xs) ys e = absurd (cc e)
+
+ended_cut : (log : List Post) → is_ended log ≡ true → (before : List Post) × (after : List Post) × (log ≡ before ++ End ∷ after)
+ended_cut [] e = absurd (cc e)
+ended_cut (Open g ∷ log) e = let r = ended_cut log e in (Open g ∷ r.0, r.1, ap (λ l. Open g ∷ l) r.2)
+ended_cut (Merge rows ∷ log) e = let r = ended_cut log e in (Merge rows ∷ r.0, r.1, ap (λ l. Merge rows ∷ l) r.2)
+ended_cut (End ∷ log) e = ([], log, refl)
+
+ended_at : (before after : List Post) → is_ended (before ++ End ∷ after) ≡ true
+ended_at [] after = refl
+ended_at (Open g ∷ before) after = ended_at before after
+ended_at (Merge rows ∷ before) after = ended_at before after
+ended_at (End ∷ before) after = refl
+
 -- where the mark is on a beginning of a line, it is the whole line
 pub ended_whole : (xs ys : List Post) → IsPrefix xs ys → is_ended xs ≡ true → MarkIsLast ys → xs ≡ ys
-ended_whole [] ys p ended last = absurd cc
-ended_whole (x ∷ xs) [] p ended last = absurd (cc (p.1))
-ended_whole (Open g ∷ xs) (y ∷ ys) p ended last = cc (p.1, ended_whole xs ys (p.0, cc (p.1)) ended last.1)
-ended_whole (Merge rows ∷ xs) (y ∷ ys) p ended last = cc (p.1, ended_whole xs ys (p.0, cc (p.1)) ended last.1)
-ended_whole (End ∷ xs) (y ∷ ys) p ended last =
-    let same : End ≡ y = cc (p.1) in
-    let none : ys ≡ [] = last.0 (ap is_end (sym same)) in
-    let rest : xs ++ p.0 ≡ ys = cc (p.1) in
-    let empty : xs ≡ [] = append_empty xs p.0 (rest ∙ none) in
-    cc (same, none, empty)
+ended_whole xs ys p ended last =
+    let r = ended_cut xs ended in
+    let at : ys ≡ r.0 ++ End ∷ (r.1 ++ p.0) = sym p.1 ∙ (ap (λ l. l ++ p.0) r.2 ∙ append_assoc r.0 (End ∷ r.1) p.0) in
+    let none : p.0 ≡ [] = append_rest r.1 p.0 (last r.0 (r.1 ++ p.0) at) in
+    sym (append-nil xs) ∙ (ap (λ l. xs ++ l) (sym none) ∙ p.1)
+
+none_behind : {A : Type 0} (xs : List A) → length xs ≡ 0 → xs ≡ []
+none_behind [] e = refl
+none_behind (x ∷ xs) e = absurd (omega (arith, e))
+
+mark_by : (log : List Post) (p : Post) (before after : List Post) → is_ended log ≡ false → log ++ p ∷ [] ≡ before ++ End ∷ after → ((p ≡ End) × (log ≡ before)) ⊎ ((zs : List Post) × (log ≡ before ++ End ∷ zs)) → after ≡ []
+mark_by log p before after going e (inl q) = none_behind after (omega (arith, ap length e, length-append log (p ∷ []), length-append before (End ∷ after), ap length q.1))
+mark_by log p before after going e (inr q) = absurd (cc (sym going ∙ (ap is_ended q.1 ∙ ended_at before q.0)))
+
+-- where the mark is not on the line, one more post may come
+pub mark_more : (log : List Post) (p : Post) → is_ended log ≡ false → MarkIsLast (log ++ p ∷ [])
+mark_more log p going before after e =
+    mark_by log p before after going e (cut log p before after End e)
 
 pub proposals_in-append : (xs ys : List Post) → proposals_in (xs ++ ys) ≡ proposals_in xs ++ proposals_in ys
 proposals_in-append [] ys = refl
@@ -123,8 +144,8 @@ pub shown_end : (log new : List Post) (t : Values) → 0 < length log → new �
 shown_end log new t some is was = rw (is, group_more log End some, proposals_end log) was
 
 -- what contracts see of a front with one merge more, and of one with the mark
-pub published_more : (b : Book) (log new : List Post) (rows : List Row) → 0 < length log → new ≡ log ++ Merge rows ∷ [] → published_in b new ≡ record (published_in b log) { proposals = proposals_in log ++ rows ∷ [] }
+pub published_more : (b : LineName) (log new : List Post) (rows : List Row) → 0 < length log → new ≡ log ++ Merge rows ∷ [] → published_in b new ≡ record (published_in b log) { proposals = proposals_in log ++ rows ∷ [] }
 published_more b log new rows some is = rw is (cc (group_more log (Merge rows) some, proposals_more log rows, ended_more log rows))
 
-pub published_end : (b : Book) (log new : List Post) → 0 < length log → new ≡ log ++ End ∷ [] → published_in b new ≡ record (published_in b log) { ended = true }
+pub published_end : (b : LineName) (log new : List Post) → 0 < length log → new ≡ log ++ End ∷ [] → published_in b new ≡ record (published_in b log) { ended = true }
 published_end b log new some is = rw is (cc (group_more log End some, proposals_end log, ended_end log))

@@ -4,14 +4,14 @@ use mathlib.Core.Option.{some}
 use lib.ListN.{get_elem?}
 use Rattle.left_right.specs.Register.{Admits, Turns, TurnsAt, Forks, Merges}
 use Rattle.atomic_table.proofs.Lists.{at_set, at_snoc}
-use Rattle.logbook.specs.Pages.{Book}
+use Rattle.st_line.specs.Lines.{LineName}
 use Rattle.st_board.specs.declared.target.Target.{Target}
 use Rattle.st_board.specs.ShownInside.{code, IsShown, Names, Bound, Shown}
 
-name_set : (b : Book) (views : List (List ℕ)) (seat : ℕ) (w : List ℕ) → ((j : ℕ) (v : List ℕ) → get_elem? views j ≡ some v → Names b v) → Names b w → (j : ℕ) (v : List ℕ) → get_elem? (set views seat w) j ≡ some v → Names b v
+name_set : (b : LineName) (views : List (List ℕ)) (seat : ℕ) (w : List ℕ) → ((j : ℕ) (v : List ℕ) → get_elem? views j ≡ some v → Names b v) → Names b w → (j : ℕ) (v : List ℕ) → get_elem? (set views seat w) j ≡ some v → Names b v
 name_set b views seat w all new j v at = ⊎_elim (λ (t : (j ≡ seat) × (w ≡ v)). subst (Names b) t.1 new) (λ (t : (j ≢ seat) × (get_elem? views j ≡ some v)). all j v t.1) (at_set views seat j w v at)
 
-name_snoc : (b : Book) (views : List (List ℕ)) (w : List ℕ) → ((j : ℕ) (v : List ℕ) → get_elem? views j ≡ some v → Names b v) → Names b w → (j : ℕ) (v : List ℕ) → get_elem? (views ++ w ∷ []) j ≡ some v → Names b v
+name_snoc : (b : LineName) (views : List (List ℕ)) (w : List ℕ) → ((j : ℕ) (v : List ℕ) → get_elem? views j ≡ some v → Names b v) → Names b w → (j : ℕ) (v : List ℕ) → get_elem? (views ++ w ∷ []) j ≡ some v → Names b v
 name_snoc b views w all new j v at = ⊎_elim (all j v) (λ (e : w ≡ v). subst (Names b) e new) (at_snoc views w v j at)
 
 pub admits : Admits Bound []
@@ -23,8 +23,8 @@ turns seat v x y table same views h at =
     let b = x.front.seen.book in
     let all : (j : ℕ) (u : List ℕ) → get_elem? (set views seat (code b)) j ≡ some u → Names b u = name_set b views seat (code b) h.1 (inr refl) in (
       code y.front.seen.book,
-      (table h.0, subst (λ (c : Book). (j : ℕ) (u : List ℕ) → get_elem? (set views seat (code c)) j ≡ some u → Names c u) (sym same) all),
-      (table h.0, subst (λ (c : Book). Names c v) (sym same) (h.1 seat v at), refl),
+      (table h.0, subst (λ (c : LineName). (j : ℕ) (u : List ℕ) → get_elem? (set views seat (code c)) j ≡ some u → Names c u) (sym same) all),
+      (table h.0, subst (λ (c : LineName). Names c v) (sym same) (h.1 seat v at), refl),
     )
 
 pub looks : (seat : ℕ) (v : List ℕ) → Turns Bound seat v (λ x. x) Shown

@@ -1,7 +1,7 @@
 -- A small line, worked out: a group of one switch whose variables open with 1, and two merges that set its firmware to 2 and then to 3.
-use Rattle.std.proofs.Common.{◌≡◌, ℕ, List, [], ◌∷◌, ◌++◌, length, refl, ap, arith, length-append}
+use Rattle.std.proofs.Common.{◌≡◌, ℕ, List, [], ◌∷◌, refl, ap, arith}
 use Rattle.std.specs.Prelude.{true, false, codes}
-use Rattle.logbook.specs.Pages.{Book, Step, View, step}
+use Rattle.st_line.specs.Lines.{LineName}
 use Rattle.st_net.specs.declared.entity.Entity.{Entity}
 use Rattle.st_net.specs.declared.entity.Entity.TheVariants.{Device}
 use Rattle.st_net.specs.declared.entity.Var.{Var}
@@ -13,8 +13,8 @@ use Rattle.st_net.specs.Merge.{merge_of}
 use Rattle.st_overlay.specs.Values.{Values}
 use Rattle.st_board.specs.declared.post.Post.{Post}
 use Rattle.st_board.specs.declared.post.Post.TheVariants.{Open, Merge, End}
-use Rattle.st_board.specs.LineInside.{Adds}
 use Rattle.st_board.specs.Posts.{proposals_in, MarkIsLast}
+use Rattle.st_board.proofs.Fronts.{mark_more}
 use Rattle.st_board.specs.Published.{IsMergeOf, published_in, opening_on}
 
 abbrev vals : ℕ → Vals
@@ -41,11 +41,11 @@ abbrev line : List Post
 line = Open g ∷ Merge (firmware 2) ∷ Merge (firmware 3) ∷ End ∷ []
 
 -- a front with no merge is the opening
-pub at_the_opening : (b : Book) → published_in b (Open g ∷ []) ≡ opening_on b g
+pub at_the_opening : (b : LineName) → published_in b (Open g ∷ []) ≡ opening_on b g
 at_the_opening b = refl
 
 -- the mark ends a front, and is no proposal of it
-pub the_whole_front : (b : Book) → published_in b line ≡ record { book = b; group = g; proposals = firmware 2 ∷ firmware 3 ∷ []; ended = true }
+pub the_whole_front : (b : LineName) → published_in b line ≡ record { book = b; group = g; proposals = firmware 2 ∷ firmware 3 ∷ []; ended = true }
 the_whole_front b = refl
 
 -- what a reader sees with no merge, with one and with both
@@ -67,26 +67,7 @@ misses_a_merge merged = absurd (omega (arith, ap (λ (values : Entity → Var �
 
 -- nothing may be posted behind the mark
 pub the_mark_is_last : MarkIsLast line
-the_mark_is_last = ((λ e. absurd cc), ((λ e. absurd cc), ((λ e. absurd cc), ((λ e. refl), tt))))
+the_mark_is_last = mark_more (Open g ∷ Merge (firmware 2) ∷ Merge (firmware 3) ∷ []) End refl
 
 pub nothing_behind_the_mark : MarkIsLast (Open g ∷ End ∷ Merge (firmware 2) ∷ []) → ⊥
-nothing_behind_the_mark last = let none : Merge (firmware 2) ∷ [] ≡ [] = last.1.0 refl in absurd (cc none)
-
--- a step that finds the word at 3 as it had seen it adds its post, and one that finds it at 5 has then seen more
-abbrev told : Step Post
-told = step 0 3 4 End
-
-pub adds_its_post : (v w : View Post ℕ) → w.0 ≡ v.0 ++ End ∷ [] → Adds told v 3 w
-adds_its_post v w e = e
-
-pub adds_where_longer : (v w : View Post ℕ) → w.0 ≡ v.0 ++ Merge (firmware 2) ∷ [] → Adds told v 5 w
-adds_where_longer v w e = omega (arith, ap length e, length-append v.0 (Merge (firmware 2) ∷ []))
-
-pub not_nothing_added : (v w : View Post ℕ) → w.0 ≡ v.0 → Adds told v 3 w → ⊥
-not_nothing_added v w same added = absurd (omega (arith, ap length same, ap length added, length-append v.0 (End ∷ [])))
-
-pub not_two_added : (v w : View Post ℕ) → w.0 ≡ v.0 ++ End ∷ End ∷ [] → Adds told v 3 w → ⊥
-not_two_added v w two added = absurd (omega (arith, ap length two, ap length added, length-append v.0 (End ∷ End ∷ []), length-append v.0 (End ∷ [])))
-
-pub not_refused_where_no_more_is_seen : (v w : View Post ℕ) → w.0 ≡ v.0 → Adds told v 5 w → ⊥
-not_refused_where_no_more_is_seen v w same longer = absurd (omega (arith, ap length same, longer))
+nothing_behind_the_mark last = let none : Merge (firmware 2) ∷ [] ≡ [] = last (Open g ∷ []) (Merge (firmware 2) ∷ []) refl in absurd (cc none)

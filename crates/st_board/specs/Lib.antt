@@ -1,5 +1,4 @@
 pub mod BoardInside
-pub mod LineInside
 pub mod Posts
 pub mod Published
 pub mod ReaderInside

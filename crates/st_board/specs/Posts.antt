@@ -1,5 +1,5 @@
 -- What the posts of a line come to.
-use Rattle.std.specs.Prelude.{◌≡◌, ℕ, Bool, true, false, ◌||◌, List, [], ◌∷◌}
+use Rattle.std.specs.Prelude.{◌≡◌, ℕ, Bool, true, false, ◌||◌, List, [], ◌∷◌, ◌++◌}
 use Rattle.st_net.specs.declared.entity.Row.{Row}
 use Rattle.st_net.specs.Groups.{Group}
 use Rattle.st_board.specs.declared.post.Post.{Post}
@@ -35,8 +35,7 @@ is_ended (p ∷ posts) = is_end p || is_ended posts
 
 -- the mark of the end stands at the end alone
 abbrev pub MarkIsLast : List Post → Type 0
-MarkIsLast [] = Unit {0}
-MarkIsLast (p ∷ posts) = (is_end p ≡ true → posts ≡ []) × MarkIsLast posts
+MarkIsLast log = (before after : List Post) → log ≡ before ++ End ∷ after → after ≡ []
 
 abbrev pub flag : Bool → ℕ
 flag true = 1

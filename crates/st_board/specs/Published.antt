@@ -1,7 +1,7 @@
 -- What contracts see of a board, a reader or a note: which line it is of, its group, the proposals of its front, and whether the front has the mark
 -- of the end. And when a table is what these come to.
 use Rattle.std.specs.Prelude.{◌≡◌, Bool, false, List, []}
-use Rattle.logbook.specs.Pages.{Book}
+use Rattle.st_line.specs.Lines.{LineName}
 use Rattle.st_net.specs.declared.entity.Row.{Row}
 use Rattle.st_net.specs.Groups.{Group}
 use Rattle.st_net.specs.Merge.{merge_of}
@@ -10,17 +10,17 @@ use Rattle.st_board.specs.declared.post.Post.{Post}
 use Rattle.st_board.specs.Posts.{proposals_in, group_in, is_ended}
 
 pub record Published : Type 0 where
-  pub book : Book
+  pub book : LineName
   pub group : Group
   pub proposals : List (List Row)
   pub ended : Bool
 
 -- of a front of a line
-abbrev pub published_in : Book → List Post → Published
+abbrev pub published_in : LineName → List Post → Published
 published_in b log = record { book = b; group = group_in log; proposals = proposals_in log; ended = is_ended log }
 
 -- nothing was published yet
-abbrev pub opening_on : Book → Group → Published
+abbrev pub opening_on : LineName → Group → Published
 opening_on b g = record { book = b; group = g; proposals = []; ended = false }
 
 -- the table has the merge of these proposals over the opening of the group

@@ -2,7 +2,7 @@
 use Rattle.std.specs.Prelude.{◌≡◌, ◌⊎◌, ℕ, List, [], ◌∷◌, fold}
 use mathlib.Core.Option.{some}
 use lib.ListN.{get_elem?}
-use Rattle.logbook.specs.Pages.{Book}
+use Rattle.st_line.specs.Lines.{LineName}
 use Rattle.st_overlay.specs.Values.{overlaid}
 use Rattle.st_board.specs.declared.target.Target.{Target}
 use Rattle.st_board.specs.declared.target.Merge.{Merge}
@@ -11,8 +11,8 @@ use Rattle.st_board.specs.Published.{IsMergeOf}
 use Rattle.st_board.specs.Recent.{merges_with, AreLatestOf}
 
 -- a line's name, as numbers
-abbrev pub code : Book → List ℕ
-code b = b.number ∷ b.log_name ∷ b.cells_name ∷ []
+abbrev pub code : LineName → List ℕ
+code b = b.book.number ∷ b.book.log_name ∷ b.book.cells_name ∷ b.key ∷ []
 
 abbrev pub absorbed : Target → Merge → Target
 absorbed s m = record { table = overlaid s.table m.rows; front = m.front; recent = merges_with s.recent m.rows m.front.version }
@@ -22,7 +22,7 @@ abbrev pub IsShown : Target → Type 0
 IsShown x = IsMergeOf (group_in x.front.seen.log) (proposals_in x.front.seen.log) x.table × AreLatestOf (group_in x.front.seen.log) (proposals_in x.front.seen.log) x.recent
 
 -- a view that knows no line, or this one
-abbrev pub Names : Book → List ℕ → Type 0
+abbrev pub Names : LineName → List ℕ → Type 0
 Names b v = (v ≡ []) ⊎ (v ≡ code b)
 
 abbrev pub Bound : Target → List (List ℕ) → Type 0

@@ -4,13 +4,15 @@ ghost use Rattle.std.specs.Prelude.{◌≡◌, ◌+◌, ◌<◌, ◌≤◌, ◌^
 ghost use Rattle.st_net.specs.Ranges.{RowFits};
 ghost use Rattle.st_board.specs.Published.{IsMergeOf, opening_on};
 
-use crate::line::{Head, Line};
+use crate::line::Line;
 use crate::note::Note;
+use crate::post::Post;
 use crate::reader::TargetReader;
 use crate::recent::Recent;
 use crate::target::{Desk, Merge, Same, Target, show, show_next};
 use left_right::writer::Writer;
 use st_event::Rows;
+use st_line::Writer as LineWriter;
 use st_net::{GroupTopo, Row};
 use st_overlay::Table;
 use std::alloc::{AllocError, Global};
@@ -29,8 +31,9 @@ pub fn most_readers()
 /// or keep it in a `Held`.
 pub struct Board {
     desk: Desk,
-    // the word that counts the posts of the line
-    head: Head,
+    line: LineWriter<Post>,
+    /// Whether something was posted on the line that could not be shown. Then nothing more is published.
+    ahead: bool,
 }
 
 impl Model for Board {
@@ -88,10 +91,7 @@ impl Board {
     {
         let table = Table::opening(alloc, topo)?;
         let spare = table.copy(alloc)?;
-        // Nothing was posted on a new line, so this is never refused. The same goes for the posts below, since none posts but the board.
-        let Ok((head, front)) = line.open(topo) else {
-            return Err(AllocError);
-        };
+        let (line, front) = line.open(topo);
         let first = Target {
             table,
             front: front.again(),
@@ -104,7 +104,11 @@ impl Board {
         };
         let desk: Desk = Writer::new(alloc, first, second, readers as usize + 1)?;
         let (desk, ()) = show_next(desk, rt);
-        Ok(Board { desk, head })
+        Ok(Board {
+            desk,
+            line,
+            ahead: false,
+        })
     }
 
     /// A reader at what is shown.
@@ -124,8 +128,8 @@ impl Board {
         })
     }
 
-    /// Publishes one merge, and gives a note of the front that ends with it. At `Err`, which is want of memory, nothing was published. It
-    /// may wait for readers.
+    /// Publishes one merge, and gives a note of the front that ends with it. At `Err`, which is want of memory, now or in an earlier call
+    /// whose post was made, nothing was published. It may wait for readers.
     pub fn publish<R: Wait>(
         &mut self,
         rt: &R,
@@ -139,34 +143,40 @@ impl Board {
         ensures note { IfOk result (λ note. note ≡ self.new) }
         ensures err { OnErr result (self.new ≡ self.old) }
     {
+        if self.ahead {
+            return Err(AllocError);
+        }
         let rows = Rows::from_slice(alloc, rows)?;
         let mut front = self.desk.published().front.again();
-        let Ok(()) = front.merge(&self.head, &rows) else {
-            return Err(AllocError);
-        };
+        front.merge(&mut self.line, &rows);
         // The note first: what is shown takes the front.
         let note = front.again();
         let merge = Merge { rows, front };
+        self.ahead = true;
         show(&mut self.desk, rt, merge)?;
+        self.ahead = false;
         Ok(Note { front: note })
     }
 
-    /// Publishes the mark that ends the front, and gives a note of the whole front. At `Err`, which is want of memory, nothing was
-    /// published. It may wait for readers.
+    /// Publishes the mark that ends the front, and gives a note of the whole front. At `Err`, which is want of memory, now or in an earlier
+    /// call whose post was made, nothing was published. It may wait for readers.
     pub fn end<R: Wait>(&mut self, rt: &R, alloc: Global) -> Result<Note, AllocError>
         requires going { self.old.ended ≡ false }
         ensures ok { OnOk result (self.new ≡ record self.old { ended = true }) }
         ensures note { IfOk result (λ note. note ≡ self.new) }
         ensures err { OnErr result (self.new ≡ self.old) }
     {
+        if self.ahead {
+            return Err(AllocError);
+        }
         let rows = Rows::new(Vec::new(alloc));
         let mut front = self.desk.published().front.again();
-        let Ok(()) = front.end(&self.head) else {
-            return Err(AllocError);
-        };
+        front.end(&mut self.line);
         let whole = front.again();
         let mark = Merge { rows, front };
+        self.ahead = true;
         show(&mut self.desk, rt, mark)?;
+        self.ahead = false;
         Ok(Note { front: whole })
     }
 
@@ -188,7 +198,11 @@ impl Board {
 
     /// Gives the board up, at any time and also after a refusal. Its readers go on with what they have. It may wait for readers.
     pub fn give_up<R: Wait>(self, rt: &R) {
-        let Board { desk, head: _head } = self;
+        let Board {
+            desk,
+            line: _,
+            ahead: _,
+        } = self;
         desk.take(rt);
     }
 }

@@ -1,15 +1,14 @@
 //! A front: a beginning of a board's line that was seen, with its counts. The writer shows one beside each table, and each note
 //! and each reader has one.
 
-ghost use Rattle.std.specs.Prelude.{◌≡◌, ◌+◌, ◌<◌, ◌≤◌, ◌^◌, ◌++◌, ◌∷◌, [], length, true, false, IfErr, OnErr, OnOk};
+ghost use Rattle.std.specs.Prelude.{◌≡◌, ◌+◌, ◌<◌, ◌^◌, ◌++◌, ◌∷◌, [], length, true, false};
 ghost use mathlib.Core.List.{IsPrefix};
-ghost use Rattle.st_board.specs.Posts.{flag, is_ended, proposals_in};
-ghost use Rattle.st_board.specs.LineInside.{head_of};
+ghost use Rattle.st_board.specs.Posts.{MarkIsLast, flag, is_ended, proposals_in};
 ghost use Rattle.st_board.specs.declared.post.Post.TheVariants.{Merge as merge_post, End as end_post};
 
-use crate::line::{Head, add_post};
-use crate::post::{Ends, Log, Merges};
+use crate::post::{Ends, Merges, Post};
 use st_event::Rows;
+use st_line::{Log, Writer};
 
 /// A beginning of a line that was seen, with the group at least.
 #[derive(Drop)]
@@ -18,9 +17,10 @@ pub struct Front {
     pub version: u32,
     /// Whether the mark is on it.
     pub ended: bool,
-    pub seen: Log,
+    pub seen: Log<Post>,
     pub ghost merges: { version ≡ length (proposals_in seen.log) },
     pub ghost marked: { ended ≡ is_ended seen.log },
+    pub ghost last: { MarkIsLast seen.log },
     pub ghost counted: { 1 + version + flag ended ≡ length seen.log },
 }
 
@@ -28,7 +28,6 @@ impl Front {
     /// How many posts there are.
     pub fn posts(&self) -> u64
         ensures count { result ≡ length self.now.seen.log }
-        ensures few { result ≤ 2 ^ 32 + 1 }
     {
         1 + self.version as u64 + self.ended as u64
     }
@@ -56,41 +55,30 @@ impl Front {
         }
     }
 
-    /// Posts a merge behind all that was seen. At `Err` the line is longer: nothing changes, and the error is what is seen of it now.
-    pub fn merge(&mut self, head: &Head, rows: &Rows) -> Result<(), Log>
-        requires head { head.now.word ≡ head_of self.old.seen.book }
+    /// Posts a merge on the line, of which all was seen.
+    pub fn merge(&mut self, writer: &mut Writer<Post>, rows: &Rows)
+        requires whole { writer.old ≡ self.old.seen }
         requires going { is_ended self.old.seen.log ≡ false }
         requires room { length (proposals_in self.old.seen.log) + 1 < 2 ^ 32 }
+        ensures whole { writer.new ≡ self.new.seen }
         ensures book { self.new.seen.book ≡ self.old.seen.book }
-        ensures done { OnOk result (self.new.seen.log ≡ self.old.seen.log ++ merge_post rows.now ∷ []) }
-        ensures err { OnErr result (self.new ≡ self.old) }
-        ensures longer { IfErr result (λ seen. (seen.book ≡ self.old.seen.book) × IsPrefix self.old.seen.log seen.log × (length self.old.seen.log < length seen.log)) }
+        ensures log { self.new.seen.log ≡ self.old.seen.log ++ merge_post rows.now ∷ [] }
     {
-        let mut seen = self.seen.again();
-        if !add_post::<Rows, Merges>(head, &mut seen, self.posts(), rows) {
-            return Err(seen);
-        }
+        writer.add::<Rows, Merges>(rows);
         self.version += 1;
-        self.seen = seen;
-        Ok(())
+        self.seen = writer.log();
     }
 
-    /// Posts the mark of the end behind all that was seen. At `Err` the line is longer: nothing changes, and the error is what is seen of
-    /// it now.
-    pub fn end(&mut self, head: &Head) -> Result<(), Log>
-        requires head { head.now.word ≡ head_of self.old.seen.book }
+    /// Posts the mark of the end on the line, of which all was seen.
+    pub fn end(&mut self, writer: &mut Writer<Post>)
+        requires whole { writer.old ≡ self.old.seen }
         requires going { is_ended self.old.seen.log ≡ false }
+        ensures whole { writer.new ≡ self.new.seen }
         ensures book { self.new.seen.book ≡ self.old.seen.book }
-        ensures done { OnOk result (self.new.seen.log ≡ self.old.seen.log ++ end_post ∷ []) }
-        ensures err { OnErr result (self.new ≡ self.old) }
-        ensures longer { IfErr result (λ seen. (seen.book ≡ self.old.seen.book) × IsPrefix self.old.seen.log seen.log × (length self.old.seen.log < length seen.log)) }
+        ensures log { self.new.seen.log ≡ self.old.seen.log ++ end_post ∷ [] }
     {
-        let mut seen = self.seen.again();
-        if !add_post::<(), Ends>(head, &mut seen, self.posts(), &()) {
-            return Err(seen);
-        }
+        writer.add::<(), Ends>(&());
         self.ended = true;
-        self.seen = seen;
-        Ok(())
+        self.seen = writer.log();
     }
 }

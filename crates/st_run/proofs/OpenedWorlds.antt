@@ -21,6 +21,7 @@ use Rattle.st_board.specs.Posts.{no_group}
 use Rattle.st_serial.specs.Serial.{FitsIn, GroupState, all_opened, groups_in, state_of, states_of}
 use Rattle.st_serial.proofs.Runs.{opened_groups, scripts_fit}
 use Rattle.st_serial.proofs.Worlds.{world_fits, world_there}
+use Rattle.st_line.specs.Lines.{no_line}
 use Rattle.st_service.specs.declared.start.RoomLines.{RoomLines}
 use Rattle.st_service.specs.Acts.{HasRounds}
 use Rattle.st_service.specs.Opened.{AreLinesOf, AreWorldsOf}
@@ -41,7 +42,7 @@ plan_named ws k = (get_or ws k no_world).lines
 
 -- lines are those of the names that they give themselves
 abbrev pub no_lines : RoomLines
-no_lines = record { journal = record { number = 0; log_name = 0; cells_name = 0 }; board = record { number = 0; log_name = 0; cells_name = 0 } }
+no_lines = record { journal = no_line; board = no_line }
 
 pub own_lines : (lines : List RoomLines) → AreLinesOf (λ k. (get_or lines k no_lines).journal) (λ k. (get_or lines k no_lines).board) lines
 own_lines lines k d low = let same = get_or_default lines k d no_lines low in (ap (λ (l : RoomLines). l.journal) same, ap (λ (l : RoomLines). l.board) same)

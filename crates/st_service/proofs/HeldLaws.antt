@@ -1,6 +1,6 @@
 -- What a pass can rely on after a hold of a room's lock: a legal journal, a reader that has all that it accepts, and units for what it made.
-use Rattle.std.proofs.Common.{◌≡◌, ℕ, ◌+◌, ◌<◌, inl, inr, List, length, ap, sym, subst, arith, length-append}
-use Rattle.std.specs.Prelude.{Bool, Result, Ok, Err, IfOk, OnOk, OnErr}
+use Rattle.std.proofs.Common.{◌≡◌, ℕ, ◌+◌, List, length, ap, sym, subst, arith, length-append}
+use Rattle.std.specs.Prelude.{Result, Ok, Err, IfOk, OnOk, OnErr}
 use mathlib.Core.List.{IsPrefix}
 use Rattle.st_net.specs.declared.entity.Row.{Row}
 use Rattle.st_net.specs.Groups.{Group}
@@ -10,8 +10,6 @@ use Rattle.st_event.specs.Proposals.{overlays}
 use Rattle.st_service.specs.Lines.{numbers}
 use Rattle.st_service.specs.Made.{Made, past_in}
 use Rattle.st_service.specs.Puts.{Puts}
-use Rattle.st_service.specs.Rooms.{RoomView, IsOpen, IsShut}
-use Rattle.st_service.proofs.HoldLaws.{length_past}
 use Rattle.st_service.proofs.Lines.{length_numbers}
 
 -- a front that is taught a legal journal is legal
@@ -41,12 +39,3 @@ on_any (Err e) h = tt
 pub if_any : {T E P : Type 0} (r : Result T E) → P → IfOk r (λ _. P)
 if_any (Ok x) h = h
 if_any (Err e) h = tt
-
--- a room that is open is not shut
-pub open_not_shut : (lost : Bool) (room : RoomView) → IsOpen lost room → IsShut lost room → ⊥
-open_not_shut lost room o (inl e) = absurd (cc (o.0, e))
-open_not_shut lost room o (inr e) = absurd (cc (o.1, e))
-
--- a line that was not told of what its room made lacks it
-pub lacks : (old new es : List Entry) (mid after : List Made) → past_in mid ≡ old → length es + length old ≡ length new → after ≡ mid → 0 < length es → length after < length new
-lacks old new es mid after kept count same some = omega (arith, count, some, length_past mid, ap length kept, ap length same)

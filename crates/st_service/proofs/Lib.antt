@@ -1,4 +1,3 @@
-pub mod Adding
 pub mod Mines
 pub mod Lines
 pub mod TicketLaws

@@ -1,7 +1,6 @@
 -- Worked examples on lines: batches laid end to end, the places of a pass, whose requests are whose, and tickets.
-use Rattle.std.proofs.Common.{◌≡◌, ℕ, zero, suc, ◌<◌, List, [], ◌∷◌, ◌++◌, length, Some, None, slice_index, refl, ap, arith, length-append}
+use Rattle.std.proofs.Common.{◌≡◌, ℕ, zero, suc, ◌<◌, List, [], ◌∷◌, length, Some, None, slice_index, refl, ap, arith}
 use Rattle.std.specs.Prelude.{true, false, map}
-use Rattle.logbook.specs.Pages.{Cell, Step, View, step}
 use Rattle.st_net.specs.declared.entity.Prio.TheVariants.{Low}
 use Rattle.st_event.specs.declared.event.Event.{Event}
 use Rattle.st_event.specs.declared.event.Event.TheVariants.{Submit, Check, Lock, Unlock, Send, Deliver, Finish, Report, Hear, Fail}
@@ -11,7 +10,6 @@ use Rattle.st_service.specs.declared.line.Batch.{Batch}
 use Rattle.st_service.specs.Asked.{asker, is_request, is_of, is_own, all_asked, all_own, requests_of, requests_in}
 use Rattle.st_service.specs.Lines.{flat, numbers}
 use Rattle.st_service.specs.Made.{Made, past_in, maker, IsMine}
-use Rattle.st_service.specs.Rules.{IsKept, Adds}
 use Rattle.st_service.specs.Tickets.{ticket_in, ticket_of, last_ticket, latest_in}
 use Rattle.st_service.proofs.WorkedJournals.{usual, a1, app, firmware, lock, unlock, idle, made}
 
@@ -41,49 +39,6 @@ three_numbers = refl
 
 no_numbers : numbers 5 0 ≡ []
 no_numbers = refl
-
--- The word of a line
-
--- it counts the batches; the second word stays at 0, and there is no third
-pub one_batch_counted : IsKept ((1, true) ∷ (0, true) ∷ []) (batch 0 [] ∷ [])
-one_batch_counted = record { words = refl }
-
--- how many the words are, and what the first and the second count
-abbrev count_in : List Cell → ℕ
-count_in [] = 0
-count_in (cell ∷ cells) = cell.0
-
-abbrev second_in : List Cell → ℕ
-second_in [] = 0
-second_in (cell ∷ cells) = count_in cells
-
-pub not_counted : IsKept ((0, true) ∷ (0, true) ∷ []) (batch 0 [] ∷ []) → ⊥
-not_counted k = absurd (omega (arith, ap count_in k.words))
-
-pub not_in_the_second : IsKept ((1, true) ∷ (1, true) ∷ []) (batch 0 [] ∷ []) → ⊥
-not_in_the_second k = absurd (omega (arith, ap second_in k.words))
-
-pub not_a_third : IsKept ((1, true) ∷ (0, true) ∷ (0, true) ∷ []) (batch 0 [] ∷ []) → ⊥
-not_a_third k = absurd (omega (arith, ap length k.words))
-
--- a step that finds the word at 3 as it had seen it adds its batch, and one that finds it at 5 has then seen more
-abbrev told : Step Batch
-told = step 0 3 4 (batch 0 [])
-
-pub adds_its_batch : (v w : View Batch ℕ) → w.0 ≡ v.0 ++ batch 0 [] ∷ [] → Adds told v 3 w
-adds_its_batch v w e = e
-
-pub adds_where_longer : (v w : View Batch ℕ) → w.0 ≡ v.0 ++ batch 1 [] ∷ [] → Adds told v 5 w
-adds_where_longer v w e = omega (arith, ap length e, length-append v.0 (batch 1 [] ∷ []))
-
-pub not_nothing_added : (v w : View Batch ℕ) → w.0 ≡ v.0 → Adds told v 3 w → ⊥
-not_nothing_added v w same added = absurd (omega (arith, ap length same, ap length added, length-append v.0 (batch 0 [] ∷ [])))
-
-pub not_two_added : (v w : View Batch ℕ) → w.0 ≡ v.0 ++ batch 0 [] ∷ batch 0 [] ∷ [] → Adds told v 3 w → ⊥
-not_two_added v w two added = absurd (omega (arith, ap length two, ap length added, length-append v.0 (batch 0 [] ∷ batch 0 [] ∷ []), length-append v.0 (batch 0 [] ∷ [])))
-
-pub not_refused_where_no_more_is_seen : (v w : View Batch ℕ) → w.0 ≡ v.0 → Adds told v 5 w → ⊥
-not_refused_where_no_more_is_seen v w same longer = absurd (omega (arith, ap length same, longer))
 
 -- Journals of fronts
 

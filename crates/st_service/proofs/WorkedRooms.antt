@@ -1,8 +1,8 @@
 -- Worked examples on rooms, on how a service starts, and on what it hands out once it is closed.
-use Rattle.std.proofs.Common.{◌≡◌, ℕ, zero, suc, ◌+◌, ◌<◌, List, [], ◌∷◌, length, slice_index_or, inl, inr, refl, ap, sym, subst, ◌∙◌, arith, length-append}
+use Rattle.std.proofs.Common.{◌≡◌, ℕ, zero, suc, ◌+◌, ◌<◌, List, [], ◌∷◌, length, slice_index_or, refl, ap, sym, subst, ◌∙◌, arith, length-append}
 use Rattle.std.specs.Prelude.{Bool, true, false, sum_by}
 use Rattle.std.proofs.lemmas.List.{append-nil}
-use Rattle.logbook.specs.Pages.{Book}
+use Rattle.st_line.specs.Lines.{LineName}
 use Rattle.st_net.specs.declared.entity.Row.{Row}
 use Rattle.st_net.specs.Groups.{Group, IsSound}
 use Rattle.st_event.specs.declared.act.LogEntry.{LogEntry}
@@ -23,14 +23,14 @@ use Rattle.st_service.specs.Closed.{positions, Stands, entered, IsWhole}
 use Rattle.st_service.specs.Made.{Made, past_in}
 use Rattle.st_service.specs.Opened.{AreLinesOf, AreWorldsOf, IsFresh}
 use Rattle.st_service.specs.Passes.{Holder, front_at, mine_at, reader_at}
-use Rattle.st_service.specs.Rooms.{RoomView, IsRoom, IsSameRoom, IsShut, IsOpen, WasRefused, Adds}
+use Rattle.st_service.specs.Rooms.{RoomView, IsRoom, IsSameRoom, WasRefused, Adds}
 use Rattle.st_service.proofs.WorkedJournals.{small, a1, firmware, lock, unlock, idle, made, decided}
 use Rattle.st_service.proofs.WorkedLines.{three, places, no_places, one_place}
 
 -- A room
 
-abbrev book : ℕ → Book
-book n = record { number = n; log_name = 0; cells_name = 0 }
+abbrev book : ℕ → LineName
+book n = record { book = record { number = 0; log_name = 0; cells_name = 0 }; key = n }
 
 abbrev published : List (List Row) → Published
 published proposals = record { book = book 0; group = small; proposals = proposals; ended = false }
@@ -89,7 +89,7 @@ pub not_another_plan : IsSameRoom (view small [] 0) (view small (Drop Command 1 
 not_another_plan s = absurd (omega (arith, ap length s.lines))
 
 pub not_another_board : IsSameRoom (view small [] 0) (view small [] 1) → ⊥
-not_another_board s = absurd (omega (arith, ap (λ (b : Book). b.number) s.board))
+not_another_board s = absurd (omega (arith, ap (λ (b : LineName). b.key) s.board))
 
 -- the publication of the firmware was refused
 abbrev accepts : List (List Row) → Bool → RoomView
@@ -104,26 +104,6 @@ not_published r = absurd (omega (arith, ap (λ (b : Published). length b.proposa
 
 pub not_without_more : WasRefused (accepts (firmware 2 ∷ []) false) (accepts (firmware 2 ∷ []) true) → ⊥
 not_without_more r = let more : 1 < 1 = r.more in absurd (omega (arith, more))
-
--- a spent room is shut, and so is one whose line lacks an entry
-pub shut_as_spent : IsShut false (accepts [] true)
-shut_as_spent = inr refl
-
-pub shut_as_lost : IsShut true (accepts [] false)
-shut_as_lost = inl refl
-
-pub not_shut : IsShut false (accepts [] false) → ⊥
-not_shut (inl lost) = absurd (cc lost)
-not_shut (inr spent) = absurd (cc spent)
-
-pub open_room : IsOpen false (accepts [] false)
-open_room = (refl, refl)
-
-pub not_open_as_spent : IsOpen false (accepts [] true) → ⊥
-not_open_as_spent o = absurd (cc (o.1))
-
-pub not_open_as_lost : IsOpen true (accepts [] false) → ⊥
-not_open_as_lost o = absurd (cc (o.0))
 
 -- What a call adds to a journal
 
@@ -154,7 +134,7 @@ not_many a = absurd (omega (arith, ap length a.all ∙ length-append a.more (loc
 abbrev room_lines : ℕ → ℕ → RoomLines
 room_lines m n = record { journal = book m; board = book n }
 
-abbrev board : ℕ → Book
+abbrev board : ℕ → LineName
 board k = book (10 + k)
 
 abbrev two_rooms : List RoomLines
@@ -172,10 +152,10 @@ pub no_lines : AreLinesOf book board []
 no_lines = λ k d lt. absurd (omega (arith, lt))
 
 pub not_the_second_twice : AreLinesOf book board (room_lines 0 10 ∷ room_lines 0 11 ∷ []) → ⊥
-not_the_second_twice lines = absurd (omega (arith, ap (λ (b : Book). b.number) (lines 1 (room_lines 0 0) (omega arith)).0))
+not_the_second_twice lines = absurd (omega (arith, ap (λ (b : LineName). b.key) (lines 1 (room_lines 0 0) (omega arith)).0))
 
 pub not_boards_exchanged : AreLinesOf book board (room_lines 0 11 ∷ room_lines 1 10 ∷ []) → ⊥
-not_boards_exchanged lines = absurd (omega (arith, ap (λ (b : Book). b.number) (lines 0 (room_lines 0 0) (omega arith)).1))
+not_boards_exchanged lines = absurd (omega (arith, ap (λ (b : LineName). b.key) (lines 0 (room_lines 0 0) (omega arith)).1))
 
 -- worlds at their opening; how much room they have is not said
 abbrev world : Group → List Entry → List WireLine → WorldView

@@ -1,4 +1,3 @@
-pub mod Rules
 pub mod Made
 pub mod Lines
 pub mod Tickets

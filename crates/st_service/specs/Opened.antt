@@ -1,6 +1,6 @@
 -- How a service starts.
 use Rattle.std.specs.Prelude.{◌≡◌, ℕ, ◌<◌, List, [], length, slice_index_or}
-use Rattle.logbook.specs.Pages.{Book}
+use Rattle.st_line.specs.Lines.{LineName}
 use Rattle.st_net.specs.Groups.{Group}
 use Rattle.st_wire.specs.declared.line.WireLine.{WireLine}
 use Rattle.st_world.specs.World.{WorldView}
@@ -8,7 +8,7 @@ use Rattle.st_service.specs.declared.start.RoomLines.{RoomLines}
 use Rattle.st_service.specs.Passes.{Holder, front_at, mine_at, reader_at}
 
 -- the lines of the rooms are those of these names
-abbrev pub AreLinesOf : (ℕ → Book) → (ℕ → Book) → List RoomLines → Type 0
+abbrev pub AreLinesOf : (ℕ → LineName) → (ℕ → LineName) → List RoomLines → Type 0
 AreLinesOf book board lines = (k : ℕ) (d : RoomLines) → k < length lines → ((slice_index_or lines k d).journal ≡ book k) × ((slice_index_or lines k d).board ≡ board k)
 
 -- the worlds are at the opening of these groups, with these loss plans

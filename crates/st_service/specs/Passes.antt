@@ -6,6 +6,7 @@ use Rattle.st_net.specs.declared.entity.Var.{Var}
 use Rattle.st_net.specs.Groups.{Group}
 use Rattle.st_net.specs.Merge.{merge_of}
 use Rattle.st_event.specs.declared.act.LogSaw.TheVariants.{Seen}
+use Rattle.st_line.specs.Lines.{no_line}
 use Rattle.st_board.specs.Posts.{no_group}
 use Rattle.st_event.specs.declared.act.LogEntry.{LogEntry}
 use Rattle.st_board.specs.Published.{Published}
@@ -28,7 +29,7 @@ abbrev pub mine_at : List (List ℕ) → ℕ → List ℕ
 mine_at mines g = slice_index_or mines g []
 
 abbrev pub no_reader : Published
-no_reader = record { book = record { number = 0; log_name = 0; cells_name = 0 }; group = no_group; proposals = []; ended = false }
+no_reader = record { book = no_line; group = no_group; proposals = []; ended = false }
 
 abbrev pub reader_at : List Published → ℕ → Published
 reader_at readers n = slice_index_or readers n no_reader

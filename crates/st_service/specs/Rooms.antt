@@ -1,5 +1,5 @@
 -- What lies in a room: a group's world, and the board by which its target is published.
-use Rattle.std.specs.Prelude.{◌≡◌, ◌⊎◌, ℕ, ◌<◌, ◌≤◌, Bool, true, false, List, ◌++◌, length}
+use Rattle.std.specs.Prelude.{◌≡◌, ℕ, ◌<◌, ◌≤◌, Bool, true, false, List, ◌++◌, length}
 use mathlib.Core.List.{IsPrefix}
 use Rattle.st_event.specs.declared.journal.Entry.{Entry}
 use Rattle.st_event.specs.History.{History}
@@ -14,14 +14,6 @@ pub record RoomView : Type 0 where
   pub lines : List WireLine
   pub published : Published
   pub spent : Bool
-
--- nothing more is entered in a room whose line lacks an entry, or that is spent
-abbrev pub IsShut : Bool → RoomView → Type 0
-IsShut lost room = (lost ≡ true) ⊎ (room.spent ≡ true)
-
--- it is neither
-abbrev pub IsOpen : Bool → RoomView → Type 0
-IsOpen lost room = (lost ≡ false) × (room.spent ≡ false)
 
 -- the same once nothing more is published
 pub record EndedView : Type 0 where

@@ -11,13 +11,14 @@ ghost use Rattle.st_service.specs.Lines.{flat};
 ghost use Rattle.st_service.specs.Made.{Made, IsMine, past_in};
 
 use crate::ended::Ended;
-use crate::line::Log;
+use crate::line::Batch;
 use crate::locked::Locked;
 use crate::naming::Naming;
 use crate::pass::Pass;
 use crate::place::Place;
 use crate::service::{Own, Service};
 use st_event::{Journal, Log as AppLog, LogEntry};
+use st_line::Log;
 use st_net::{AppId, Items};
 use std::alloc::{AllocError, Global};
 use std::marker::PhantomData;
@@ -37,7 +38,7 @@ pub(crate) struct Shut<J: Naming, H: Wait + Drop> {
     pub group: usize,
     pub ended: Ended<H>,
     pub batches: u64,
-    pub seen: Log,
+    pub seen: Log<Batch>,
     pub of: PhantomData<J>,
     pub ghost named: { seen.book ≡ J.book group },
     pub ghost counted: { batches ≡ length seen.log },
@@ -111,9 +112,8 @@ fn shut_one<J: Naming, L: Ledger, H: Wait + Drop>(
         group,
         room,
         makers,
-        lost,
     } = locked;
-    if lost || group != number || room.is_spent() {
+    if group != number || room.is_spent() {
         drop((room, makers));
         return Err(AllocError);
     }
@@ -124,7 +124,7 @@ fn shut_one<J: Naming, L: Ledger, H: Wait + Drop>(
         group,
         ended,
         batches: makers.batches,
-        seen: makers.seen,
+        seen: makers.line.log(),
         of: PhantomData,
     })
 }

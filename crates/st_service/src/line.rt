@@ -1,14 +1,11 @@
-//! The line of a journal, in proofs alone: who entered what, under which hold of the lock; and the word that counts the holds.
+//! The line of a journal, in proofs alone: who entered what, under which hold of the lock.
 
-ghost use Rattle.std.specs.Prelude.{◌≡◌, ◌+◌, ◌<◌, ◌≤◌, ◌^◌, ◌++◌, ◌∷◌, [], length, MatchBool};
+ghost use Rattle.std.specs.Prelude.{◌≡◌, ◌+◌, ◌≤◌, ◌++◌, []};
 ghost use Rattle.std.specs.Vec.{vec_len, vec_capacity};
-ghost use mathlib.Core.List.{IsPrefix};
-ghost use Rattle.logbook.specs.Pages.{nib, may_make_home};
-ghost use Rattle.st_service.specs.Rules.{head_of};
 ghost use Rattle.st_service.specs.Lines.{numbers};
 
-use logbook::{Gain, Offer, Pen, Plain, Play, Rule, Seen, Start, Word};
 use st_event::Entry;
+use st_line::{Tells, Writer};
 use std::collections::LinkedList;
 use std::marker::Model;
 
@@ -25,115 +22,44 @@ pub struct Fresh<'a> {
     pub entries: &'a [Entry],
 }
 
-/// The rule of a line.
-pub struct Law;
+/// Adds a batch.
+pub struct AddsBatch;
 
-impl Rule<Batch, u64> for Law {
-    ghost use Rattle.std.specs.Prelude.{[]};
-    ghost use base.Fml.{ftrue};
-    ghost use Rattle.st_service.specs.Rules.{IsKept};
-
-    ghost holds = { λ cells log. IsKept cells log };
-
-    ghost first = { [] };
-
-    ghost hinted = { λ n log. Unit {0} };
-
-    ghost shows = { λ log. [] };
-
-    ghost keeps = { λ names log. ftrue };
-
-    ghost moves = { λ ask before after answer. Unit {0} };
+impl<'a> Tells<Fresh<'a>, Batch> for AddsBatch {
+    ghost entry = { λ x. record { by = x.by; entries = x.entries.now } };
 }
 
-/// Those who enter trade nothing.
-pub struct Nothing;
-
-impl Gain<Batch, u64> for Nothing {
-    ghost use base.Fml.{ftrue};
-
-    ghost after = { λ names about answer. ftrue };
-}
-
-/// A step that adds a batch.
-pub struct Add;
-
-impl Play<Batch, u64> for Add {
-    ghost use Rattle.st_service.specs.Rules.{Adds};
-
-    ghost then = { Adds };
-}
-
-impl<'a> Plain<Fresh<'a>, Batch, u64> for Add {
-    ghost use Rattle.std.specs.Prelude.{None};
-
-    ghost ask = { λ x. record { by = x.by; entries = x.entries.now } };
-
-    ghost state = { λ x. None };
-}
-
-/// What was seen of a line.
-pub type Log = Seen<Batch, u64, Law>;
-
-/// The word that counts the batches of a line.
-#[derive(Drop)]
-pub struct Head {
-    pub word: Word<Batch, u64, Law>,
-}
-
-/// A line on which nothing was entered yet. It has no bytes. Contracts see which line it is.
+/// A line on which nothing was entered yet. Contracts see which line it is.
 #[derive(Drop)]
 pub struct JournalLine {
-    seen: Log,
-    pen: Pen,
-    ghost empty: { seen.log ≡ [] },
-    ghost pen_is: { (pen.book ≡ seen.book) × (pen.nib ≡ nib may_make_home 0 0) },
+    writer: Writer<Batch>,
+    ghost empty: { writer.log ≡ [] },
 }
 
 impl Model for JournalLine {
-    ghost use Rattle.logbook.specs.Pages.{Book};
+    ghost use Rattle.st_line.specs.Lines.{LineName};
 
-    ghost Value = { Book };
+    ghost Value = { LineName };
 
-    ghost view = { λ l. l.seen.book };
+    ghost view = { λ l. l.writer.book };
 }
 
 impl JournalLine {
     /// A new line.
     pub fn new() -> JournalLine {
-        let (seen, pen, _second) = Seen::open(Start::alone(), 0, 0);
-        JournalLine { seen, pen }
+        JournalLine {
+            writer: Writer::new(),
+        }
     }
 
-    /// The head of the line, and what was seen of it: nothing.
-    pub(crate) fn begin(self) -> (Head, Log)
-        ensures head { result.0.word ≡ head_of self }
-        ensures log { (result.1.book ≡ self) × (result.1.log ≡ []) }
+    /// The writer of the line, on which there is nothing.
+    pub(crate) fn begin(self) -> Writer<Batch>
+        ensures book { result.book ≡ self }
+        ensures log { result.log ≡ [] }
     {
-        let JournalLine { seen, mut pen } = self;
-        let head = Head {
-            word: Word::tracked(0, &mut pen),
-        };
-        (head, seen)
+        let JournalLine { writer } = self;
+        writer
     }
-}
-
-/// Adds a batch to all that had been seen, and says whether it did. It did not where the line is longer, and then more of it
-/// has been seen.
-pub fn add_batch(head: &Head, seen: &mut Log, count: u64, by: u32, entries: &[Entry]) -> bool
-    requires head { head.now.word ≡ head_of seen.old.book }
-    requires count { (count ≡ length seen.old.log) × (count < 2 ^ 63) }
-    ensures book { seen.new.book ≡ seen.old.book }
-    ensures later { IsPrefix seen.old.log seen.new.log }
-    ensures added { MatchBool result (seen.new.log ≡ seen.old.log ++ record { by = by; entries = entries.now } ∷ []) (length seen.old.log < length seen.new.log) }
-{
-    let fresh = Fresh { by, entries };
-    let mut offer: Offer<Batch, u64, Law, Nothing> = seen.plain::<Nothing, Fresh, Add>(&fresh);
-    let mut pen = seen.no_pen();
-    let found = head
-        .word
-        .compare_exchange::<Add, Nothing>(count, count + 1, seen, &mut offer, &mut pen);
-    found == count
 }
 
 /// Puts so many numbers, from the given one on, at the end of a list that has room for them.

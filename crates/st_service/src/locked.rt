@@ -13,7 +13,7 @@ ghost use Rattle.st_service.specs.Kept.{Grows};
 ghost use Rattle.st_service.specs.Lines.{flat};
 ghost use Rattle.st_service.specs.Made.{past_in};
 ghost use Rattle.st_service.specs.Puts.{Enters, EntersOrNot};
-ghost use Rattle.st_service.specs.Rooms.{IsOpen, IsShut, WasRefused};
+ghost use Rattle.st_service.specs.Rooms.{WasRefused};
 ghost use Rattle.st_service.specs.Shares.{work_share};
 ghost use Rattle.st_service.specs.Works.{MayDo, WorkFits, course_at};
 
@@ -36,14 +36,12 @@ pub struct Locked<J: Naming, L: Ledger, H: Wait + Drop> {
     pub group: usize,
     pub room: Room<H>,
     pub makers: Makers<J, L>,
-    /// The line lacks an entry: nothing more is entered. No run gets here, since the line is this room's alone.
-    pub lost: bool,
     pub ghost of_group: { makers.group ≡ group },
     pub ghost group_is: { room.history.group ≡ J.group group },
     pub ghost lines_are: { room.lines ≡ J.lines group },
     pub ghost board_is: { room.published.book ≡ J.board group },
-    pub ghost kept: { lost ≡ false → past_in (flat makers.seen.log) ≡ room.history.past },
-    pub ghost left: { lost ≡ false → makers.units.amount + length room.history.past ≡ 200000 },
+    pub ghost kept: { past_in (flat makers.line.log) ≡ room.history.past },
+    pub ghost left: { makers.units.amount + length room.history.past ≡ 200000 },
 }
 
 impl<J: Naming, L: Ledger, H: Wait + Drop> Locked<J, L, H> {
@@ -51,25 +49,25 @@ impl<J: Naming, L: Ledger, H: Wait + Drop> Locked<J, L, H> {
     fn goes_on_from(&self, place: &Place<J>) -> bool
         requires { place.now.group ≡ self.now.group }
         ensures few { MatchBool result (place.now.batches ≤ self.now.makers.batches) (self.now.makers.batches < place.now.batches) }
-        ensures begins { MatchBool result (IsPrefix (flat place.now.seen.log) (flat self.now.makers.seen.log)) (Unit {0}) }
+        ensures begins { MatchBool result (IsPrefix (flat place.now.seen.log) (flat self.now.makers.line.log)) (Unit {0}) }
     {
         // In proofs alone: of two that saw one line, one has seen the beginning of what the other has.
         let mut both = place.seen.again();
-        both.learn(&self.makers.seen);
+        both.learn(&self.makers.line.log());
         place.batches <= self.makers.batches
     }
 
     /// Whether nothing more is entered here, or the place has seen more than there is, as none has.
     fn is_shut_to(&self, place: &Place<J>) -> bool
         requires { place.now.group ≡ self.now.group }
-        ensures { MatchBool result (IsShut self.now.lost self.now.room ⊎ (self.now.makers.batches < place.now.batches)) ((self.now.lost ≡ false) × (self.now.room.spent ≡ false) × (place.now.batches ≤ self.now.makers.batches) × IsPrefix (flat place.now.seen.log) (flat self.now.makers.seen.log)) }
+        ensures { MatchBool result ((self.now.room.spent ≡ true) ⊎ (self.now.makers.batches < place.now.batches)) ((self.now.room.spent ≡ false) × (place.now.batches ≤ self.now.makers.batches) × IsPrefix (flat place.now.seen.log) (flat self.now.makers.line.log)) }
     {
-        self.lost || self.room.is_spent() || !self.goes_on_from(place)
+        self.room.is_spent() || !self.goes_on_from(place)
     }
 
     /// Does a work for a pass, and teaches it the journal and what is published. At `Full` an event met a full journal; then, and at
     /// `Err`, a part of the events was entered, from the first, and stands. What was entered is the pass's, whatever the answer. A room
-    /// that is spent, or lost, stays as it is.
+    /// that is spent stays as it is.
     pub fn work(
         &mut self,
         alloc: Global,
@@ -84,13 +82,12 @@ impl<J: Naming, L: Ledger, H: Wait + Drop> Locked<J, L, H> {
         ensures group { self.new.group ≡ self.old.group }
         ensures place { (place.new.group ≡ place.old.group) × (place.new.number ≡ place.old.number) }
         ensures share { (share.new.parts ≡ share.old.parts) × (share.new.amount + length place.old.mine.items ≡ share.old.amount + length place.new.mine.items) }
-        ensures entered { IfOk result (λ going. Enters (course_at place.old.number work.entry (J.group self.old.group) (J.lines self.old.group)) going place.old.number (flat self.old.makers.seen.log) (flat place.old.seen.log) place.old.mine.items (flat place.new.seen.log) place.new.mine.items) }
+        ensures entered { IfOk result (λ going. Enters (course_at place.old.number work.entry (J.group self.old.group) (J.lines self.old.group)) going place.old.number (flat self.old.makers.line.log) (flat place.old.seen.log) place.old.mine.items (flat place.new.seen.log) place.new.mine.items) }
         ensures journal { IfOk result (λ _. past_in (flat place.new.seen.log) ≡ self.new.room.history.past) }
-        ensures refused { OnErr result (EntersOrNot (course_at place.old.number work.entry (J.group self.old.group) (J.lines self.old.group)) place.old.number (flat self.old.makers.seen.log) (flat place.old.seen.log) place.old.mine.items (flat place.new.seen.log) place.new.mine.items) }
-        ensures open { OnOk result (IsOpen self.old.lost self.old.room) }
-        ensures shut { IsShut self.old.lost self.old.room → (self.new.room ≡ self.old.room) × (self.new.lost ≡ self.old.lost) }
+        ensures refused { OnErr result (EntersOrNot (course_at place.old.number work.entry (J.group self.old.group) (J.lines self.old.group)) place.old.number (flat self.old.makers.line.log) (flat place.old.seen.log) place.old.mine.items (flat place.new.seen.log) place.new.mine.items) }
+        ensures open { OnOk result (self.old.room.spent ≡ false) }
+        ensures shut { self.old.room.spent ≡ true → self.new.room ≡ self.old.room }
         ensures spent { self.old.room.spent ≡ false → self.new.room.spent ≡ true → WasRefused self.old.room self.new.room × IsErr result }
-        ensures lost { self.old.lost ≡ false → self.new.lost ≡ true → (length (flat self.new.makers.seen.log) < length self.new.room.history.past) × IsErr result }
         ensures grows { Grows (work_share work.entry (J.group self.old.group) (J.lines self.old.group)) (flat place.old.seen.log) place.old.mine.items (flat place.new.seen.log) place.new.mine.items }
         ensures legal { IsLegal (J.group self.old.group) (past_in (flat place.old.seen.log)) → IsLegal (J.group self.old.group) (past_in (flat place.new.seen.log)) }
         ensures reader { IsPrefix place.old.reader.proposals place.new.reader.proposals }
@@ -106,13 +103,8 @@ impl<J: Naming, L: Ledger, H: Wait + Drop> Locked<J, L, H> {
         let going = self.room.work(alloc, place.number, work);
         self.room.is_legal();
         let entries = self.room.since(from);
-        match self.makers.take_in(place, share, entries, from) {
-            Ok(()) => self.room.tell(&mut place.reader, going),
-            Err(_longer) => {
-                self.lost = true;
-                Err(AllocError)
-            }
-        }
+        self.makers.take_in(place, share, entries, from);
+        self.room.tell(&mut place.reader, going)
     }
 
     /// Teaches a pass the journal and what is published.
@@ -121,7 +113,7 @@ impl<J: Naming, L: Ledger, H: Wait + Drop> Locked<J, L, H> {
         ensures place { (place.new.group ≡ place.old.group) × (place.new.number ≡ place.old.number) × (place.new.mine ≡ place.old.mine) }
         ensures seen { IsPrefix (flat place.old.seen.log) (flat place.new.seen.log) }
         ensures journal { IfOk result (λ _. past_in (flat place.new.seen.log) ≡ self.now.room.history.past) }
-        ensures open { OnOk result (IsOpen self.now.lost self.now.room) }
+        ensures open { OnOk result (self.now.room.spent ≡ false) }
         ensures legal { IsLegal (J.group self.now.group) (past_in (flat place.old.seen.log)) → IsLegal (J.group self.now.group) (past_in (flat place.new.seen.log)) }
         ensures reader { IsPrefix place.old.reader.proposals place.new.reader.proposals }
         ensures reads { IfOk result (λ _. IsPrefix (overlays (past_in (flat place.new.seen.log))) place.new.reader.proposals) }
@@ -130,7 +122,7 @@ impl<J: Naming, L: Ledger, H: Wait + Drop> Locked<J, L, H> {
             return Err(AllocError);
         }
         self.room.is_legal();
-        place.look(&self.makers.seen, self.makers.batches);
+        place.look(&self.makers.line.log(), self.makers.batches);
         place.reader.learn(&self.room.note(), self.room.target());
         Ok(())
     }
@@ -141,7 +133,7 @@ impl<J: Naming, L: Ledger, H: Wait + Drop> Locked<J, L, H> {
         ensures place { (place.new.group ≡ place.old.group) × (place.new.number ≡ place.old.number) × (place.new.mine ≡ place.old.mine) }
         ensures seen { IsPrefix (flat place.old.seen.log) (flat place.new.seen.log) }
         ensures begins { IfOk result (Begins (record { group = J.group self.now.group; past = past_in (flat place.new.seen.log) })) }
-        ensures open { OnOk result (IsOpen self.now.lost self.now.room) }
+        ensures open { OnOk result (self.now.room.spent ≡ false) }
         ensures journal { IfOk result (λ _. past_in (flat place.new.seen.log) ≡ self.now.room.history.past) }
         ensures legal { IsLegal (J.group self.now.group) (past_in (flat place.old.seen.log)) → IsLegal (J.group self.now.group) (past_in (flat place.new.seen.log)) }
         ensures reader { IsPrefix place.old.reader.proposals place.new.reader.proposals }
@@ -159,7 +151,7 @@ impl<J: Naming, L: Ledger, H: Wait + Drop> Locked<J, L, H> {
         ensures place { (place.new.group ≡ place.old.group) × (place.new.number ≡ place.old.number) × (place.new.mine ≡ place.old.mine) }
         ensures seen { IsPrefix (flat place.old.seen.log) (flat place.new.seen.log) }
         ensures entities { IfOk result (λ entities. entities.items ≡ unsettled_lem (J.group self.now.group) (past_in (flat place.new.seen.log))) }
-        ensures open { OnOk result (IsOpen self.now.lost self.now.room) }
+        ensures open { OnOk result (self.now.room.spent ≡ false) }
         ensures legal { IsLegal (J.group self.now.group) (past_in (flat place.old.seen.log)) → IsLegal (J.group self.now.group) (past_in (flat place.new.seen.log)) }
         ensures reader { IsPrefix place.old.reader.proposals place.new.reader.proposals }
         ensures reads { IfOk result (λ _. IsPrefix (overlays (past_in (flat place.new.seen.log))) place.new.reader.proposals) }
@@ -181,7 +173,7 @@ impl<J: Naming, L: Ledger, H: Wait + Drop> Locked<J, L, H> {
         ensures place { (place.new.group ≡ place.old.group) × (place.new.number ≡ place.old.number) × (place.new.mine ≡ place.old.mine) }
         ensures seen { IsPrefix (flat place.old.seen.log) (flat place.new.seen.log) }
         ensures saw { IfOk result (λ saw. saw ≡ seen_at_lem (record { group = J.group self.now.group; past = past_in (flat place.new.seen.log) }) version entity var) }
-        ensures open { OnOk result (IsOpen self.now.lost self.now.room) }
+        ensures open { OnOk result (self.now.room.spent ≡ false) }
         ensures legal { IsLegal (J.group self.now.group) (past_in (flat place.old.seen.log)) → IsLegal (J.group self.now.group) (past_in (flat place.new.seen.log)) }
         ensures reader { IsPrefix place.old.reader.proposals place.new.reader.proposals }
         ensures reads { IfOk result (λ _. IsPrefix (overlays (past_in (flat place.new.seen.log))) place.new.reader.proposals) }

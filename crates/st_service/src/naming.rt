@@ -6,13 +6,13 @@ use std::marker::Brand;
 /// The line of each room's journal, the line of its board, its group, and the lines of its loss plan. Each run of a program picks them.
 pub trait Naming {
     ghost use Rattle.std.specs.Prelude.{ℕ, List};
-    ghost use Rattle.logbook.specs.Pages.{Book};
+    ghost use Rattle.st_line.specs.Lines.{LineName};
     ghost use Rattle.st_net.specs.Groups.{Group};
     ghost use Rattle.st_wire.specs.declared.line.WireLine.{WireLine};
 
-    ghost book: { ℕ → Book };
+    ghost book: { ℕ → LineName };
 
-    ghost board: { ℕ → Book };
+    ghost board: { ℕ → LineName };
 
     ghost group: { ℕ → Group };
 
@@ -22,10 +22,11 @@ pub trait Naming {
 impl Naming for Brand {
     ghost use Rattle.std.specs.Prelude.{[]};
     ghost use Rattle.st_board.specs.Posts.{no_group};
+    ghost use Rattle.st_line.specs.Lines.{no_line};
 
-    ghost book = { λ n. record { number = 0; log_name = 0; cells_name = 0 } };
+    ghost book = { λ n. no_line };
 
-    ghost board = { λ n. record { number = 0; log_name = 0; cells_name = 0 } };
+    ghost board = { λ n. no_line };
 
     ghost group = { λ n. no_group };
 

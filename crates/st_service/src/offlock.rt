@@ -94,10 +94,6 @@ fn commit_in<J: Naming, L: Ledger, H: Wait + Drop>(
     ensures committed { IfOk result (λ committed. CommitsIn committed (J.group room.old.group) judged.now.ticket pass.old.number (front_at pass.old.fronts room.old.group) (mine_at pass.old.mines room.old.group) (front_at pass.new.fronts room.old.group) (mine_at pass.new.mines room.old.group)) }
     ensures reads { IfOk result (λ _. IsTaught pass.new room.old.group) }
 {
-    // In a room whose line lacks an entry, the journal is not what the line says.
-    if room.lost {
-        return Err(AllocError);
-    }
     let gone = room.room.decided(judged.ticket());
     let from = room.room.count();
     let going = pass.work_in(alloc, room, Work::Commit(judged))?;

@@ -117,7 +117,7 @@ impl<J: Naming, L: Ledger> Pass<J, L> {
         requires may { MayDo work (past_in (front_at self.old.fronts room.old.group)) }
         ensures kept { Kept self.old self.new room.old.group (work_share work.entry (J.group room.old.group) (J.lines room.old.group)) }
         ensures log { self.new.log ≡ self.old.log }
-        ensures entered { IfOk result (λ going. Enters (course_at self.old.number work.entry (J.group room.old.group) (J.lines room.old.group)) going self.old.number (flat room.old.makers.seen.log) (front_at self.old.fronts room.old.group) (mine_at self.old.mines room.old.group) (front_at self.new.fronts room.old.group) (mine_at self.new.mines room.old.group)) }
+        ensures entered { IfOk result (λ going. Enters (course_at self.old.number work.entry (J.group room.old.group) (J.lines room.old.group)) going self.old.number (flat room.old.makers.line.log) (front_at self.old.fronts room.old.group) (mine_at self.old.mines room.old.group) (front_at self.new.fronts room.old.group) (mine_at self.new.mines room.old.group)) }
         ensures journal { IfOk result (λ _. past_in (front_at self.new.fronts room.old.group) ≡ room.new.room.history.past) }
         ensures reads { IfOk result (λ _. IsTaught self.new room.old.group) }
         ensures room { room.new.group ≡ room.old.group }

@@ -8,12 +8,13 @@ ghost use Rattle.st_net.specs.Merge.{merge_of};
 ghost use Rattle.st_service.specs.Made.{IsMine};
 ghost use Rattle.st_service.specs.Lines.{flat, numbers};
 ghost use Rattle.st_service.specs.Tickets.{last_ticket as last_ticket_lem, latest_in, ticket_in};
-ghost use Rattle.st_service.specs.declared.line.Batch.{Batch};
+ghost use Rattle.st_service.specs.declared.line.Batch.{Batch as batch};
 
-use crate::line::{Log, push_numbers};
+use crate::line::{Batch, push_numbers};
 use crate::naming::Naming;
 use st_board::{Seen, TargetReader};
 use st_event::{Entry, Reply};
+use st_line::Log;
 use st_net::{Entity, Var};
 use std::alloc::Global;
 use std::marker::PhantomData;
@@ -25,7 +26,7 @@ pub struct Place<J: Naming> {
     pub group: usize,
     pub number: u32,
     pub batches: u64,
-    pub seen: Log,
+    pub seen: Log<Batch>,
     pub mine: Vec<u32>,
     pub latest: Option<u32>,
     pub reader: TargetReader,
@@ -65,7 +66,7 @@ impl<J: Naming> Place<J> {
         alloc: Global,
         group: usize,
         number: u32,
-        seen: Log,
+        seen: Log<Batch>,
         reader: TargetReader,
     ) -> Place<J>
         requires line { (seen.book ≡ J.book group) × (seen.log ≡ []) }
@@ -86,7 +87,7 @@ impl<J: Naming> Place<J> {
     }
 
     /// Learns the journal as it is in its room.
-    pub fn look(&mut self, seen: &Log, batches: u64)
+    pub fn look(&mut self, seen: &Log<Batch>, batches: u64)
         requires line { seen.now.book ≡ self.old.seen.book }
         requires count { (batches ≡ length seen.now.log) × (self.old.batches ≤ batches) }
         ensures same { (self.new.group ≡ self.old.group) × (self.new.number ≡ self.old.number) × (self.new.mine ≡ self.old.mine) × (self.new.reader ≡ self.old.reader) }
@@ -98,10 +99,10 @@ impl<J: Naming> Place<J> {
     }
 
     /// Learns the journal, at whose end this pass has just made so many entries.
-    pub fn made(&mut self, seen: &Log, batches: u64, from: u32, entries: &[Entry])
+    pub fn made(&mut self, seen: &Log<Batch>, batches: u64, from: u32, entries: &[Entry])
         requires line { seen.now.book ≡ self.old.seen.book }
         requires count { (batches ≡ length seen.now.log) × (self.old.batches ≤ batches) }
-        requires made { (mid : List Batch) × ((length self.old.seen.log ≤ length mid) × (length (flat mid) ≡ from) × (seen.now.log ≡ mid ++ record { by = self.old.number; entries = entries.now } ∷ [])) }
+        requires made { (mid : List batch) × ((length self.old.seen.log ≤ length mid) × (length (flat mid) ≡ from) × (seen.now.log ≡ mid ++ record { by = self.old.number; entries = entries.now } ∷ [])) }
         requires few { from + length entries.now ≤ 200000 }
         requires spare { vec_len self.old.mine + length entries.now ≤ vec_capacity self.old.mine }
         ensures same { (self.new.group ≡ self.old.group) × (self.new.number ≡ self.old.number) × (self.new.reader ≡ self.old.reader) }

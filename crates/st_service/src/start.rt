@@ -4,7 +4,7 @@ ghost use Rattle.std.specs.Prelude.{ℕ, ◌≡◌, ◌+◌, ◌*◌, ◌<◌, �
 ghost use Rattle.st_board.specs.Published.{opening_on};
 ghost use Rattle.st_service.specs.Opened.{AreLinesOf, AreWorldsOf, IsFresh};
 
-use crate::line::{JournalLine, Log};
+use crate::line::{Batch, JournalLine};
 use crate::locked::Locked;
 use crate::makers::Makers;
 use crate::naming::Naming;
@@ -14,13 +14,14 @@ use crate::room::Room;
 use crate::service::{Own, Service};
 use st_board::{Board, Line, TargetReader};
 use st_event::MAX_ENTRIES;
+use st_line::Log;
 use st_world::World;
 use std::alloc::{AllocError, Global};
 use std::mem;
 use std::sync::ledger::{Blank, Ledger, Share};
 use std::sync::{Mutex, Wait};
 
-/// The lines of a room: that of its journal, and that of its board. It has no bytes, and names a room before there is one.
+/// The lines of a room: that of its journal, and that of its board. They name a room before there is one.
 #[derive(Drop)]
 pub struct RoomLines {
     pub journal: JournalLine,
@@ -176,7 +177,7 @@ fn lock_room<'a, J: Naming, L: Ledger, R: Wait>(
     lines: RoomLines,
     units: Share<L>,
     readers: u32,
-) -> Result<(Locked<J, L, &'a R>, Log, Vec<TargetReader>), AllocError>
+) -> Result<(Locked<J, L, &'a R>, Log<Batch>, Vec<TargetReader>), AllocError>
     requires lines { (lines.journal ≡ J.book group) × (lines.board ≡ J.board group) }
     requires world { (world.history ≡ record { group = J.group group; past = [] }) × (world.lines ≡ J.lines group) }
     requires units { (units.parts ≡ 1) × (units.amount ≡ 200000) }
@@ -220,20 +221,20 @@ fn new_room<J: Naming, L: Ledger, H: Wait + Drop>(
     room: Room<H>,
     line: JournalLine,
     units: Share<L>,
-) -> (Locked<J, L, H>, Log)
+) -> (Locked<J, L, H>, Log<Batch>)
     requires line { line ≡ J.book group }
     requires room { (room.history ≡ record { group = J.group group; past = [] }) × (room.lines ≡ J.lines group) × (room.published.book ≡ J.board group) }
     requires units { (units.parts ≡ 1) × (units.amount ≡ 200000) }
     ensures group { result.0.group ≡ group }
     ensures line { (result.1.book ≡ J.book group) × (result.1.log ≡ []) }
 {
-    let (head, seen) = line.begin();
-    let makers = Makers::new(group, head, seen.again(), units);
+    let line = line.begin();
+    let seen = line.log();
+    let makers = Makers::new(group, line, units);
     let room = Locked {
         group,
         room,
         makers,
-        lost: false,
     };
     (room, seen)
 }
@@ -242,7 +243,7 @@ fn new_room<J: Naming, L: Ledger, H: Wait + Drop>(
 fn seat_all<J: Naming, L: Ledger>(
     alloc: Global,
     group: usize,
-    seen: &Log,
+    seen: &Log<Batch>,
     readers: Vec<TargetReader>,
     passes: &mut [Pass<J, L>],
 ) -> Result<(), AllocError>

@@ -17,9 +17,9 @@ pub since-requires : goal.since-requires
 since-requires g c =
     let room = c.args.room.now in
     let n = room.group in
-    let mid = flat room.makers.seen.log in
+    let mid = flat room.makers.line.log in
     entered_since (check_course c.args.judged.now.ticket (g.J.Naming.group n)) c.in_ok-going.going c.args.pass.now.number c.count-from.result mid (front_at c.args.pass.now.fronts n) (mine_at c.args.pass.now.mines n)
-    (front_at c.work_in.new.self.fronts n) (mine_at c.work_in.new.self.mines n) room.room.history.past c.work_in.new.room.room.history.past c.in_ok-going.ensures.entered (room.kept c.if-room.false) c.in_ok-going.ensures.journal c.count-from.ensures.count
+    (front_at c.work_in.new.self.fronts n) (mine_at c.work_in.new.self.mines n) room.room.history.past c.work_in.new.room.room.history.past c.in_ok-going.ensures.entered (room.kept) c.in_ok-going.ensures.journal c.count-from.ensures.count
 
 pub returns-in-On-clause-committed : goal.returns-in-On-clause-committed
 returns-in-On-clause-committed g c =
@@ -29,9 +29,9 @@ returns-in-On-clause-committed g c =
     let n = room.group in
     let h = g.J.Naming.group n in
     let ticket = c.args.judged.now.ticket in
-    let mid = flat room.makers.seen.log in
+    let mid = flat room.makers.line.log in
     let past = room.room.history.past in
-    let kept : past_in mid ≡ past = room.kept c.if-room.false in
+    let kept : past_in mid ≡ past = room.kept in
     let gone = c.decided-gone.result in
     let at : gone ≡ nth (deciders (past_in mid)) ticket = c.decided-gone.ensures.entry ∙ (ap (λ t. nth (deciders past) t) c.ticket.ensures.ticket ∙ ap (λ es. nth (deciders es) ticket) (sym kept)) in
     let over = c.decided-gone.ensures.decided ∙ (ap (λ t. is_decided t past) c.ticket.ensures.ticket ∙ ap (is_decided ticket) (sym kept)) in
@@ -48,7 +48,7 @@ returns-in-Full-clause-committed g c =
     let n = room.group in
     let h = g.J.Naming.group n in
     let ticket = c.args.judged.now.ticket in
-    let mid = flat room.makers.seen.log in
+    let mid = flat room.makers.line.log in
     let went : Enters (check_course ticket h) Full old.number mid (front_at old.fronts n) (mine_at old.mines n) (front_at new.fronts n) (mine_at new.mines n) =
     subst (λ (going : Going). Enters (check_course ticket h) going old.number mid (front_at old.fronts n) (mine_at old.mines n) (front_at new.fronts n) (mine_at new.mines n)) c.in-Full.is c.in_ok-going.ensures.entered in
     committed_full h ticket old.number MAX_ENTRIES mid (front_at old.fronts n) (mine_at old.mines n) (front_at new.fronts n) (mine_at new.mines n) went refl

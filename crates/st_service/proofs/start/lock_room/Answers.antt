@@ -1,6 +1,6 @@
 -- The board and its readers show the opening of the world's group, and nothing was entered.
 use Rattle.std.proofs.Common.{◌≡◌, ap, ◌∙◌}
-use Rattle.logbook.specs.Pages.{Book}
+use Rattle.st_line.specs.Lines.{LineName}
 use Rattle.st_net.specs.Groups.{Group}
 use Rattle.st_event.specs.History.{History}
 use Rattle.st_board.specs.Published.{Published, opening_on}
@@ -44,5 +44,5 @@ returns-in-Ok-clause-readers g c =
     let n = c.args.group in
     let group : c.args.world.history.group ≡ g.J.Naming.group n = ap (λ (h : History). h.group) c.requires.world.0 in
     let same : opening_on c.args.lines.board c.args.world.history.group ≡ opening_on (g.J.Naming.board n) (g.J.Naming.group n) =
-    ap (λ (b : Book). opening_on b c.args.world.history.group) c.requires.lines.1 ∙ ap (λ (h : Group). opening_on (g.J.Naming.board n) h) group in
+    ap (λ (b : LineName). opening_on b c.args.world.history.group) c.requires.lines.1 ∙ ap (λ (h : Group). opening_on (g.J.Naming.board n) h) group in
     λ k d lt. c.in-Ok.ensures.readers k d lt ∙ same

@@ -4,15 +4,10 @@ use Rattle.std.proofs.lemmas.Result.{IfOk-from_err}
 use mathlib.Core.List.{IsPrefix}
 use Rattle.st_net.specs.Groups.{Group}
 use Rattle.st_event.specs.declared.journal.Entry.{Entry}
-use Rattle.st_event.specs.Legal.{IsLegal}
 use Rattle.st_event.proofs.Accepting.{legal_within}
 use Rattle.st_board.specs.Published.{Published}
 use Rattle.st_world.specs.declared.world.rounds.Going.{Going}
 use Rattle.st_event.proofs.Prefixes.{prefix_self}
-use Rattle.logbook.specs.declared.tokens.Seen.{Seen}
-use Rattle.st_service.specs.declared.line.Batch.{Batch}
-use Rattle.st_service.specs.declared.line.Law.{Law}
-use Rattle.st_service.specs.declared.place.Place.{Place}
 use Rattle.st_service.specs.Lines.{flat}
 use Rattle.st_service.specs.Made.{IsMine, past_in}
 use Rattle.st_service.specs.Puts.{Enters}
@@ -20,7 +15,7 @@ use Rattle.st_service.specs.Shares.{work_share}
 use Rattle.st_service.specs.Tickets.{latest_in}
 use Rattle.st_service.specs.Works.{MayDo, WorkFits, course_at}
 use Rattle.st_service.proofs.HoldLaws.{taken, held, enters_all, enters_part, puts_grows, look_grows, length_past}
-use Rattle.st_service.proofs.HeldLaws.{if_any, legal_taught, reads_taught, puts_share, on_any, on_err, open_not_shut, lacks}
+use Rattle.st_service.proofs.HeldLaws.{if_any, legal_taught, reads_taught, puts_share, on_any, on_err}
 use Rattle.st_service.proofs.OffLockLaws.{may_later}
 use Rattle.st_service.proofs.locked.Locked.work.Goals as goal
 
@@ -46,13 +41,10 @@ pub returns-then-is_shut_to-clause-open : goal.returns-then-is_shut_to-clause-op
 returns-then-is_shut_to-clause-open g c = tt
 
 pub returns-then-is_shut_to-clause-shut : goal.returns-then-is_shut_to-clause-shut
-returns-then-is_shut_to-clause-shut g c = λ shut. (refl, refl)
+returns-then-is_shut_to-clause-shut g c = λ shut. refl
 
 pub returns-then-is_shut_to-clause-spent : goal.returns-then-is_shut_to-clause-spent
 returns-then-is_shut_to-clause-spent g c = λ was is. absurd (cc (was, is))
-
-pub returns-then-is_shut_to-clause-lost : goal.returns-then-is_shut_to-clause-lost
-returns-then-is_shut_to-clause-lost g c = λ was is. absurd (cc (was, is))
 
 pub returns-then-is_shut_to-clause-grows : goal.returns-then-is_shut_to-clause-grows
 returns-then-is_shut_to-clause-grows g c =
@@ -117,13 +109,10 @@ pub returns-in_err-reserve-clause-open : goal.returns-in_err-reserve-clause-open
 returns-in_err-reserve-clause-open g c = IfOk-from_err c.from_residual.result _ c.from_residual.ensures.0
 
 pub returns-in_err-reserve-clause-shut : goal.returns-in_err-reserve-clause-shut
-returns-in_err-reserve-clause-shut g c = λ shut. (refl, refl)
+returns-in_err-reserve-clause-shut g c = λ shut. refl
 
 pub returns-in_err-reserve-clause-spent : goal.returns-in_err-reserve-clause-spent
 returns-in_err-reserve-clause-spent g c = λ was is. absurd (cc (was, is))
-
-pub returns-in_err-reserve-clause-lost : goal.returns-in_err-reserve-clause-lost
-returns-in_err-reserve-clause-lost g c = λ was is. absurd (cc (was, is))
 
 pub returns-in_err-reserve-clause-grows : goal.returns-in_err-reserve-clause-grows
 returns-in_err-reserve-clause-grows g c =
@@ -140,12 +129,12 @@ pub returns-in_err-reserve-clause-reads : goal.returns-in_err-reserve-clause-rea
 returns-in_err-reserve-clause-reads g c = IfOk-from_err c.from_residual.result _ c.from_residual.ensures.0
 
 pub work-going-requires-clause-open : goal.work-going-requires-clause-open
-work-going-requires-clause-open g c = c.if-is_shut_to.ensures.1
+work-going-requires-clause-open g c = c.if-is_shut_to.ensures.0
 
 pub work-going-requires-clause-may : goal.work-going-requires-clause-may
 work-going-requires-clause-may g c =
     let room = c.args.self.now in
-    subst (λ (past : List Entry). MayDo c.args.work past) (room.kept c.if-is_shut_to.ensures.0) (may_later c.args.work (flat c.args.place.now.seen.log) (flat room.makers.seen.log) c.if-is_shut_to.ensures.3 c.requires.may)
+    subst (λ (past : List Entry). MayDo c.args.work past) room.kept (may_later c.args.work (flat c.args.place.now.seen.log) (flat room.makers.line.log) c.if-is_shut_to.ensures.2 c.requires.may)
 
 pub work-going-requires-clause-fits : goal.work-going-requires-clause-fits
 work-going-requires-clause-fits g c = subst (λ (h : Group). WorkFits c.args.work h) (sym c.args.self.now.group_is) c.requires.fits
@@ -157,7 +146,7 @@ pub take_in-requires-clause-group : goal.take_in-requires-clause-group
 take_in-requires-clause-group g c = c.requires.group ∙ sym c.args.self.now.of_group
 
 pub take_in-requires-clause-behind : goal.take_in-requires-clause-behind
-take_in-requires-clause-behind g c = c.if-is_shut_to.ensures.2
+take_in-requires-clause-behind g c = c.if-is_shut_to.ensures.1
 
 pub take_in-requires-clause-part : goal.take_in-requires-clause-part
 take_in-requires-clause-part g c = c.requires.part
@@ -176,7 +165,7 @@ take_in-requires-clause-own g c =
 pub take_in-requires-clause-from : goal.take_in-requires-clause-from
 take_in-requires-clause-from g c =
     let room = c.args.self.now in
-    c.count-from.ensures.count ∙ (sym (ap length (room.kept c.if-is_shut_to.ensures.0)) ∙ length_past (flat room.makers.seen.log))
+    c.count-from.ensures.count ∙ (sym (ap length room.kept) ∙ length_past (flat room.makers.line.log))
 
 pub take_in-requires-clause-few : goal.take_in-requires-clause-few
 take_in-requires-clause-few g c =
@@ -200,7 +189,7 @@ take_in-requires-clause-units g c =
     let most = work_share c.args.work old.group room.room.lines in
     let t = taken place.number most c.count-from.result old.past new.past es c.work-going.ensures.adds c.count-from.ensures.count c.since-entries.ensures in
     let within = legal_within new.group new.past c.is_legal.ensures in
-    omega (arith, within, t.count, room.left c.if-is_shut_to.ensures.0)
+    omega (arith, within, t.count, room.left)
 
 pub take_in-requires-clause-spare : goal.take_in-requires-clause-spare
 take_in-requires-clause-spare g c =
@@ -215,80 +204,35 @@ take_in-requires-clause-spare g c =
     let enough = c.most_of.ensures (length es) t.few (omega (arith, within, t.count)) in
     omega (arith, enough, c.in_ok-reserve.ensures.ok, c.reserve.ensures.len)
 
-pub invariant_of-self-in-Err : goal.invariant_of-self-in-Err
-invariant_of-self-in-Err g c =
+pub invariant_of-self-2 : goal.invariant_of-self-2
+invariant_of-self-2 g c =
     let room = c.args.self.now in
+    let place = c.args.place.now in
+    let old = room.room.history in
+    let new = c.work-going.new.self.history in
+    let es = c.since-entries.result.now in
+    let most = work_share c.args.work old.group room.room.lines in
+    let q = c.take_in.new.place in
+    let h = held place.number most c.count-from.result old.past new.past es (flat room.makers.line.log) (flat place.seen.log) place.mine.items c.reserve.new.self.items (flat q.seen.log) q.mine.items
+    room.kept c.work-going.ensures.adds c.count-from.ensures.count c.since-entries.ensures c.reserve.ensures.items c.take_in.ensures.puts in
+    let left : c.take_in.new.self.units.amount + length new.past ≡ 200000 = omega (arith, c.take_in.ensures.units.0, room.left, h.taken.count) in
     record {
       of_group = c.take_in.ensures.group ∙ room.of_group;
       group_is = c.work-going.ensures.room.group ∙ room.group_is;
       lines_are = c.work-going.ensures.room.lines ∙ room.lines_are;
       board_is = c.work-going.ensures.room.board ∙ room.board_is;
-      kept = λ e. absurd cc;
-      left = λ e. absurd cc;
+      kept = ap (λ l. past_in (flat l)) (sym c.take_in.ensures.journal) ∙ h.line;
+      left = left;
     }
 
-pub returns-in-Err-clause-group : goal.returns-in-Err-clause-group
-returns-in-Err-clause-group g c = refl
+pub returns-clause-group : goal.returns-clause-group
+returns-clause-group g c = refl
 
-pub returns-in-Err-clause-place : goal.returns-in-Err-clause-place
-returns-in-Err-clause-place g c = (c.take_in.ensures.place.0, c.take_in.ensures.place.1)
+pub returns-clause-place : goal.returns-clause-place
+returns-clause-place g c = (c.take_in.ensures.place.0, c.take_in.ensures.place.1)
 
-pub returns-in-Err-clause-share : goal.returns-in-Err-clause-share
-returns-in-Err-clause-share g c =
-    let same = c.in-Err.ensures.err.2 in
-    (c.take_in.ensures.parts, omega (arith, ap (λ s. s.amount) c.in-Err.ensures.err.3, ap (λ (p : Place g.row.J.Denot g.J.Naming). length p.mine.items) same, ap length c.reserve.ensures.items))
-
-pub returns-in-Err-clause-entered : goal.returns-in-Err-clause-entered
-returns-in-Err-clause-entered g c = tt
-
-pub returns-in-Err-clause-refused : goal.returns-in-Err-clause-refused
-returns-in-Err-clause-refused g c =
-    let same = c.in-Err.ensures.err.2 in
-    inl (ap (λ (p : Place g.row.J.Denot g.J.Naming). flat p.seen.log) same, ap (λ (p : Place g.row.J.Denot g.J.Naming). p.mine.items) same ∙ c.reserve.ensures.items)
-
-pub returns-in-Err-clause-journal : goal.returns-in-Err-clause-journal
-returns-in-Err-clause-journal g c = tt
-
-pub returns-in-Err-clause-open : goal.returns-in-Err-clause-open
-returns-in-Err-clause-open g c = tt
-
-pub returns-in-Err-clause-shut : goal.returns-in-Err-clause-shut
-returns-in-Err-clause-shut g c = λ shut. absurd (open_not_shut c.args.self.now.lost c.args.self.now.room (c.if-is_shut_to.ensures.0, c.if-is_shut_to.ensures.1) shut)
-
-pub returns-in-Err-clause-spent : goal.returns-in-Err-clause-spent
-returns-in-Err-clause-spent g c = λ was is. ((c.work-going.ensures.spent is).0, refl)
-
-pub returns-in-Err-clause-lost : goal.returns-in-Err-clause-lost
-returns-in-Err-clause-lost g c =
-    let room = c.args.self.now in
-    let place = c.args.place.now in
-    let old = room.room.history in
-    let new = c.work-going.new.self.history in
-    let es = c.since-entries.result.now in
-    let most = work_share c.args.work old.group room.room.lines in
-    let t = taken place.number most c.count-from.result old.past new.past es c.work-going.ensures.adds c.count-from.ensures.count c.since-entries.ensures in
-    λ was is. (lacks old.past new.past es (flat room.makers.seen.log) (flat c.take_in.new.self.seen.log) (room.kept c.if-is_shut_to.ensures.0) t.count (ap (λ (s : Seen Batch ℕ Law). flat s.log) c.in-Err.ensures.err.0) c.in-Err.ensures.some, refl)
-
-pub returns-in-Err-clause-grows : goal.returns-in-Err-clause-grows
-returns-in-Err-clause-grows g c =
-    let place = c.args.place.now in
-    let q = c.take_in.new.place in
-    let same = c.in-Err.ensures.err.2 in
-    look_grows _ (flat place.seen.log) (flat q.seen.log) place.mine.items q.mine.items (subst (λ (p : Place g.row.J.Denot g.J.Naming). IsPrefix (flat place.seen.log) (flat p.seen.log)) (sym same) (prefix_self (flat place.seen.log))) (ap (λ (p : Place g.row.J.Denot g.J.Naming). p.mine.items) same ∙ c.reserve.ensures.items)
-
-pub returns-in-Err-clause-legal : goal.returns-in-Err-clause-legal
-returns-in-Err-clause-legal g c =
-    let same = c.in-Err.ensures.err.2 in
-    λ legal. subst (λ (p : Place g.row.J.Denot g.J.Naming). IsLegal (g.J.Naming.group c.args.self.now.group) (past_in (flat p.seen.log))) (sym same) legal
-
-pub returns-in-Err-clause-reader : goal.returns-in-Err-clause-reader
-returns-in-Err-clause-reader g c = subst (λ (r : Published). IsPrefix c.args.place.now.reader.proposals r.proposals) (sym c.take_in.ensures.place.2) (prefix_self c.args.place.now.reader.proposals)
-
-pub returns-in-Err-clause-reads : goal.returns-in-Err-clause-reads
-returns-in-Err-clause-reads g c = tt
-
-pub invariant_of-self-in-Ok : goal.invariant_of-self-in-Ok
-invariant_of-self-in-Ok g c =
+pub returns-clause-share : goal.returns-clause-share
+returns-clause-share g c =
     let room = c.args.self.now in
     let place = c.args.place.now in
     let old = room.room.history in
@@ -296,26 +240,15 @@ invariant_of-self-in-Ok g c =
     let es = c.since-entries.result.now in
     let most = work_share c.args.work old.group room.room.lines in
     let q = c.take_in.new.place in
-    let h = held place.number most c.count-from.result old.past new.past es (flat room.makers.seen.log) (flat place.seen.log) place.mine.items c.reserve.new.self.items (flat q.seen.log) q.mine.items
-    (room.kept c.if-is_shut_to.ensures.0) c.work-going.ensures.adds c.count-from.ensures.count c.since-entries.ensures c.reserve.ensures.items c.in-Ok.ensures.puts in
-    let left : c.take_in.new.self.units.amount + length new.past ≡ 200000 = omega (arith, c.in-Ok.ensures.units.0, room.left c.if-is_shut_to.ensures.0, h.taken.count) in
-    record {
-      of_group = c.take_in.ensures.group ∙ room.of_group;
-      group_is = c.work-going.ensures.room.group ∙ room.group_is;
-      lines_are = c.work-going.ensures.room.lines ∙ room.lines_are;
-      board_is = c.work-going.ensures.room.board ∙ room.board_is;
-      kept = λ ok. ap (λ l. past_in (flat l)) (sym c.in-Ok.ensures.journal) ∙ h.line;
-      left = λ ok. left;
-    }
+    let h = held place.number most c.count-from.result old.past new.past es (flat room.makers.line.log) (flat place.seen.log) place.mine.items c.reserve.new.self.items (flat q.seen.log) q.mine.items
+    room.kept c.work-going.ensures.adds c.count-from.ensures.count c.since-entries.ensures c.reserve.ensures.items c.take_in.ensures.puts in
+    (c.take_in.ensures.parts, puts_share place.number es (flat room.makers.line.log) (flat place.seen.log) place.mine.items (flat q.seen.log) q.mine.items c.args.share.now.amount c.take_in.new.share.amount h.puts c.take_in.ensures.units.1)
 
-pub returns-in-Ok-clause-group : goal.returns-in-Ok-clause-group
-returns-in-Ok-clause-group g c = refl
+pub returns-clause-shut : goal.returns-clause-shut
+returns-clause-shut g c = λ shut. absurd (cc (shut, c.if-is_shut_to.ensures.0))
 
-pub returns-in-Ok-clause-place : goal.returns-in-Ok-clause-place
-returns-in-Ok-clause-place g c = (c.take_in.ensures.place.0, c.take_in.ensures.place.1)
-
-pub returns-in-Ok-clause-share : goal.returns-in-Ok-clause-share
-returns-in-Ok-clause-share g c =
+pub returns-clause-grows : goal.returns-clause-grows
+returns-clause-grows g c =
     let room = c.args.self.now in
     let place = c.args.place.now in
     let old = room.room.history in
@@ -323,18 +256,12 @@ returns-in-Ok-clause-share g c =
     let es = c.since-entries.result.now in
     let most = work_share c.args.work old.group room.room.lines in
     let q = c.take_in.new.place in
-    let h = held place.number most c.count-from.result old.past new.past es (flat room.makers.seen.log) (flat place.seen.log) place.mine.items c.reserve.new.self.items (flat q.seen.log) q.mine.items
-    (room.kept c.if-is_shut_to.ensures.0) c.work-going.ensures.adds c.count-from.ensures.count c.since-entries.ensures c.reserve.ensures.items c.in-Ok.ensures.puts in
-    (c.take_in.ensures.parts, puts_share place.number es (flat room.makers.seen.log) (flat place.seen.log) place.mine.items (flat q.seen.log) q.mine.items c.args.share.now.amount c.take_in.new.share.amount h.puts c.in-Ok.ensures.units.1)
+    let h = held place.number most c.count-from.result old.past new.past es (flat room.makers.line.log) (flat place.seen.log) place.mine.items c.reserve.new.self.items (flat q.seen.log) q.mine.items
+    room.kept c.work-going.ensures.adds c.count-from.ensures.count c.since-entries.ensures c.reserve.ensures.items c.take_in.ensures.puts in
+    rw (← room.group_is, ← room.lines_are) (puts_grows place.number most es (flat room.makers.line.log) (flat place.seen.log) place.mine.items (flat q.seen.log) q.mine.items h.taken.few h.puts)
 
-pub returns-in-Ok-clause-shut : goal.returns-in-Ok-clause-shut
-returns-in-Ok-clause-shut g c = λ shut. absurd (open_not_shut c.args.self.now.lost c.args.self.now.room (c.if-is_shut_to.ensures.0, c.if-is_shut_to.ensures.1) shut)
-
-pub returns-in-Ok-clause-lost : goal.returns-in-Ok-clause-lost
-returns-in-Ok-clause-lost g c = λ was is. absurd (cc (was, is))
-
-pub returns-in-Ok-clause-grows : goal.returns-in-Ok-clause-grows
-returns-in-Ok-clause-grows g c =
+pub returns-clause-legal : goal.returns-clause-legal
+returns-clause-legal g c =
     let room = c.args.self.now in
     let place = c.args.place.now in
     let old = room.room.history in
@@ -342,21 +269,8 @@ returns-in-Ok-clause-grows g c =
     let es = c.since-entries.result.now in
     let most = work_share c.args.work old.group room.room.lines in
     let q = c.take_in.new.place in
-    let h = held place.number most c.count-from.result old.past new.past es (flat room.makers.seen.log) (flat place.seen.log) place.mine.items c.reserve.new.self.items (flat q.seen.log) q.mine.items
-    (room.kept c.if-is_shut_to.ensures.0) c.work-going.ensures.adds c.count-from.ensures.count c.since-entries.ensures c.reserve.ensures.items c.in-Ok.ensures.puts in
-    rw (← room.group_is, ← room.lines_are) (puts_grows place.number most es (flat room.makers.seen.log) (flat place.seen.log) place.mine.items (flat q.seen.log) q.mine.items h.taken.few h.puts)
-
-pub returns-in-Ok-clause-legal : goal.returns-in-Ok-clause-legal
-returns-in-Ok-clause-legal g c =
-    let room = c.args.self.now in
-    let place = c.args.place.now in
-    let old = room.room.history in
-    let new = c.work-going.new.self.history in
-    let es = c.since-entries.result.now in
-    let most = work_share c.args.work old.group room.room.lines in
-    let q = c.take_in.new.place in
-    let h = held place.number most c.count-from.result old.past new.past es (flat room.makers.seen.log) (flat place.seen.log) place.mine.items c.reserve.new.self.items (flat q.seen.log) q.mine.items
-    (room.kept c.if-is_shut_to.ensures.0) c.work-going.ensures.adds c.count-from.ensures.count c.since-entries.ensures c.reserve.ensures.items c.in-Ok.ensures.puts in
+    let h = held place.number most c.count-from.result old.past new.past es (flat room.makers.line.log) (flat place.seen.log) place.mine.items c.reserve.new.self.items (flat q.seen.log) q.mine.items
+    room.kept c.work-going.ensures.adds c.count-from.ensures.count c.since-entries.ensures c.reserve.ensures.items c.take_in.ensures.puts in
     λ _. legal_taught (g.J.Naming.group room.group) new.group (flat q.seen.log) new.past h.line (c.work-going.ensures.room.group ∙ room.group_is) c.is_legal.ensures
 
 pub tell-requires-clause-book : goal.tell-requires-clause-book
@@ -369,8 +283,8 @@ pub tell-requires-clause-open : goal.tell-requires-clause-open
 tell-requires-clause-open g c =
     c.work-going.ensures.open
 
-pub invariant_of-self-in-Ok-2 : goal.invariant_of-self-in-Ok-2
-invariant_of-self-in-Ok-2 g c =
+pub invariant_of-self-3 : goal.invariant_of-self-3
+invariant_of-self-3 g c =
     let room = c.args.self.now in
     let place = c.args.place.now in
     let old = room.room.history in
@@ -378,20 +292,20 @@ invariant_of-self-in-Ok-2 g c =
     let es = c.since-entries.result.now in
     let most = work_share c.args.work old.group room.room.lines in
     let q = c.take_in.new.place in
-    let h = held place.number most c.count-from.result old.past new.past es (flat room.makers.seen.log) (flat place.seen.log) place.mine.items c.reserve.new.self.items (flat q.seen.log) q.mine.items
-    (room.kept c.if-is_shut_to.ensures.0) c.work-going.ensures.adds c.count-from.ensures.count c.since-entries.ensures c.reserve.ensures.items c.in-Ok.ensures.puts in
-    let left : c.take_in.new.self.units.amount + length new.past ≡ 200000 = omega (arith, c.in-Ok.ensures.units.0, room.left c.if-is_shut_to.ensures.0, h.taken.count) in
+    let h = held place.number most c.count-from.result old.past new.past es (flat room.makers.line.log) (flat place.seen.log) place.mine.items c.reserve.new.self.items (flat q.seen.log) q.mine.items
+    room.kept c.work-going.ensures.adds c.count-from.ensures.count c.since-entries.ensures c.reserve.ensures.items c.take_in.ensures.puts in
+    let left : c.take_in.new.self.units.amount + length new.past ≡ 200000 = omega (arith, c.take_in.ensures.units.0, room.left, h.taken.count) in
     record {
       of_group = c.take_in.ensures.group ∙ room.of_group;
       group_is = c.work-going.ensures.room.group ∙ room.group_is;
       lines_are = c.work-going.ensures.room.lines ∙ room.lines_are;
       board_is = c.work-going.ensures.room.board ∙ room.board_is;
-      kept = λ ok. ap (λ l. past_in (flat l)) (sym c.in-Ok.ensures.journal) ∙ h.line;
-      left = λ ok. left;
+      kept = ap (λ l. past_in (flat l)) (sym c.take_in.ensures.journal) ∙ h.line;
+      left = left;
     }
 
-pub invariant_of-place-in-Ok : goal.invariant_of-place-in-Ok
-invariant_of-place-in-Ok g c =
+pub invariant_of-place-2 : goal.invariant_of-place-2
+invariant_of-place-2 g c =
     let q = c.take_in.new.place in
     record {
       named = q.named;
@@ -402,8 +316,8 @@ invariant_of-place-in-Ok g c =
       reads_group = c.tell.ensures.board.1 ∙ q.reads_group;
     }
 
-pub returns-in-Ok-clause-journal : goal.returns-in-Ok-clause-journal
-returns-in-Ok-clause-journal g c =
+pub returns-clause-journal : goal.returns-clause-journal
+returns-clause-journal g c =
     let room = c.args.self.now in
     let place = c.args.place.now in
     let old = room.room.history in
@@ -411,22 +325,22 @@ returns-in-Ok-clause-journal g c =
     let es = c.since-entries.result.now in
     let most = work_share c.args.work old.group room.room.lines in
     let q = c.take_in.new.place in
-    let h = held place.number most c.count-from.result old.past new.past es (flat room.makers.seen.log) (flat place.seen.log) place.mine.items c.reserve.new.self.items (flat q.seen.log) q.mine.items
-    (room.kept c.if-is_shut_to.ensures.0) c.work-going.ensures.adds c.count-from.ensures.count c.since-entries.ensures c.reserve.ensures.items c.in-Ok.ensures.puts in
+    let h = held place.number most c.count-from.result old.past new.past es (flat room.makers.line.log) (flat place.seen.log) place.mine.items c.reserve.new.self.items (flat q.seen.log) q.mine.items
+    room.kept c.work-going.ensures.adds c.count-from.ensures.count c.since-entries.ensures c.reserve.ensures.items c.take_in.ensures.puts in
     if_any c.tell.result h.line
 
-pub returns-in-Ok-clause-open : goal.returns-in-Ok-clause-open
-returns-in-Ok-clause-open g c =
-    on_any c.tell.result (c.if-is_shut_to.ensures.0, c.if-is_shut_to.ensures.1)
+pub returns-clause-open : goal.returns-clause-open
+returns-clause-open g c =
+    on_any c.tell.result c.if-is_shut_to.ensures.0
 
-pub returns-in-Ok-clause-spent : goal.returns-in-Ok-clause-spent
-returns-in-Ok-clause-spent g c =
+pub returns-clause-spent : goal.returns-clause-spent
+returns-clause-spent g c =
     λ was is.
     let refused = c.work-going.ensures.spent is in
     (refused.0, subst (λ (r : Result Going _). IsErr r) (sym c.tell.ensures.same) refused.1)
 
-pub returns-in-Ok-clause-entered : goal.returns-in-Ok-clause-entered
-returns-in-Ok-clause-entered g c =
+pub returns-clause-entered : goal.returns-clause-entered
+returns-clause-entered g c =
     let room = c.args.self.now in
     let place = c.args.place.now in
     let old = room.room.history in
@@ -434,14 +348,14 @@ returns-in-Ok-clause-entered g c =
     let es = c.since-entries.result.now in
     let most = work_share c.args.work old.group room.room.lines in
     let q = c.take_in.new.place in
-    let h = held place.number most c.count-from.result old.past new.past es (flat room.makers.seen.log) (flat place.seen.log) place.mine.items c.reserve.new.self.items (flat q.seen.log) q.mine.items
-    (room.kept c.if-is_shut_to.ensures.0) c.work-going.ensures.adds c.count-from.ensures.count c.since-entries.ensures c.reserve.ensures.items c.in-Ok.ensures.puts in
+    let h = held place.number most c.count-from.result old.past new.past es (flat room.makers.line.log) (flat place.seen.log) place.mine.items c.reserve.new.self.items (flat q.seen.log) q.mine.items
+    room.kept c.work-going.ensures.adds c.count-from.ensures.count c.since-entries.ensures c.reserve.ensures.items c.take_in.ensures.puts in
     let course : List Entry → _ = course_at place.number c.args.work old.group room.room.lines in
-    subst (λ (r : Result Going _). IfOk r (λ going. Enters (course_at place.number c.args.work (g.J.Naming.group room.group) (g.J.Naming.lines room.group)) going place.number (flat room.makers.seen.log) (flat place.seen.log) place.mine.items (flat q.seen.log) q.mine.items)) (sym c.tell.ensures.same)
-    (rw (← room.group_is, ← room.lines_are) (enters_all c.work-going.result course place.number most old.past new.past es (flat room.makers.seen.log) (flat place.seen.log) place.mine.items (flat q.seen.log) q.mine.items c.work-going.ensures.ok c.work-going.ensures.full h.taken (room.kept c.if-is_shut_to.ensures.0) h.puts))
+    subst (λ (r : Result Going _). IfOk r (λ going. Enters (course_at place.number c.args.work (g.J.Naming.group room.group) (g.J.Naming.lines room.group)) going place.number (flat room.makers.line.log) (flat place.seen.log) place.mine.items (flat q.seen.log) q.mine.items)) (sym c.tell.ensures.same)
+    (rw (← room.group_is, ← room.lines_are) (enters_all c.work-going.result course place.number most old.past new.past es (flat room.makers.line.log) (flat place.seen.log) place.mine.items (flat q.seen.log) q.mine.items c.work-going.ensures.ok c.work-going.ensures.full h.taken room.kept h.puts))
 
-pub returns-in-Ok-clause-refused : goal.returns-in-Ok-clause-refused
-returns-in-Ok-clause-refused g c =
+pub returns-clause-refused : goal.returns-clause-refused
+returns-clause-refused g c =
     let room = c.args.self.now in
     let place = c.args.place.now in
     let old = room.room.history in
@@ -449,17 +363,17 @@ returns-in-Ok-clause-refused g c =
     let es = c.since-entries.result.now in
     let most = work_share c.args.work old.group room.room.lines in
     let q = c.take_in.new.place in
-    let h = held place.number most c.count-from.result old.past new.past es (flat room.makers.seen.log) (flat place.seen.log) place.mine.items c.reserve.new.self.items (flat q.seen.log) q.mine.items
-    (room.kept c.if-is_shut_to.ensures.0) c.work-going.ensures.adds c.count-from.ensures.count c.since-entries.ensures c.reserve.ensures.items c.in-Ok.ensures.puts in
+    let h = held place.number most c.count-from.result old.past new.past es (flat room.makers.line.log) (flat place.seen.log) place.mine.items c.reserve.new.self.items (flat q.seen.log) q.mine.items
+    room.kept c.work-going.ensures.adds c.count-from.ensures.count c.since-entries.ensures c.reserve.ensures.items c.take_in.ensures.puts in
     let course : List Entry → _ = course_at place.number c.args.work old.group room.room.lines in
-    on_err c.tell.result (inr (rw (← room.group_is, ← room.lines_are) (enters_part course place.number most old.past new.past es (flat room.makers.seen.log) (flat place.seen.log) place.mine.items (flat q.seen.log) q.mine.items c.work-going.ensures.part h.taken (room.kept c.if-is_shut_to.ensures.0) h.puts)))
+    on_err c.tell.result (inr (rw (← room.group_is, ← room.lines_are) (enters_part course place.number most old.past new.past es (flat room.makers.line.log) (flat place.seen.log) place.mine.items (flat q.seen.log) q.mine.items c.work-going.ensures.part h.taken room.kept h.puts)))
 
-pub returns-in-Ok-clause-reader : goal.returns-in-Ok-clause-reader
-returns-in-Ok-clause-reader g c =
+pub returns-clause-reader : goal.returns-clause-reader
+returns-clause-reader g c =
     subst (λ (r : Published). IsPrefix r.proposals c.tell.new.reader.proposals) c.take_in.ensures.place.2 c.tell.ensures.later
 
-pub returns-in-Ok-clause-reads : goal.returns-in-Ok-clause-reads
-returns-in-Ok-clause-reads g c =
+pub returns-clause-reads : goal.returns-clause-reads
+returns-clause-reads g c =
     let room = c.args.self.now in
     let place = c.args.place.now in
     let old = room.room.history in
@@ -467,6 +381,6 @@ returns-in-Ok-clause-reads g c =
     let es = c.since-entries.result.now in
     let most = work_share c.args.work old.group room.room.lines in
     let q = c.take_in.new.place in
-    let h = held place.number most c.count-from.result old.past new.past es (flat room.makers.seen.log) (flat place.seen.log) place.mine.items c.reserve.new.self.items (flat q.seen.log) q.mine.items
-    (room.kept c.if-is_shut_to.ensures.0) c.work-going.ensures.adds c.count-from.ensures.count c.since-entries.ensures c.reserve.ensures.items c.in-Ok.ensures.puts in
+    let h = held place.number most c.count-from.result old.past new.past es (flat room.makers.line.log) (flat place.seen.log) place.mine.items c.reserve.new.self.items (flat q.seen.log) q.mine.items
+    room.kept c.work-going.ensures.adds c.count-from.ensures.count c.since-entries.ensures c.reserve.ensures.items c.take_in.ensures.puts in
     reads_taught c.tell.result (flat q.seen.log) new.past c.tell.new.reader.proposals h.line c.tell.ensures.reads

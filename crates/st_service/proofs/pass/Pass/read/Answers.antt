@@ -9,9 +9,8 @@ use Rattle.st_event.specs.declared.act.LogEntry.{LogEntry}
 use Rattle.st_event.specs.declared.act.LogSaw.TheVariants.{Seen}
 use Rattle.st_board.specs.Published.{Published}
 use Rattle.st_service.specs.declared.place.Place.{Place}
-use Rattle.logbook.specs.declared.tokens.Seen.{Seen as LogSeen}
+use Rattle.st_line.specs.Lines.{Reached}
 use Rattle.st_service.specs.declared.line.Batch.{Batch}
-use Rattle.st_service.specs.declared.line.Law.{Law}
 use Rattle.st_service.specs.Kept.{Kept}
 use Rattle.st_service.specs.Lines.{flat}
 use Rattle.st_service.specs.Made.{past_in}
@@ -35,7 +34,7 @@ returns-clause-entries g c =
     let fronts : map log places ≡ c.args.self.now.fronts = ap (λ (h : Holder). h.fronts) c.self.view_is in
     let mines : map mine places ≡ c.args.self.now.mines = ap (λ (h : Holder). h.mines) c.self.view_is in
     let at = c.index_mut.ensures.value in
-    (kept_all log places c.args.group c.index_mut.result.now c.read-seen.new.self at (ap (λ (l : LogSeen Batch ℕ Law). flat l.log) c.read-seen.ensures.same.2) ∙ fronts, kept_all mine places c.args.group c.index_mut.result.now c.read-seen.new.self at (ap (λ v. v.items) c.read-seen.ensures.same.3) ∙ mines)
+    (kept_all log places c.args.group c.index_mut.result.now c.read-seen.new.self at (ap (λ (l : Reached Batch). flat l.log) c.read-seen.ensures.same.2) ∙ fronts, kept_all mine places c.args.group c.index_mut.result.now c.read-seen.new.self at (ap (λ v. v.items) c.read-seen.ensures.same.3) ∙ mines)
 
 pub returns-clause-logged : goal.returns-clause-logged
 returns-clause-logged g c =
@@ -77,7 +76,7 @@ returns-clause-kept g c =
     let same = c.read-seen.ensures.same in
     let fronts : map log places ≡ c.args.self.now.fronts = ap (λ (h : Holder). h.fronts) c.self.view_is in
     let there : n < length places = omega (arith, c.requires.room.0, ap length fronts, length-map places log) in
-    let seen : IsPrefix (flat old.seen.log) (flat new.seen.log) = subst (λ (l : LogSeen Batch ℕ Law). IsPrefix (flat old.seen.log) (flat l.log)) (sym same.2) (prefix_self (flat old.seen.log)) in
+    let seen : IsPrefix (flat old.seen.log) (flat new.seen.log) = subst (λ (l : Reached Batch). IsPrefix (flat old.seen.log) (flat l.log)) (sym same.2) (prefix_self (flat old.seen.log)) in
     let grows = look_grows 0 (flat old.seen.log) (flat new.seen.log) old.mine.items new.mine.items seen (ap (λ v. v.items) same.3) in
     subst (λ (h : Holder). Kept h (holder log mine reader c.self.inside.number (set places n new) c.add.new.self) n 0) c.self.view_is
     (kept_set log mine reader c.self.inside.number c.self.inside.log c.add.new.self places n 0 old new there c.index_mut.ensures.value grows c.read-seen.ensures.later)
@@ -97,7 +96,7 @@ invariant_of-self g c =
     let there : n < length places = omega (arith, c.requires.room.0, ap length fronts, length-map places log) in
     let was : good n old = subst (good n) (sym at) (inv.0 n old there) in
     let same = c.read-seen.ensures.same in
-    let legal : IsLegal (g.J.Naming.group n) (past_in (flat new.seen.log)) = subst (λ (l : LogSeen Batch ℕ Law). IsLegal (g.J.Naming.group n) (past_in (flat l.log))) (sym same.2) was.2 in
+    let legal : IsLegal (g.J.Naming.group n) (past_in (flat new.seen.log)) = subst (λ (l : Reached Batch). IsLegal (g.J.Naming.group n) (past_in (flat l.log))) (sym same.2) was.2 in
     let here : good n new = (same.0 ∙ was.0, same.1 ∙ was.1, legal) in
     let before = c.self.inside.share.amount in
     (items_set good places n new there inv.0 here, inv.1, units_set units places n old new before before there at inv.2 (ap (λ v. before + length v.items) (sym same.3)))

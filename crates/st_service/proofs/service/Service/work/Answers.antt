@@ -14,7 +14,7 @@ returns-clause-entered g c =
     let here = ap (λ l. l.group) c.deref_mut.ensures.value ∙ c.in_ok-room.ensures.group in
     let pass = c.args.pass.now in
     let new = c.work_in.new.self in
-    subst (λ (k : ℕ). IfOk c.work_in.result (λ going. (mid : List Made) × Enters (course_at pass.number c.args.work (g.J.Naming.group k) (g.J.Naming.lines k)) going pass.number mid (front_at pass.fronts k) (mine_at pass.mines k) (front_at new.fronts k) (mine_at new.mines k))) here (ok_map _ _ c.work_in.result (λ going enters. (flat c.deref_mut.result.now.makers.seen.log, enters)) c.work_in.ensures.entered)
+    subst (λ (k : ℕ). IfOk c.work_in.result (λ going. (mid : List Made) × Enters (course_at pass.number c.args.work (g.J.Naming.group k) (g.J.Naming.lines k)) going pass.number mid (front_at pass.fronts k) (mine_at pass.mines k) (front_at new.fronts k) (mine_at new.mines k))) here (ok_map _ _ c.work_in.result (λ going enters. (flat c.deref_mut.result.now.makers.line.log, enters)) c.work_in.ensures.entered)
 
 pub returns-clause-reads : goal.returns-clause-reads
 returns-clause-reads g c =
