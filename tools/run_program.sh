@@ -77,7 +77,10 @@ build() {
     say "the first run proves and builds the ${#names[@]} crates of the program, up to $lanes at a time; README.md says how long it takes"
     (cd "$room" && rt all check --jobs "$lanes" 2>&1) </dev/null | tell || fail
     [ ! -f "$room/crates/$crate/args" ] || mapfile -t words <"$room/crates/$crate/args"
-    (cd "$room/crates/$crate" && rt run -- "${words[@]}") <"$room/crates/$crate/stdin" >>"$log" 2>&1 || fail
+    # A stored run may end with another status than 0 by intent, so the build counts by the program that it leaves.
+    rm -f "$room/crates/$crate/out/$crate"
+    (cd "$room/crates/$crate" && rt run -- "${words[@]}") <"$room/crates/$crate/stdin" >>"$log" 2>&1 || true
+    [ -x "$room/crates/$crate/out/$crate" ] || fail
     cp "$room/crates/$crate/out/$crate" "$program"
     printf '%s\n' "$sources" >"$program.sources"
     say "done in $(((SECONDS - begin) / 60)) minutes and $(((SECONDS - begin) % 60)) seconds"
