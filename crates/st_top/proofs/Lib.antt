@@ -7,3 +7,4 @@ pub mod ThreadRuns
 pub mod HandedBack
 pub mod Histories
 mod SerialRuns
+mod Promised

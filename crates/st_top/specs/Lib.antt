@@ -6,3 +6,4 @@ pub mod PrintedRuns
 pub mod Ending
 pub mod Program
 pub mod Trees
+pub mod Promised

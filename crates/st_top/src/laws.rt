@@ -2,6 +2,7 @@
 //! whoever runs a document and has to say that it comes to its end, or keeps what was printed and replays it later.
 
 ghost use Rattle.st_top.specs.PrintedRuns.{PrintedRunsAreReplayed, RunsByThreadsAreReplayed, SerialRunsAreReplayed};
+ghost use Rattle.st_top.specs.Promised.{PromisesHoldWithoutFailures};
 ghost use Rattle.st_top.specs.Trees.{TreesFit, TreesHaveRoom};
 
 /// The documents of fat trees have so few commands that no event meets a full journal.
@@ -27,4 +28,12 @@ pub fn serial_runs_are_replayed()
 /// these journals, and replayed.
 pub fn runs_by_threads_are_replayed()
     ensures { RunsByThreadsAreReplayed }
+{}
+
+/// What was promised of a network whose entities never fail of themselves: a document's scripts are run, on one thread or by threads, the
+/// call ends with `Ok`, and there is no `fail` in a group's journal. Then every promise of the group that held at the opening holds in
+/// the network at each of the journal's moments. It follows from clause `ends` of `statesman`, whose cases for `serial` and `run` are its
+/// premises.
+pub fn promises_hold_without_failures()
+    ensures { PromisesHoldWithoutFailures }
 {}
