@@ -1,95 +1,63 @@
-#!/usr/bin/env bash
-# Runs a program of this repository: tools/run_program.sh LABEL CRATE WORDS..
-# The first run proves and builds it, several crates at a time, and tells on standard error how far it is. A later run starts at once.
-# It works in a copy of the program's crates under ~/.cache/statesman, a folder for each checkout and program, where what was proved stays for the next
-# change: 10 GB, which may be removed at any time. (Under the checkout `rt ci` would take the copy's crates.txt for a second one.)
-set -euo pipefail
-label=$1 crate=$2
-shift 2
-top=$(cd "$(dirname "${BASH_SOURCE[0]}")/.." && pwd)
-out=$top/crates/$crate/out
-program=$out/$crate
-room=${XDG_CACHE_HOME:-$HOME/.cache}/statesman/$(printf '%s' "$top" | cksum | cut -d ' ' -f 1)-$crate
-log=$out/first_run.log
+# shellcheck shell=bash
+# How ./statesman and ./player run their programs: the proved one where these sources were proved here (./prove), and else one that was built of
+# the same code without its proofs, which the first run does; a line on standard error says so at each run.
+# Standard output and the exit status are the program's, and all that is said here goes to standard error.
+# These scripts set top, label and crate, and have two functions:
+# - read_words WORDS.. leaves in why which word is not taken, in a sentence, and nothing where the words are a command; and in
+#   reads_input whether this command reads standard input. The program decides; this saves a build where the words are none, and tells why.
+# - usage prints which words there are.
+# shellcheck disable=SC2154
+. "$top/tools/sources.sh"
 
-say() { printf '%s: %s\n' "$label" "$*" >&2; }
-
-# The lines of crates.txt for the program and all that it stands on, lowest first.
-crate_lines() {
-    awk -F '[: ]+' -v program="$crate" '!/^#/ { name[++n] = $1; stands[n] = $0 }
-        END {
-            wanted[program]
-            for (i = n; i > 0; i--) if (name[i] in wanted) { split(stands[i], below); for (j in below) wanted[below[j]] }
-            for (i = 1; i <= n; i++) if (name[i] in wanted) print stands[i]
-        }' "$top/crates.txt"
+# A number as docs/FORMATS.md has it: one to ten digits, no zero before others, at most 4294967295.
+is_number() {
+    local LC_ALL=C
+    [[ $1 =~ ^(0|[1-9][0-9]{0,9})$ ]] && [ "$1" -le 4294967295 ]
 }
 
-# How many crates are proved at a time: one for each processor, as far as there are 5 GB of memory for each.
-lane_count() {
-    local memory
-    memory=$(awk '$1 == "MemTotal:" { print int($2 / 5000000) }' /proc/meminfo)
-    [ "$memory" -ge 1 ] || memory=1
-    [ "$memory" -lt "$(nproc)" ] && echo "$memory" || nproc
-}
-
-# The copy of the crates as they are now.
-fill_room() {
-    local name part
-    mkdir -p "$room/crates" "$out"
-    printf '%s\n' "${lines[@]}" >"$room/crates.txt"
-    cp "$top/HANDLES" "$room/HANDLES"
-    for name in "${names[@]}"; do
-        mkdir -p "$room/crates/$name"
-        find "$room/crates/$name" -mindepth 1 -maxdepth 1 ! -name out -exec rm -rf {} +
-        for part in src specs proofs data stdin stdout args status; do
-            [ ! -e "$top/crates/$name/$part" ] || cp -Rp "$top/crates/$name/$part" "$room/crates/$name/"
-        done
+# Whether the words ask how to call the program. None of its commands has such a word.
+asks_for_usage() {
+    local word
+    [ $# -gt 0 ] || [ -z "$why" ] || return 0
+    for word; do
+        case $word in --help | -h | help | --version) return 0 ;; esac
     done
+    return 1
 }
 
-# Tells of each crate when it is done, by the heads in what `rt all` prints.
-tell() {
-    local line left=${#names[@]}
-    while IFS= read -r line; do
-        printf '%s\n' "$line" >>"$log"
-        case $line in
-        '== summary') ;;
-        '== '*)
-            left=$((left - 1))
-            say "${line#== } is done, $left left"
-            ;;
-        esac
-    done
+# Told once more where a status is not 0, for who has standard output in a file.
+meaning_of() {
+    case $1 in
+    3) echo "standard input could not be read" ;;
+    4) echo "standard input is too long" ;;
+    5) echo "standard input has a bad line, which standard output names" ;;
+    6) echo "a journal is full, which standard output names" ;;
+    7) echo "an entry of a journal has a wrong reply, which standard output names" ;;
+    8) echo "standard output could not be written" ;;
+    9) echo "there was not enough memory" ;;
+    *) echo "it did not end as it should" ;;
+    esac
 }
 
-fail() {
-    tail -n 20 "$log" >&2
-    say "failed; crates/$crate/out/first_run.log has the whole"
-    exit 1
+run_program() {
+    local status=0
+    why='' reads_input=''
+    read_words "$@"
+    if asks_for_usage "$@" || { [ -n "$why" ] && ! find_program "$crate"; }; then
+        # What the program prints and ends with at words that are none of its own: ./test compares it.
+        printf 'fault usage\n' 2>/dev/null || exit 8
+        status=2
+    else
+        program_of "$crate"
+        [ -n "$is_proved" ] || say "this program's proofs were not checked on this machine: ./prove does that"
+        [ -z "$reads_input" ] || [ ! -t 0 ] || say "reads standard input, which is the terminal here: <FILE reads a file, and Ctrl-D ends what is typed"
+        "$program" "$@" || status=$?
+    fi
+    if [ "$status" = 2 ]; then
+        asks_for_usage "$@" || say "${why:-these words are not taken}"
+        usage >&2
+    elif [ "$status" != 0 ] && [ "$label" = player ]; then
+        say "no page, and status $status: $(meaning_of "$status")"
+    fi
+    exit "$status"
 }
-
-build() {
-    local begin=$SECONDS lanes words=()
-    lanes=$(lane_count)
-    fill_room
-    : >"$log"
-    rm -f "$program"
-    say "the first run proves and builds the ${#names[@]} crates of the program, up to $lanes at a time; README.md says how long it takes"
-    (cd "$room" && rt all check --jobs "$lanes" 2>&1) </dev/null | tell || fail
-    [ ! -f "$room/crates/$crate/args" ] || mapfile -t words <"$room/crates/$crate/args"
-    # A stored run may end with another status than 0 by intent, so the build counts by the program that it leaves.
-    rm -f "$room/crates/$crate/out/$crate"
-    (cd "$room/crates/$crate" && rt run -- "${words[@]}") <"$room/crates/$crate/stdin" >>"$log" 2>&1 || true
-    [ -x "$room/crates/$crate/out/$crate" ] || fail
-    cp "$room/crates/$crate/out/$crate" "$program"
-    printf '%s\n' "$sources" >"$program.sources"
-    say "done in $(((SECONDS - begin) / 60)) minutes and $(((SECONDS - begin) % 60)) seconds"
-}
-
-mapfile -t lines < <(crate_lines)
-names=("${lines[@]%%:*}")
-sources=$(cd "$top" && find crates.txt HANDLES "${names[@]/#/crates/}" -name out -prune -o -type f \( -name '*.rt' -o -name '*.antt' -o -name crates.txt -o -name HANDLES \) -print | LC_ALL=C sort | xargs sha256sum | sha256sum)
-if [ ! -x "$program" ] || [ "$(cat "$program.sources" 2>/dev/null)" != "$sources" ]; then
-    build
-fi
-exec "$program" "$@"
