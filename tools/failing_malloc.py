@@ -29,7 +29,6 @@ from report_reading import Unreadable  # noqa: E402
 from trying_runs import is_order_free, wrong_in_report_text  # noqa: E402
 
 REPOSITORY = os.path.dirname(TOOLS)
-PROGRAM = os.path.join(REPOSITORY, "crates", "statesman_cli", "out", "statesman_cli")
 OUT_OF_MEMORY = 9
 SECONDS_OF_A_RUN = 60
 
@@ -169,14 +168,17 @@ def tasks(program, documents):
 
 def main():
     parser = argparse.ArgumentParser(prog="failing_malloc", description=__doc__)
-    parser.add_argument("--program", default=PROGRAM, help="the program to try")
+    parser.add_argument("--program", help="the program to try (the one that ./statesman runs)")
     parser.add_argument("--seconds", type=float, default=600, help="after so many seconds no further call fails (600)")
     parser.add_argument("--calls-on", action="store_true", help="let each call behind the failing one fail too")
     parser.add_argument("--commands", default="check,serial,run,replay,gen,demo", help="which commands (all)")
     parser.add_argument("documents", nargs="*", help="files (those of examples/)")
     options = parser.parse_args()
+    if options.program is None:
+        found = subprocess.run([os.path.join(TOOLS, "program_path.sh"), "statesman_cli"], stdout=subprocess.PIPE, check=True)
+        options.program = found.stdout.decode().strip()
     if not os.access(options.program, os.X_OK):
-        print("no program at %s: ./statesman check <examples/two_path.txt builds it" % options.program)
+        print("no program at %s" % options.program)
         return 2
     documents = options.documents or sorted(glob.glob(os.path.join(REPOSITORY, "examples", "*.txt")))
     end = time.monotonic() + options.seconds

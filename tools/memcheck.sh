@@ -2,12 +2,12 @@
 # Runs the program under valgrind's memcheck on each example, or on the files that are given: tools/memcheck.sh [FILE..]
 # With check, serial and run, with replay of what run printed, and once with gen and demo.
 # Prints a line for each run with what valgrind found; the exit status is 1 where it found an error or a leak.
-# PROGRAM=PATH names another program than the one that ./statesman builds.
+# PROGRAM=PATH names another program than the one that ./statesman runs.
 set -uo pipefail
 top=$(cd "$(dirname "${BASH_SOURCE[0]}")/.." && pwd)
-program=${PROGRAM:-$top/crates/statesman_cli/out/statesman_cli}
+program=${PROGRAM:-$("$top/tools/program_path.sh" statesman_cli)}
 if [ ! -x "$program" ]; then
-    echo "no program at $program: ./statesman check <examples/two_path.txt builds it"
+    echo "no program at '$program'"
     exit 2
 fi
 [ $# -gt 0 ] || set -- "$top"/examples/*.txt

@@ -9,6 +9,7 @@ import argparse
 import difflib
 import multiprocessing
 import os
+import subprocess
 import sys
 import time
 from collections import Counter
@@ -29,7 +30,7 @@ from trying_runs import is_order_free, run_difference  # noqa: E402
 MOST_SHOWN = 20000
 
 REPOSITORY = os.path.dirname(os.path.dirname(os.path.dirname(os.path.abspath(__file__))))
-PROGRAM = os.path.join(REPOSITORY, "crates", "statesman_cli", "out", "statesman_cli")
+PROGRAM_PATH = os.path.join(REPOSITORY, "tools", "program_path.sh")
 
 
 def main():
@@ -37,8 +38,10 @@ def main():
     if options.show is not None:
         show(case_text(options.show))
         return 0
+    if options.program is None:
+        options.program = subprocess.run([PROGRAM_PATH, "statesman_cli"], stdout=subprocess.PIPE, check=True).stdout.decode().strip()
     if not os.access(options.program, os.X_OK):
-        print("no program at %s: ./statesman check <examples/two_path.txt builds it" % options.program)
+        print("no program at %s" % options.program)
         return 2
     trial = Trial(options)
     for share in in_shares(options):
@@ -61,7 +64,7 @@ def try_share(work):
 
 def read_options():
     parser = argparse.ArgumentParser(prog="second_reading", description=__doc__)
-    parser.add_argument("--program", default=PROGRAM, help="the program to compare with")
+    parser.add_argument("--program", help="the program to compare with (the one that ./statesman runs)")
     parser.add_argument("--cases", type=int, default=2000, help="how many cases (2000)")
     parser.add_argument("--crowds", type=int, default=0, help="how many documents with many applications, for run alone (0)")
     parser.add_argument("--again", type=int, default=1, metavar="N", help="try run N times on each document whose order is free (1)")
