@@ -143,6 +143,3 @@ impl Agent {
         !self.busy() && carries(self.entity, self.vals, self.level())
     }
 }
-
-#[cfg(test)]
-mod tests;

@@ -9,6 +9,3 @@ mod job;
 pub use crew::crew_run;
 pub use gate::{Gate, NoGate, Point};
 pub use job::Job;
-
-#[cfg(test)]
-mod tests;

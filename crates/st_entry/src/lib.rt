@@ -17,6 +17,3 @@ pub use keyword::{CauseWord, EventWord, ReplyWord, VerdictWord, kind_word};
 pub use names::{app_name, entity_name, holder_name};
 pub use replies::print_reply;
 pub use saws::print_saw;
-
-#[cfg(test)]
-mod tests;

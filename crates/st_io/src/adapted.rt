@@ -170,6 +170,3 @@ fn flush_once<W: Write>(writer: &mut W) -> io::Result<()>
     }
     writer.flush()
 }
-
-#[cfg(test)]
-mod tests;

@@ -99,26 +99,3 @@ fn read_some<S: Source>(
         ReadStep::Failed => Ok(ReadStep::Failed),
     }
 }
-
-#[cfg(test)]
-mod tests {
-    use super::*;
-    use crate::SureSource;
-    use std::test::Fail;
-
-    #[test]
-    fn one_byte_more_than_the_most_is_too_long(rt: HostRuntime) -> Result<(), Fail> {
-        let alloc = rt.alloc();
-        let mut bytes = vec![in alloc; b'x'; MAX_BYTES]?;
-        let most = read_all(alloc, &mut SureSource::new(bytes.clone()?))?;
-        assert_eq!(rt; most.end, ReadEnd::End);
-        assert_eq!(rt; most.bytes.len(), MAX_BYTES);
-
-        bytes.push(b'x')?;
-        bytes.push(b'x')?;
-        let long = read_all(alloc, &mut SureSource::new(bytes))?;
-        assert_eq!(rt; long.end, ReadEnd::TooLong);
-        assert_eq!(rt; long.bytes.len(), MAX_BYTES + 1);
-        Ok(())
-    }
-}

@@ -105,26 +105,3 @@ impl Sink for SureSink {
         self.held.take(piece, piece.len())
     }
 }
-
-#[cfg(test)]
-mod tests {
-    use super::*;
-    use crate::{ReadEnd, Written, read_all, write_all};
-    use std::test::Fail;
-
-    #[test]
-    fn a_text_goes_through_whole(rt: HostRuntime) -> Result<(), Fail> {
-        let alloc = rt.alloc();
-        let mut source = SureSource::new(b"group dc1\n".to_vec(alloc)?);
-        let input = read_all(alloc, &mut source)?;
-        assert_eq!(rt; input.end, ReadEnd::End);
-        assert_eq!(rt; input.bytes.as_slice(), b"group dc1\n".as_slice());
-
-        let mut sink = SureSink::new(alloc);
-        sink.reserve(4)?;
-        assert_eq!(rt; write_all(&mut sink, &input.bytes), Written::All);
-        assert_eq!(rt; write_all(&mut sink, b""), Written::All);
-        assert_eq!(rt; sink.bytes(), b"group dc1\n".as_slice());
-        Ok(())
-    }
-}

@@ -169,6 +169,3 @@ impl LockTable {
         }
     }
 }
-
-#[cfg(test)]
-mod tests;

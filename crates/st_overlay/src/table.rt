@@ -140,6 +140,3 @@ impl Table {
         vals
     }
 }
-
-#[cfg(test)]
-mod tests;

@@ -66,6 +66,3 @@ pub fn plan(
     }
     Ok(unsettled)
 }
-
-#[cfg(test)]
-mod tests;

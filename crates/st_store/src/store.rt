@@ -193,6 +193,3 @@ impl Store {
         self.versions.version()
     }
 }
-
-#[cfg(test)]
-mod tests;

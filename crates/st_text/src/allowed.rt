@@ -18,18 +18,3 @@ pub fn has_allowed_bytes(line: &[u8]) -> bool
 {
     line.iter().all(|byte| is_allowed_byte(*byte))
 }
-
-#[cfg(test)]
-mod tests {
-    use super::*;
-
-    #[test]
-    fn a_line_holds_printable_ascii_and_tab_alone(rt: HostRuntime) {
-        assert!(rt; has_allowed_bytes(b""));
-        assert!(rt; has_allowed_bytes(b" device\ttor1 ~"));
-        assert!(rt; !has_allowed_bytes(b"a\rb"));
-        assert!(rt; !has_allowed_bytes(b"a\x1f"));
-        assert!(rt; !has_allowed_bytes(b"\x7fa"));
-        assert!(rt; !has_allowed_bytes(b"caf\xc3\xa9"));
-    }
-}

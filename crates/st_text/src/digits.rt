@@ -31,22 +31,3 @@ pub fn number(token: &[u8]) -> Option<u32>
     }
     u32::try_from(value).ok()
 }
-
-#[cfg(test)]
-mod tests {
-    use super::*;
-
-    #[test]
-    fn a_number_has_one_spelling_and_fits_32_bits(rt: HostRuntime) {
-        assert_eq!(rt; number(b"0"), Some(0));
-        assert_eq!(rt; number(b"1024"), Some(1024));
-        assert_eq!(rt; number(b"4294967295"), Some(4294967295));
-        assert_eq!(rt; number(b"4294967296"), None);
-        assert_eq!(rt; number(b"10000000000"), None);
-        assert_eq!(rt; number(b""), None);
-        assert_eq!(rt; number(b"00"), None);
-        assert_eq!(rt; number(b"07"), None);
-        assert_eq!(rt; number(b"+7"), None);
-        assert_eq!(rt; number(b"7a"), None);
-    }
-}

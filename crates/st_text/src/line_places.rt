@@ -68,32 +68,3 @@ pub fn lines(alloc: Global, bytes: &[u8]) -> Result<Vec<Line>, AllocError>
     }
     Ok(lines)
 }
-
-#[cfg(test)]
-mod tests {
-    use super::*;
-    use std::test::Fail;
-
-    #[test]
-    fn a_text_is_cut_at_each_lf(rt: HostRuntime) -> Result<(), Fail> {
-        let rows: [(&[u8], &[u8]); 7] = [
-            (b"".as_slice(), b"".as_slice()),
-            (b"\n".as_slice(), b"<>".as_slice()),
-            (b"a\r\n\nb".as_slice(), b"<a><><b>".as_slice()),
-            (b"a\rb\n".as_slice(), b"<a\rb>".as_slice()),
-            (b"a\r\r\n".as_slice(), b"<a\r>".as_slice()),
-            (b"a\nb\r".as_slice(), b"<a><b>".as_slice()),
-            (b"\r".as_slice(), b"<>".as_slice()),
-        ];
-        for (text, want) in rows {
-            let mut shown = Vec::new(rt.alloc());
-            for line in &lines(rt.alloc(), text)? {
-                shown.push(b'<')?;
-                shown.extend_from_slice(text.get(line.start..line.end).ok_or("a place within")?)?;
-                shown.push(b'>')?;
-            }
-            assert_eq!(rt; shown.as_slice(), want);
-        }
-        Ok(())
-    }
-}

@@ -77,25 +77,3 @@ impl Text {
         self.bytes.as_slice()
     }
 }
-
-#[cfg(test)]
-mod tests {
-    use super::*;
-    use std::test::Fail;
-
-    #[test]
-    fn words_and_numbers_stand_in_order(rt: HostRuntime) -> Result<(), Fail> {
-        let mut text = Text::new(rt.alloc());
-        text.word(b"settled")?;
-        text.word(b" ")?;
-        text.num(0)?;
-        text.word(b" ")?;
-        text.num(18446744073709551615)?;
-        text.word(b"\n")?;
-        assert_eq!(rt;
-            text.bytes(),
-            b"settled 0 18446744073709551615\n".as_slice()
-        );
-        Ok(())
-    }
-}

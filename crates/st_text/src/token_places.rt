@@ -45,33 +45,3 @@ pub fn tokens(alloc: Global, line: &[u8]) -> Result<Vec<Token>, AllocError>
     }
     Ok(tokens)
 }
-
-#[cfg(test)]
-mod tests {
-    use super::*;
-    use std::test::Fail;
-
-    #[test]
-    fn a_line_is_cut_at_spaces_and_tabs(rt: HostRuntime) -> Result<(), Fail> {
-        let rows: [(&[u8], &[u8]); 5] = [
-            (b"".as_slice(), b"".as_slice()),
-            (b" \t ".as_slice(), b"".as_slice()),
-            (b"group dc1".as_slice(), b"<group><dc1>".as_slice()),
-            (
-                b"\t link\tl1  a1/b ".as_slice(),
-                b"<link><l1><a1/b>".as_slice(),
-            ),
-            (b"#x y".as_slice(), b"<#x><y>".as_slice()),
-        ];
-        for (line, want) in rows {
-            let mut shown = Vec::new(rt.alloc());
-            for token in &tokens(rt.alloc(), line)? {
-                shown.push(b'<')?;
-                shown.extend_from_slice(line.get(token.start..token.end).ok_or("a place within")?)?;
-                shown.push(b'>')?;
-            }
-            assert_eq!(rt; shown.as_slice(), want);
-        }
-        Ok(())
-    }
-}

@@ -138,33 +138,3 @@ pub fn print_line(head: &[u8], words: &[Word], out: &mut Text) -> Result<(), All
 {
     print_between(head, words, b"\n", out)
 }
-
-#[cfg(test)]
-mod tests {
-    use super::*;
-    use std::test::Fail;
-
-    #[test]
-    fn words_of_each_kind_stand_in_a_line(rt: HostRuntime) -> Result<(), Fail> {
-        let mut text = Text::new(rt.alloc());
-        let (name, var) = (b"a1".as_slice(), b"config".as_slice());
-        let words = [
-            Word::Plain(b"dc1"),
-            Word::Number(18446744073709551615),
-            Word::Variable { name, var },
-            Word::Assignment {
-                name,
-                var,
-                value: 4294967295,
-            },
-            Word::Value { var, value: 0 },
-        ];
-        print_line(b"seen", &words, &mut text)?;
-        begin_line(b"end", &[], &mut text)?;
-        assert_eq!(rt;
-            text.bytes(),
-            b"seen dc1 18446744073709551615 a1.config a1.config=4294967295 config=0\nend".as_slice()
-        );
-        Ok(())
-    }
-}

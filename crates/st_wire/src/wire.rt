@@ -126,6 +126,3 @@ impl Wire {
         message_at(self.reports.as_slice(), n)
     }
 }
-
-#[cfg(test)]
-mod tests;

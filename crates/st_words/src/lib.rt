@@ -9,6 +9,3 @@ mod options;
 
 pub use command_line::read_words;
 pub use job::{FatTree, Form, Job, Pods};
-
-#[cfg(test)]
-mod tests;
