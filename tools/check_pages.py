@@ -1,19 +1,26 @@
 """Compares the pages with the examples: `python3 tools/check_pages.py`.
 
-In README.md and docs/GUIDE.md a block that begins with `$ ./statesman WORDS <examples/NAME` has to go on with what the stored run
-of crates/statesman_examples prints for it, and each fenced block has to be lines of an example or of that stored run, one behind
-the other. Each example has to stand in the stored run and in one of the pages. Prints what differs; the exit status is then 1.
+In README.md and docs/GUIDE.md a block that begins with `$ ./statesman WORDS <examples/NAME`, or without an input, has to go on with
+what the stored run of crates/statesman_examples prints for it, and with `| jq WORDS` behind it with what jq makes of that. Each
+fenced block has to be lines of an example or of that stored run, one behind the other. Each example has to stand in the stored run,
+and in docs/GUIDE.md in a row with its first lines; `--gallery` prints these rows. Prints what differs; the exit status is then 1.
 """
 
+import argparse
 import os
 import re
+import shlex
+import shutil
+import subprocess
 import sys
 
 REPOSITORY = os.path.dirname(os.path.dirname(os.path.abspath(__file__)))
 RUNS = os.path.join(REPOSITORY, "crates", "statesman_examples")
-PAGES = ("README.md", os.path.join("docs", "GUIDE.md"))
-RUN = re.compile(r"\$ ./statesman (\S.*?) ?<examples/(\S+)$")
-FAULT_FILES = "examples/fault_KIND.txt"
+GUIDE = os.path.join("docs", "GUIDE.md")
+PAGES = ("README.md", GUIDE)
+RECIPE = re.compile(r"\$ ./statesman ([^<|]*[^<| ]) <examples/(\S+) \| jq (.*)$")
+RUN = re.compile(r"\$ ./statesman ([^<|]*[^<| ])(?: <examples/(\S+))?$")
+KINDS = "header byte word count name unknown twice number value cross loop pair limit".split()
 
 
 def lines_of(*path):
@@ -55,30 +62,101 @@ def stands_in(block, lines):
     return any(lines[at:at + len(block)] == block for at in range(len(lines)))
 
 
-def differences():
-    outputs = stored_outputs()
-    names = sorted(os.listdir(os.path.join(RUNS, "data")))
+def recipe_fault(words, stored, shown):
+    """What is wrong with a line that hands a stored output to jq, or None: its words, that output's lines, the lines that are shown."""
+    if stored is None:
+        return "no stored run to hand to jq"
+    done = subprocess.run(["jq", *shlex.split(words)], input="\n".join(stored), capture_output=True, text=True)
+    if done.stdout.split("\n")[:-1] != shown:
+        return "jq prints otherwise: %s" % (done.stdout or done.stderr).strip()
+    wanted = 1 if "-e" in shlex.split(words) and shown[-1] in ("false", "null") else 0
+    return None if done.returncode == wanted else "jq ends with status %d" % done.returncode
+
+
+def recipes():
+    """The lines of the pages that hand a run to jq, each with the page, the run as it is typed, jq's words and what is shown of it."""
+    for page in PAGES:
+        for is_fenced, block in blocks_of(page):
+            recipe = RECIPE.match(block[0])
+            if recipe:
+                words, name, jq_words = recipe.groups()
+                yield page, "%s <%s" % (words, name), jq_words, block[1:]
+
+
+def row_of(name):
+    """The row of an example in the gallery: its name, its command and what its first lines say."""
+    said = []
+    for line in lines_of(RUNS, "data", name):
+        run = re.match(r"# \./statesman (\S+)", line)
+        if run or not line.startswith("#"):
+            break
+        said.append(line.removeprefix("#").strip())
+    return "| `%s` | `%s` | %s |" % (name, run.group(1) if run else "?", " ".join(said))
+
+
+def gallery():
+    """The rows of all examples but those of a kind of fault, which have a table of their own."""
+    return [row_of(name) for name in sorted(os.listdir(os.path.join(RUNS, "data"))) if not is_of_a_kind(name)]
+
+
+def is_of_a_kind(name):
+    return re.fullmatch(r"fault_(%s)\.txt" % "|".join(KINDS), name) is not None
+
+
+def has_jq():
+    return shutil.which("jq") is not None
+
+
+def differing_blocks(outputs, names):
     texts = [lines_of(RUNS, "data", name) for name in names] + [lines_of(RUNS, "stdout")]
     for page in PAGES:
         for is_fenced, block in blocks_of(page):
             run = RUN.match(block[0])
             if run and len(block) > 1:
-                if outputs.get(" <".join(run.groups())) != block[1:]:
+                if outputs.get(" <".join(filter(None, run.groups()))) != block[1:]:
                     yield "%s: not what is printed: %s" % (page, block[0])
             elif is_fenced and not any(stands_in(block, lines) for lines in texts):
                 yield "%s: lines of no example: %s .." % (page, block[0])
-    words = "\n".join("\n".join(lines_of(REPOSITORY, page)) for page in PAGES)
+
+
+def failing_recipes(outputs):
+    for page, typed, words, shown in recipes():
+        fault = recipe_fault(words, outputs.get(typed), shown)
+        if fault:
+            yield "%s: jq %s: %s" % (page, words, fault)
+
+
+def missing_examples(outputs, names):
+    lines = lines_of(REPOSITORY, GUIDE)
+    rows = {line for line in lines if re.match(r"\| `\w+\.txt` \|", line)}
+    for row in sorted(rows.symmetric_difference(gallery())):
+        yield "%s: %s: %s" % (GUIDE, "no first lines of an example" if row in rows else "lacks this row", row)
     for name in names:
         if not any(typed.endswith("<" + name) for typed in outputs):
             yield "%s is run by no stored run" % name
-        if "examples/" + name not in words and not (name.startswith("fault_") and FAULT_FILES in words):
-            yield "%s stands in no page" % name
+        if is_of_a_kind(name) and not any(line.startswith("| `%s` |" % name[len("fault_"):-len(".txt")]) for line in lines):
+            yield "%s: lacks the kind of %s" % (GUIDE, name)
+
+
+def differences():
+    outputs, names = stored_outputs(), sorted(os.listdir(os.path.join(RUNS, "data")))
+    yield from differing_blocks(outputs, names)
+    if has_jq():
+        yield from failing_recipes(outputs)
+    yield from missing_examples(outputs, names)
 
 
 def main():
+    parser = argparse.ArgumentParser(description="Compares README.md and docs/ with the examples.")
+    parser.add_argument("--gallery", action="store_true", help="print the rows of the table of examples, and compare nothing")
+    if parser.parse_args().gallery:
+        print("\n".join(gallery()))
+        return 0
     found = list(differences())
     for line in found:
         print(line)
+    if not has_jq():
+        print("jq is not there (Debian: apt-get install jq), so %d lines for it are not tried" % len(list(recipes())))
     print("%d differ" % len(found))
     return 1 if found else 0
 
