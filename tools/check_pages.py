@@ -2,8 +2,10 @@
 
 In README.md and docs/GUIDE.md a block that begins with `$ ./statesman WORDS <examples/NAME`, or without an input, has to go on with
 what the stored run of crates/statesman_examples prints for it, and with `| jq WORDS` behind it with what jq makes of that. Each
-fenced block has to be lines of an example or of that stored run, one behind the other. Each example has to stand in the stored run,
-and in docs/GUIDE.md in a row with its first lines; `--gallery` prints these rows. Prints what differs; the exit status is then 1.
+fenced block has to be lines of an example, of that stored run or of crates/st_event/DESIGN.md, which has the rules, one behind the
+other. Each example has to stand in the stored run, and in docs/GUIDE.md in a row with its first lines; `--gallery` prints these
+rows. The files that docs/CLAIMS.md lists as what to read have to have the lines that it says, and import none but those above them.
+Prints what differs; the exit status is then 1.
 """
 
 import argparse
@@ -18,8 +20,11 @@ REPOSITORY = os.path.dirname(os.path.dirname(os.path.abspath(__file__)))
 RUNS = os.path.join(REPOSITORY, "crates", "statesman_examples")
 GUIDE = os.path.join("docs", "GUIDE.md")
 PAGES = ("README.md", GUIDE)
+RULES = os.path.join("crates", "st_event", "DESIGN.md")
+CLAIMS = os.path.join("docs", "CLAIMS.md")
 RECIPE = re.compile(r"\$ ./statesman ([^<|]*[^<| ]) <examples/(\S+) \| jq (.*)$")
 RUN = re.compile(r"\$ ./statesman ([^<|]*[^<| ])(?: <examples/(\S+))?$")
+IMPORT = re.compile(r"use Rattle\.(st_\w+\.specs\.(?!declared)\w+)")
 KINDS = "header byte word count name unknown twice number value cross loop pair limit".split()
 
 
@@ -107,8 +112,39 @@ def has_jq():
     return shutil.which("jq") is not None
 
 
+def readings():
+    """The steps of what docs/CLAIMS.md asks to read: each its files, and how many lines it says that these have."""
+    for line in lines_of(REPOSITORY, CLAIMS):
+        cells = [cell.strip() for cell in line.split("|")]
+        if len(cells) == 6 and cells[1].isdigit():
+            files, crate = [], None
+            for name in re.findall(r"`(\w+)`", cells[3]):
+                if name.startswith("st_"):
+                    crate = name
+                else:
+                    files.append("%s.specs.%s" % (crate, name))
+            yield files, int(cells[4])
+
+
+def misread():
+    """Of what docs/CLAIMS.md asks to read, the counts that are wrong and the files that lack one which they import."""
+    above = set()
+    for files, count in readings():
+        found = 0
+        for file in files:
+            lines = lines_of(REPOSITORY, "crates", file.replace(".", os.sep) + ".antt")[:-1]
+            found += len(lines)
+            for line in lines:
+                used = IMPORT.match(line)
+                if used and used.group(1) not in above:
+                    yield "%s: %s imports %s, which does not stand above it" % (CLAIMS, file, used.group(1))
+            above.add(file)
+        if found != count:
+            yield "%s: %d lines, not %d, of %s .." % (CLAIMS, found, count, files[0])
+
+
 def differing_blocks(outputs, names):
-    texts = [lines_of(RUNS, "data", name) for name in names] + [lines_of(RUNS, "stdout")]
+    texts = [lines_of(RUNS, "data", name) for name in names] + [lines_of(RUNS, "stdout"), lines_of(REPOSITORY, RULES)]
     for page in PAGES:
         for is_fenced, block in blocks_of(page):
             run = RUN.match(block[0])
@@ -144,6 +180,7 @@ def differences():
     if has_jq():
         yield from failing_recipes(outputs)
     yield from missing_examples(outputs, names)
+    yield from misread()
 
 
 def main():
