@@ -14,12 +14,12 @@ say() { printf '%s: %s\n' "$label" "$*" >&2; }
 # Ends the script where what builds is not there. Leaves the folder of the toolchain in kit.
 need_toolchain() {
     local page
-    command -v rt >/dev/null || { say "there is no command rt here: README.md, \"Trusted\", names the toolchain that has it"; exit 1; }
+    command -v rt >/dev/null || { say "there is no command rt here: README.md, \"Try it\", names the toolchain that has it"; exit 1; }
     command -v python3 >/dev/null || { say "there is no command python3 here, which the toolchain and tools/ need"; exit 1; }
     page=$(rt doc) || true
     # shellcheck disable=SC2034
     kit=${page%/*}
-    [ -x "$kit/bin/rattle" ] || { say "rt doc names no page of a toolchain: README.md, \"Trusted\", names the toolchain that these scripts know"; exit 1; }
+    [ -x "$kit/bin/rattle" ] || { say "rt doc names no page of a toolchain: README.md, \"Try it\", names the toolchain that these scripts know"; exit 1; }
 }
 
 # The lines of crates.txt for a program and all that it stands on, lowest first.
