@@ -11,15 +11,15 @@ programs=$kept/programs
 # shellcheck disable=SC2154
 say() { printf '%s: %s\n' "$label" "$*" >&2; }
 
-# Ends the script where what builds is not there. Leaves the folder of the toolchain in kit.
+# Says where what builds is not there, and fails then. Leaves the folder of the toolchain in kit.
 need_toolchain() {
     local page
-    command -v rt >/dev/null || { say "there is no command rt here: README.md, \"Try it\", names the toolchain that has it"; exit 1; }
-    command -v python3 >/dev/null || { say "there is no command python3 here, which the toolchain and tools/ need"; exit 1; }
+    command -v rt >/dev/null || { say "there is no command rt here: README.md, \"Try it\", names the toolchain that has it" && return 1; }
+    command -v python3 >/dev/null || { say "there is no command python3 here, which the toolchain and tools/ need" && return 1; }
     page=$(rt doc) || true
     # shellcheck disable=SC2034
     kit=${page%/*}
-    [ -x "$kit/bin/rattle" ] || { say "rt doc names no page of a toolchain: README.md, \"Try it\", names the toolchain that these scripts know"; exit 1; }
+    [ -x "$kit/bin/rattle" ] || { say "rt doc names no page of a toolchain: README.md, \"Try it\", names the toolchain that these scripts know" && return 1; }
 }
 
 # The lines of crates.txt for a program and all that it stands on, lowest first.
@@ -68,7 +68,7 @@ find_program() {
 program_of() {
     local begin=$SECONDS
     ! find_program "$1" || return 0
-    need_toolchain
+    need_toolchain || exit 1
     keep_others_out "$1"
     if [ ! -x "$program" ]; then
         say "the first run builds the program without its proofs, in two to three minutes"
