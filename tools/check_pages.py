@@ -5,7 +5,8 @@ what the stored run of crates/statesman_examples prints for it, and with `| jq W
 fenced block has to be lines of an example, of that stored run or of crates/st_event/DESIGN.md, which has the rules, one behind the
 other. Each example has to stand in the stored run, and in docs/GUIDE.md in a row with its first lines; `--gallery` prints these
 rows. The files that docs/CLAIMS.md lists as what to read have to have the lines that it says, and import none but those above them.
-Prints what differs; the exit status is then 1.
+The definitions and functions that docs/DEFINITIONS.md names have to stand in their files. Prints what differs; the exit status is
+then 1.
 """
 
 import argparse
@@ -21,6 +22,7 @@ RUNS = os.path.join(REPOSITORY, "crates", "statesman_examples")
 GUIDE = os.path.join("docs", "GUIDE.md")
 PAGES = ("README.md", GUIDE)
 RULES = os.path.join("crates", "st_event", "DESIGN.md")
+DEFINITIONS = os.path.join("docs", "DEFINITIONS.md")
 CLAIMS = os.path.join("docs", "CLAIMS.md")
 RECIPE = re.compile(r"\$ ./statesman ([^<|]*[^<| ]) <examples/(\S+) \| jq (.*)$")
 RUN = re.compile(r"\$ ./statesman ([^<|]*[^<| ])(?: <examples/(\S+))?$")
@@ -143,6 +145,47 @@ def misread():
             yield "%s: %d lines, not %d, of %s .." % (CLAIMS, found, count, files[0])
 
 
+def words_of_entry(entry, label):
+    """The words in backticks behind a label of an entry, up to the next label."""
+    found = re.search(r"\*%s:\*(.*?)(?=\*\w+:\*|\n\n|\Z)" % label, entry, re.S)
+    return re.findall(r"`([^`]+)`", found.group(1)) if found else []
+
+
+def sources_of(crates, part, file):
+    """The text of a file in a part of these crates, as far as they have it."""
+    paths = [os.path.join(REPOSITORY, "crates", crate, part, file) for crate in crates]
+    return "\n".join("\n".join(lines_of(path)) for path in paths if os.path.isfile(path))
+
+
+def unknown_words(name, entry, crates):
+    """Of an entry of docs/DEFINITIONS.md, the definitions and the functions that do not stand where it says."""
+    here = crates
+    for word in words_of_entry(entry, "Spec"):
+        here = [word] if word.startswith("st_") else here
+        if re.fullmatch(r"[A-Z]\w+\.\w+(\.\w+)?", word):
+            module, definition = word.split(".")[:2]
+            if not re.search(r"\b%s\b" % definition, sources_of(here, "specs", module + ".antt")):
+                yield "%s: %s: no definition %s" % (DEFINITIONS, name, word)
+    here, text = crates, ""
+    for word in words_of_entry(entry, "Code"):
+        here = [word] if word.startswith("st_") else here
+        if word.endswith(".rt"):
+            text = sources_of(here, "src", word)
+        elif not word.startswith("st_") and not all(re.search(r"\b%s\b" % part, text) for part in word.split("::")):
+            yield "%s: %s: no %s in that file" % (DEFINITIONS, name, word)
+
+
+def undefined():
+    """What docs/DEFINITIONS.md cites and is not there, and the entries that cite no code."""
+    for section in "\n".join(lines_of(REPOSITORY, DEFINITIONS)).split("\n## ")[1:]:
+        crates = re.findall(r"`(st_\w+)`", section.split("\n")[0])
+        for entry in section.split("\n### ")[1:]:
+            name = entry.split("\n")[0]
+            yield from unknown_words(name, entry, crates)
+            if "*Spec:*" in entry and "*Code:*" not in entry:
+                yield "%s: %s: no code is named" % (DEFINITIONS, name)
+
+
 def differing_blocks(outputs, names):
     texts = [lines_of(RUNS, "data", name) for name in names] + [lines_of(RUNS, "stdout"), lines_of(REPOSITORY, RULES)]
     for page in PAGES:
@@ -181,6 +224,7 @@ def differences():
         yield from failing_recipes(outputs)
     yield from missing_examples(outputs, names)
     yield from misread()
+    yield from undefined()
 
 
 def main():
