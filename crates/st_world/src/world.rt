@@ -222,9 +222,17 @@ impl World {
         ensures group { result.group ≡ group }
         ensures entries { reverse result.entries ≡ self.history.past }
     {
+        let World {
+            alloc: _,
+            machine,
+            losses,
+            journal,
+        } = self;
+        drop(machine);
+        drop(losses);
         Journal {
             group,
-            entries: Items::new(self.journal),
+            entries: Items::new(journal),
         }
     }
 
