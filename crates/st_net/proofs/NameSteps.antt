@@ -115,7 +115,7 @@ module _ (parts : Parts) (ds : List DevicePart) (x : Indexed) (names : List (Lis
   pub twice_link : (place : ℕ) → y ≡ Twice place → fault_of parts ≡ Some (TwiceName place)
   twice_link place twice = twice_among_links parts names named_devices.1 place named_devices.0 (rw (← same_links) (index_twice names (length names) (link_names ls) y place is_more twice))
 
-  named_links : (more : List (List ℕ)) → y ≡ Names more → (first_twice names (length names) (link_names parts.links) ≡ None) × (more ≡ link_names parts.links) × (are_names (link_names parts.links) ≡ true)
+  pub named_links : (more : List (List ℕ)) → y ≡ Names more → (first_twice names (length names) (link_names parts.links) ≡ None) × (more ≡ link_names parts.links) × (are_names (link_names parts.links) ≡ true)
   named_links more all = rw (← same_links) (index_named names (length names) (link_names ls) y more is_more all)
 
   -- names of which none stands twice are names, and the fault is a later one

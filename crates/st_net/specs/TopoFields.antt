@@ -1,13 +1,15 @@
 -- A topology as contracts see it, by its fields.
-use Rattle.st_net.specs.declared.topo.Fields.{Fields}
+use Rattle.std.specs.Prelude.{ℕ, List}
+use Rattle.st_net.specs.declared.topo.Openings.{Openings}
 use Rattle.st_net.specs.Groups.{Group}
 
-abbrev pub group_in : Fields → Group
-group_in fields = record {
-  name = fields.name;
-  device_names = fields.device_names;
-  link_names = fields.link_names;
-  devices = fields.devices.items;
-  links = fields.links.items;
-  promises = fields.promises.items;
+-- the group of the names of its devices and of its links, and of what stands beside them
+abbrev pub group_in : List (List ℕ) → List (List ℕ) → Openings → Group
+group_in device_names link_names openings = record {
+  name = openings.name;
+  device_names = device_names;
+  link_names = link_names;
+  devices = openings.devices.items;
+  links = openings.links.items;
+  promises = openings.promises.items;
 }

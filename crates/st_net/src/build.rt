@@ -4,14 +4,14 @@ ghost use Rattle.std.specs.Prelude.{◌≡◌, ◌+◌, ◌-◌, ◌^◌, ◌<�
 ghost use Rattle.st_net.specs.Names.{is_among};
 ghost use Rattle.st_net.specs.Groups.{are_names};
 ghost use Rattle.st_net.specs.Faults.{IsBuiltOf, device_names as device_names_lem, link_names as link_names_lem, device_opening as device_opening_lem, link_opening as link_opening_lem, promise_opening as promise_opening_lem, number_of as number_of_lem, fault_of, group_of};
-ghost use Rattle.st_net.specs.Building.{IsIndexOf};
+ghost use Rattle.st_net.specs.Building.{IsIndexOf, HasLinksOf};
 
 use crate::fault::later_fault;
 use crate::name::Name;
 use crate::names::Names;
 use crate::parts::{Built, DevicePart, LinkPart, Parts, PromisePart, TopoFault};
 use crate::promise::Promise;
-use crate::topo::{DeviceOpening, Fields, GroupTopo, LinkOpening};
+use crate::topo::{DeviceOpening, GroupTopo, LinkOpening, Openings};
 use std::alloc::{AllocError, Global};
 
 /// Names with their index, or the place of the first that stands twice.
@@ -124,6 +124,41 @@ fn promises(alloc: Global, names: &Names, parts: &[PromisePart]) -> Result<Vec<P
     Ok(promises)
 }
 
+/// The links' names, behind the devices' names, none of which stands twice; or what is wrong with the parts.
+fn links_or_fault(
+    alloc: Global,
+    parts: &Parts,
+    devices: &Names,
+) -> Result<Result<Names, TopoFault>, AllocError>
+    requires names { IsIndexOf [] 0 (device_names_lem parts.now.devices) (Indexed.Names devices.now) }
+    requires few { length parts.now.devices + length parts.now.links + length parts.now.promises < 2 ^ 32 - 1 }
+    ensures { IfOk result (HasLinksOf parts.now devices.now) }
+{
+    match link_names(alloc, devices, parts.links.as_slice())? {
+        Indexed::Names(links) => match later_fault(alloc, parts, devices)? {
+            Some(fault) => Ok(Err(fault)),
+            None => Ok(Ok(links)),
+        },
+        Indexed::Twice(place) => Ok(Err(TopoFault::TwiceName { place })),
+    }
+}
+
+/// What the topology of parts has beside its names. It can fail, and owns no names.
+fn openings(alloc: Global, parts: &Parts, device_names: &Names) -> Result<Openings, AllocError>
+    requires { length device_names.now < 2 ^ 32 }
+    ensures name { IfOk result (λ openings. openings.name ≡ parts.now.name) }
+    ensures devices { IfOk result (λ openings. openings.devices.items ≡ map device_opening_lem parts.now.devices) }
+    ensures links { IfOk result (λ openings. openings.links.items ≡ map (link_opening_lem device_names.now) parts.now.links) }
+    ensures promises { IfOk result (λ openings. openings.promises.items ≡ map (promise_opening_lem device_names.now) parts.now.promises) }
+{
+    Ok(Openings {
+        devices: device_openings(alloc, parts.devices.as_slice())?,
+        links: link_openings(alloc, device_names, parts.links.as_slice())?,
+        promises: promises(alloc, device_names, parts.promises.as_slice())?,
+        name: parts.name.copy(alloc)?,
+    })
+}
+
 /// The topology of parts without a fault.
 fn topo_of(
     alloc: Global,
@@ -140,18 +175,8 @@ fn topo_of(
 {
     // Only read: so the proof has that the name is spelled as one.
     let _spelling = parts.name.bytes();
-    let name = parts.name.copy(alloc)?;
-    let devices = device_openings(alloc, parts.devices.as_slice())?;
-    let links = link_openings(alloc, &device_names, parts.links.as_slice())?;
-    let promises = promises(alloc, &device_names, parts.promises.as_slice())?;
-    Ok(GroupTopo::from_fields(Fields {
-        name,
-        device_names,
-        link_names,
-        devices,
-        links,
-        promises,
-    }))
+    let openings = openings(alloc, parts, &device_names)?;
+    Ok(GroupTopo::from_names(device_names, link_names, openings))
 }
 
 impl GroupTopo {
@@ -165,13 +190,9 @@ impl GroupTopo {
             Indexed::Names(names) => names,
             Indexed::Twice(place) => return Ok(Built::Fault(TopoFault::TwiceName { place })),
         };
-        let links = match link_names(alloc, &devices, parts.links.as_slice())? {
-            Indexed::Names(names) => names,
-            Indexed::Twice(place) => return Ok(Built::Fault(TopoFault::TwiceName { place })),
-        };
-        match later_fault(alloc, parts, &devices)? {
-            Some(fault) => Ok(Built::Fault(fault)),
-            None => Ok(Built::Topo(topo_of(alloc, parts, devices, links)?)),
+        match links_or_fault(alloc, parts, &devices)? {
+            Ok(links) => Ok(Built::Topo(topo_of(alloc, parts, devices, links)?)),
+            Err(fault) => Ok(Built::Fault(fault)),
         }
     }
 }

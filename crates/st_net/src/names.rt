@@ -41,6 +41,17 @@ fn are_same(a: &[Name], b: &[Name]) -> bool
     true
 }
 
+/// Equal names, in order.
+fn copies(alloc: Global, names: &[Name]) -> Result<Vec<Name>, AllocError>
+    ensures { IfOk result (λ copies. copies.items ≡ names.now) }
+{
+    let mut copies = Vec::new(alloc);
+    for name in names {
+        copies.push(name.copy(alloc)?)?;
+    }
+    Ok(copies)
+}
+
 impl Names {
     /// No names.
     pub fn new(alloc: Global) -> Names
@@ -102,10 +113,7 @@ impl Names {
         ensures { IfOk result (λ copy. copy ≡ self.now) }
     {
         let index = self.index.copy(alloc)?;
-        let mut names = Vec::new(alloc);
-        for name in &self.names {
-            names.push(name.copy(alloc)?)?;
-        }
+        let names = copies(alloc, self.names.as_slice())?;
         Ok(Names {
             alloc,
             index,

@@ -65,12 +65,11 @@ pub struct LinkOpening {
     pub health: u32,
 }
 
-/// What a topology has: its name, the names of its devices and of its links, and these with its promises, each in order.
+/// What a topology has beside the names of its devices and of its links: its own name, and its devices, links and promises,
+/// each in order.
 #[derive(Drop)]
-pub(crate) struct Fields {
+pub(crate) struct Openings {
     pub(crate) name: Name,
-    pub(crate) device_names: Names,
-    pub(crate) link_names: Names,
     pub(crate) devices: Vec<DeviceOpening>,
     pub(crate) links: Vec<LinkOpening>,
     pub(crate) promises: Vec<Promise>,
@@ -79,7 +78,9 @@ pub(crate) struct Fields {
 /// The topology of one group, which is sound: names differ, ends and pairs are of the group, and every limit is kept.
 #[derive(Drop)]
 pub struct GroupTopo {
-    fields: Fields,
+    device_names: Names,
+    link_names: Names,
+    openings: Openings,
 }
 
 impl Model for GroupTopo {
@@ -88,46 +89,54 @@ impl Model for GroupTopo {
 
     ghost Value = { Group };
 
-    ghost view = { λ t. group_in t.fields };
+    ghost view = { λ t. group_in t.device_names t.link_names t.openings };
 
-    ghost invariant = { λ t. IsSound (group_in t.fields) };
+    ghost invariant = { λ t. IsSound (group_in t.device_names t.link_names t.openings) };
 }
 
 impl GroupTopo {
-    /// A group of these parts, which are sound together.
-    pub(crate) fn from_fields(fields: Fields) -> GroupTopo
-        requires { IsSound (group_in fields) }
-        ensures { result ≡ group_in fields }
+    /// The topology of these names and openings, which are sound together.
+    pub(crate) fn from_names(
+        device_names: Names,
+        link_names: Names,
+        openings: Openings,
+    ) -> GroupTopo
+        requires { IsSound (group_in device_names link_names openings) }
+        ensures { result ≡ group_in device_names link_names openings }
     {
-        GroupTopo { fields }
+        GroupTopo {
+            device_names,
+            link_names,
+            openings,
+        }
     }
 
     /// The group's name.
     pub fn name(&self) -> &Name
         ensures { result.now ≡ self.now.name }
     {
-        &self.fields.name
+        &self.openings.name
     }
 
     /// How many devices there are, at most 512.
     pub fn device_count(&self) -> u32
         ensures { result ≡ length self.now.devices }
     {
-        self.fields.devices.len() as u32
+        self.openings.devices.len() as u32
     }
 
     /// How many links there are, at most 4,096.
     pub fn link_count(&self) -> u32
         ensures { result ≡ length self.now.links }
     {
-        self.fields.links.len() as u32
+        self.openings.links.len() as u32
     }
 
     /// How many promises there are, at most 2,016.
     pub fn promise_count(&self) -> u32
         ensures { result ≡ length self.now.promises }
     {
-        self.fields.promises.len() as u32
+        self.openings.promises.len() as u32
     }
 
     /// The two devices that a link joins, as it was declared.
@@ -136,7 +145,7 @@ impl GroupTopo {
         ensures a { result.0 ≡ (slice_index_or self.now.links link no_link).a }
         ensures b { result.1 ≡ (slice_index_or self.now.links link no_link).b }
     {
-        let link = &self.fields.links[link as usize];
+        let link = &self.openings.links[link as usize];
         (link.a, link.b)
     }
 
@@ -145,7 +154,7 @@ impl GroupTopo {
         requires { link < length self.now.links }
         ensures { result ≡ (slice_index_or self.now.links link no_link).capacity }
     {
-        self.fields.links[link as usize].capacity
+        self.openings.links[link as usize].capacity
     }
 
     /// Whether a device is a ToR.
@@ -153,7 +162,7 @@ impl GroupTopo {
         requires { device < length self.now.devices }
         ensures { result ≡ (slice_index_or self.now.devices device no_device).tor }
     {
-        self.fields.devices[device as usize].tor
+        self.openings.devices[device as usize].tor
     }
 
     /// Promise number `i`, from 0 in the order of declaration.
@@ -161,7 +170,7 @@ impl GroupTopo {
         requires { i < length self.now.promises }
         ensures { result ≡ slice_index_or self.now.promises i no_promise }
     {
-        self.fields.promises[i as usize]
+        self.openings.promises[i as usize]
     }
 
     /// The values that an entity opens with.
@@ -170,8 +179,8 @@ impl GroupTopo {
         ensures { result ≡ opening_of self.now e }
     {
         match e {
-            Entity::Device(i) => self.fields.devices[i as usize].vals,
-            Entity::Link(i) => self.fields.links[i as usize].vals,
+            Entity::Device(i) => self.openings.devices[i as usize].vals,
+            Entity::Link(i) => self.openings.links[i as usize].vals,
         }
     }
 
@@ -181,8 +190,8 @@ impl GroupTopo {
         ensures { result ≡ health_of self.now e }
     {
         match e {
-            Entity::Device(i) => self.fields.devices[i as usize].health,
-            Entity::Link(i) => self.fields.links[i as usize].health,
+            Entity::Device(i) => self.openings.devices[i as usize].health,
+            Entity::Link(i) => self.openings.links[i as usize].health,
         }
     }
 
@@ -193,7 +202,7 @@ impl GroupTopo {
         ensures place { result ≡ place_in self.now e }
         ensures within { result < entity_count self.now }
     {
-        e.place_behind(self.fields.devices.len())
+        e.place_behind(self.openings.devices.len())
     }
 
     /// How many entities there are: devices and links.
@@ -218,9 +227,9 @@ impl GroupTopo {
         ensures found { result ≡ find_in self.now name.now }
         ensures within { IfSome result (IsEntityOf self.now) }
     {
-        match self.fields.device_names.find(name.bytes()) {
+        match self.device_names.find(name.bytes()) {
             Some(place) => Some(Entity::Device(place as u32)),
-            None => match self.fields.link_names.find(name.bytes()) {
+            None => match self.link_names.find(name.bytes()) {
                 Some(place) => Some(Entity::Link(place as u32)),
                 None => None,
             },
@@ -233,8 +242,8 @@ impl GroupTopo {
         ensures { result.now ≡ name_of_lem self.now e }
     {
         match e {
-            Entity::Device(i) => self.fields.device_names.get(i as usize),
-            Entity::Link(i) => self.fields.link_names.get(i as usize),
+            Entity::Device(i) => self.device_names.get(i as usize),
+            Entity::Link(i) => self.link_names.get(i as usize),
         }
     }
 
@@ -243,6 +252,6 @@ impl GroupTopo {
         ensures { IsSound self.now }
     {
         // Only read: so the proof has what every topology keeps.
-        let _devices = &self.fields.devices;
+        let _devices = &self.openings.devices;
     }
 }
