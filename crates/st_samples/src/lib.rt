@@ -1,4 +1,4 @@
-//! Groups and worlds that are read from texts, for the tests of the crates below.
+//! Groups and worlds that are read from texts, and worlds of groups, for the tests of the crates below.
 #![tactic(auto)]
 
 ghost use Rattle.std.specs.Prelude.{◌≡◌, [], ◌∷◌, false, IfOk, IfSome, Ok, Some};
@@ -11,8 +11,9 @@ use st_doc::read_doc;
 use st_grammar::{Doc, DocRead};
 use st_net::GroupTopo;
 use st_serial::{open_worlds, topos_of};
+use st_wire::LossPlan;
 use st_world::World;
-use std::alloc::Global;
+use std::alloc::{AllocError, Global};
 use std::test::Fail;
 
 /// Two ToRs, t1 and t2, joined by way of two switches, a1 and a2, with a promise of half the capacity between them.
@@ -75,4 +76,12 @@ pub fn world(alloc: Global, text: &str) -> Result<World, Fail>
     let doc = document(alloc, text)?;
     let worlds = open_worlds(alloc, doc.groups.as_slice(), doc.wires.as_slice())?;
     Ok(only(worlds).ok_or("not one group")?)
+}
+
+/// The world of this group before the first event, in which no message is lost. `Err` is for want of memory alone.
+pub fn open_world(alloc: Global, topo: GroupTopo) -> Result<World, AllocError>
+    ensures history { IfOk result (λ world. world.history ≡ record { group = topo; past = [] }) }
+    ensures lines { IfOk result (λ world. world.lines ≡ []) }
+{
+    World::start(alloc, topo, LossPlan::none(alloc))
 }

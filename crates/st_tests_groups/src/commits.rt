@@ -1,11 +1,10 @@
 //! In a fat tree of ten pods an upgrade is judged away from its world, and its commit runs no flow again.
 
-use super::benches::proposed;
 use super::promises::fat_tree;
-use st_bench_groups::open_world;
-use st_control::Judged;
-use st_event::Verdict;
-use st_net::{Entity, GroupTopo, Name};
+use st_control::{Begin, Judged, judge_basis};
+use st_event::{Event, Rows, Verdict};
+use st_net::{AppId, Entity, GroupTopo, Name, Row, Var};
+use st_samples::open_world;
 use st_world::{Committed, World};
 use std::alloc::Global;
 use std::test::Fail;
@@ -13,6 +12,13 @@ use std::thread::Threads;
 
 /// The first of the upper switches of the last pod.
 const SWITCH: u32 = 95;
+
+/// Another firmware of that switch.
+const UPGRADE: Row = Row {
+    entity: Entity::Device(SWITCH),
+    var: Var::Firmware,
+    value: 2,
+};
 
 /// The entity of a name.
 fn found(alloc: Global, topo: &GroupTopo, name: &[u8]) -> Result<Option<Entity>, Fail> {
@@ -65,8 +71,29 @@ fn version_made_once(world: &mut World, judged: Judged) -> Result<Option<u32>, F
     version
 }
 
+/// Proposes the upgrade.
+fn propose(alloc: Global, world: &mut World) -> Result<(), Fail> {
+    let rows = Rows::from_slice(alloc, [UPGRADE].as_slice())?;
+    let app = AppId(0);
+    let event = Event::Submit { app, rows };
+    if !world.fits(&event) {
+        return Err(Fail::new("the proposal does not fit"));
+    }
+    world.step(event)?;
+    Ok(())
+}
+
+/// What is judged of the oldest proposal, away from its world.
+fn judged(rt: &(impl Threads + Sync), alloc: Global, world: &World) -> Result<Judged, Fail> {
+    match world.begin_check()? {
+        Begin::Basis(basis) => Ok(judge_basis(rt, alloc, basis)?),
+        Begin::Idle => Err(Fail::new("nothing waits")),
+    }
+}
+
 fn upgraded(rt: &(impl Threads + Sync), alloc: Global, world: &mut World) -> Result<Decided, Fail> {
-    let judged = proposed(rt, alloc, world, SWITCH)?;
+    propose(alloc, world)?;
+    let judged = judged(rt, alloc, world)?;
     let before = world.control().flows_run();
     let version = version_made_once(world, judged)?;
     Ok(Decided {

@@ -1,8 +1,6 @@
-//! Tests of what is said of a group: its names and places, flows, promises, and the groups that benches time.
+//! Tests of what is said of a group: its names and places, flows and promises.
 #![tactic(auto)]
 
-#[cfg(test)]
-mod benches;
 #[cfg(test)]
 mod commits;
 #[cfg(test)]

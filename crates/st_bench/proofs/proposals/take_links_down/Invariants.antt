@@ -1,5 +1,0 @@
-use Rattle.st_net.specs.Sets.{MarksOf}
-use Rattle.st_bench.proofs.proposals.take_links_down.Given as goal
-
-abbrev pub invariant-loop-link : goal.invariant-loop-link
-invariant-loop-link l = MarksOf l.topo l.up

@@ -1,4 +1,0 @@
-pub mod OutcomeLemmas
-pub mod SwitchLemmas
-pub mod MeasuredLemmas
-pub mod PercentLemmas
