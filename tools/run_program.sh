@@ -2,7 +2,7 @@
 # How ./statesman and ./player run their programs: the proved one where these sources were proved here (./prove), and else one that was built of
 # the same code without its proofs, which the first run does; a line on standard error says so at each run.
 # Standard output and the exit status are the program's, and all that is said here goes to standard error.
-# These scripts set top, label and crate, and have two functions:
+# These scripts set top, label, crate and proof, the command that proves the program, and have two functions:
 # - read_words WORDS.. leaves in why which word is not taken, in a sentence, and nothing where the words are a command; and in
 #   reads_input whether this command reads standard input. The program decides; this saves a build where the words are none, and tells why.
 # - usage prints which words there are.
@@ -49,7 +49,7 @@ run_program() {
         status=2
     else
         program_of "$crate"
-        [ -n "$is_proved" ] || say "this program's proofs were not checked on this machine: ./prove does that"
+        [ -n "$is_proved" ] || say "this program's proofs were not checked on this machine: $proof does that"
         [ -z "$reads_input" ] || [ ! -t 0 ] || say "reads standard input, which is the terminal here: <FILE reads a file, and Ctrl-D ends what is typed"
         "$program" "$@" || status=$?
     fi

@@ -72,7 +72,7 @@ program_of() {
     keep_others_out "$1"
     if [ ! -x "$program" ]; then
         say "the first run builds the program without its proofs, in two to three minutes"
-        python3 "$top/tools/unproved_program.py" --crate "$1" "$program" </dev/null >&2 || { say "the program could not be built"; exit 1; }
+        python3 "$top/tools/unproved_program.py" --crate "$1" "$program" </dev/null >&2 || { say "the program could not be built so; ./prove proves and builds it, by other commands of the toolchain"; exit 1; }
         say "built in $((SECONDS - begin)) seconds"
     fi
     exec 9>&-
