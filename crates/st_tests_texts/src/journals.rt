@@ -4,7 +4,7 @@ ghost use Rattle.std.specs.Prelude.{◌≡◌, ◌↔◌, All, IfOk, IsTrue};
 ghost use Rattle.st_journal.specs.Replaying.{EventFits};
 
 mod faults;
-mod groups;
+pub mod groups;
 mod texts;
 
 use faults::{ENTRIES, LINES};

@@ -74,11 +74,15 @@ journal\tdc1
 /// Lines in place of its own, each with a reply that is not the one that is called for.
 pub const ALTERED: &str = "\
 1 submit up a1.firmware=2 : queued 2
+1 submit up a1.firmware=2 : full 64
+2 submit up a2.firmware=2 : queued 1
 2 submit up a2.firmware=2 : full 64
 3 check : idle
 3 check : receipt 2 accepted 1
 3 check : receipt 1 accepted 2
 3 check : receipt 1 refused broken t1 t2 cutoff need 10 has 0 side t1
+3 check : receipt 1 refused locked a1 up low
+3 check : receipt 1 refused off a1.firmware=2
 4 check : receipt 2 accepted 2
 4 check : receipt 2 refused broken t1 t2 short need 10 has 0 side t1
 4 check : receipt 2 refused broken t1 t2 cutoff need 11 has 0 side t1

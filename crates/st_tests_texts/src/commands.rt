@@ -1,0 +1,160 @@
+//! The words after the program's name: the job that they ask for, or that they ask for none.
+
+use st_words::{FatTree, Form, Job, Pods, read_words};
+use std::alloc::{AllocError, Global};
+use std::test::Fail;
+
+/// What these words ask for.
+fn asked(alloc: Global, words: &[&str]) -> Result<Option<Job>, AllocError> {
+    let mut list = Vec::new(alloc);
+    for word in words {
+        list.push(String::from_str(alloc, *word)?)?;
+    }
+    read_words(alloc, list.as_slice())
+}
+
+/// What the words between the spaces of this line ask for.
+fn asked_by(alloc: Global, line: &str) -> Result<Option<Job>, AllocError> {
+    let words: Vec<&str> = line.split_whitespace().collect(alloc)?;
+    asked(alloc, words.as_slice())
+}
+
+#[test]
+fn each_command_is_read_with_its_options(rt: HostRuntime) -> Result<(), Fail> {
+    let four = FatTree {
+        pods: Pods::Four,
+        seed: 0,
+    };
+    let rows = [
+        ("serial", Job::Serial(Form::Text)),
+        ("run", Job::Run(Form::Text)),
+        ("replay", Job::Replay(Form::Text)),
+        ("check", Job::Check),
+        ("gen", Job::Gen(four)),
+        ("demo", Job::Demo(four)),
+        ("--form json serial", Job::Serial(Form::Json)),
+        ("serial --form=replay", Job::Serial(Form::Replay)),
+        ("--form=text -- serial", Job::Serial(Form::Text)),
+        ("check --", Job::Check),
+    ];
+    for (line, job) in rows {
+        assert_eq!(rt; asked_by(rt.alloc(), line)?, Some(job), "{line}");
+    }
+    Ok(())
+}
+
+#[test]
+fn pods_and_seeds_are_read(rt: HostRuntime) -> Result<(), Fail> {
+    let rows = [
+        ("gen --pods 4 --seed 0", Pods::Four, 0),
+        ("gen --seed 7", Pods::Four, 7),
+        ("--pods=6 gen", Pods::Six, 0),
+        ("gen --seed=42 --pods 8", Pods::Eight, 42),
+        ("--pods 10 --seed 4294967295 gen", Pods::Ten, 4294967295),
+    ];
+    for (line, pods, seed) in rows {
+        let job = Job::Gen(FatTree { pods, seed });
+        assert_eq!(rt; asked_by(rt.alloc(), line)?, Some(job), "{line}");
+    }
+    Ok(())
+}
+
+#[test]
+fn other_words_are_refused(rt: HostRuntime) -> Result<(), Fail> {
+    let lines = [
+        "",
+        "serial --pods 4",
+        "serial serial",
+        "--form xml serial",
+        "--help",
+        "--version",
+        "-h",
+        "help",
+        "-",
+        "status",
+        "serial --form",
+        "serial --form -",
+        "serial --form=",
+        "serial --for=text",
+        "serial -f text",
+        "serial --form text --form text",
+        "serial -- --form=text",
+        "serial -- --",
+        "serial --form -- text",
+        "check --form text",
+        "gen --form text",
+        "gen --pods 5",
+        "gen --seed 4294967296",
+        "gen --seed 007",
+        "gen --seed -1",
+        "demo --seed +1",
+        "--",
+        "--form text",
+        "--form -- serial",
+        "--pods 4 --form text gen",
+        "-- --form=text serial",
+    ];
+    for line in lines {
+        assert_eq!(rt; asked_by(rt.alloc(), line)?, None, "{line}");
+    }
+    Ok(())
+}
+
+#[test]
+fn each_command_takes_its_own_options_alone(rt: HostRuntime) -> Result<(), Fail> {
+    // Whether a form may stand, and whether pods and a seed may.
+    let commands = [
+        ("serial", true, false),
+        ("run", true, false),
+        ("replay", true, false),
+        ("check", false, false),
+        ("gen", false, true),
+        ("demo", false, true),
+        ("Serial", false, false),
+    ];
+    // Whether an option is a form, and whether it is one of pods or a seed.
+    let options = [
+        ("--form=text", true, false),
+        ("--form=json", true, false),
+        ("--form=replay", true, false),
+        ("--pods=4", false, true),
+        ("--seed=0", false, true),
+        ("--seed=4294967295", false, true),
+        ("--form=xml", false, false),
+        ("--pods=5", false, false),
+        ("--pods=04", false, false),
+        ("--seed=x", false, false),
+        ("--seed=4294967296", false, false),
+        ("--help", false, false),
+        ("check", false, false),
+    ];
+    for (command, formed, sized) in commands {
+        for (option, is_form, is_size) in options {
+            let job = asked(rt.alloc(), &[option, command])?;
+            let is_taken = formed && is_form || sized && is_size;
+            assert_eq!(rt; job.is_some(), is_taken, "{option} {command}");
+        }
+    }
+    Ok(())
+}
+
+#[test]
+fn an_empty_word_is_a_word(rt: HostRuntime) -> Result<(), Fail> {
+    let command = asked(rt.alloc(), &["serial", ""])?;
+    let value = asked(rt.alloc(), &["gen", "--seed", ""])?;
+    assert_eq!(rt; [command, value], [None, None]);
+    Ok(())
+}
+
+#[test]
+fn pods_are_counted(rt: HostRuntime) {
+    assert_eq!(rt;
+        [
+            Pods::Four.count(),
+            Pods::Six.count(),
+            Pods::Eight.count(),
+            Pods::Ten.count()
+        ],
+        [4, 6, 8, 10]
+    );
+}
