@@ -4,7 +4,7 @@ In README.md and docs/GUIDE.md a block that begins with `$ ./statesman WORDS <ex
 what the stored run of crates/statesman_examples prints for it, and with `| jq WORDS` behind it with what jq makes of that. Each
 fenced block has to be lines of an example, of that stored run or of crates/st_event/DESIGN.md, which has the rules, one behind the
 other. Each example has to stand in the stored run, and in docs/GUIDE.md in a row with its first lines; `--gallery` prints these
-rows. The files that docs/CLAIMS.md lists as what to read have to have the lines that it says, and import none but those above them.
+rows. Those of examples/calls, which no page tells of, have to stand in the stored run alone. The files that docs/CLAIMS.md lists as what to read have to have the lines that it says, and import none but those above them.
 The definitions and functions that docs/DEFINITIONS.md names have to stand in their files. Prints what differs; the exit status is
 then 1.
 """
@@ -65,6 +65,12 @@ def blocks_of(page):
     return blocks
 
 
+def names_in(folder):
+    """The documents of a folder of the examples, as the stored run names them."""
+    names = os.listdir(os.path.join(RUNS, "data", folder))
+    return sorted(os.path.join(folder, name) for name in names if name.endswith(".txt"))
+
+
 def stands_in(block, lines):
     return any(lines[at:at + len(block)] == block for at in range(len(lines)))
 
@@ -103,7 +109,7 @@ def row_of(name):
 
 def gallery():
     """The rows of all examples but those of a kind of fault, which have a table of their own."""
-    return [row_of(name) for name in sorted(os.listdir(os.path.join(RUNS, "data"))) if not is_of_a_kind(name)]
+    return [row_of(name) for name in names_in("") if not is_of_a_kind(name)]
 
 
 def is_of_a_kind(name):
@@ -218,11 +224,14 @@ def missing_examples(outputs, names):
 
 
 def differences():
-    outputs, names = stored_outputs(), sorted(os.listdir(os.path.join(RUNS, "data")))
+    outputs, names, calls = stored_outputs(), names_in(""), names_in("calls")
     yield from differing_blocks(outputs, names)
     if has_jq():
         yield from failing_recipes(outputs)
     yield from missing_examples(outputs, names)
+    for name in calls:
+        if not any(typed.endswith("<" + name) for typed in outputs):
+            yield "%s is run by no stored run" % name
     yield from misread()
     yield from undefined()
 

@@ -1,7 +1,11 @@
-//! Calls that end with another status than Ok, or at a source or a sink that fails.
+//! Runs whose journals get full while others work.
 
 use super::gates::{Behind, BehindReads};
-use super::*;
+use super::{Called, HALF, TWO_PATHS, call_at};
+use st_top::{Outcome, Status};
+use std::alloc::{AllocError, Global};
+use std::process::Abort;
+use std::test::Fail;
 
 /// An application whose switch fails before anything was sent to it, so that it can't settle.
 pub const FAILING: &[u8] = b"\
@@ -26,20 +30,32 @@ fn filling_by(alloc: Global, script: &[u8], line: &[u8]) -> Result<Vec<u8>, Allo
     Ok(script)
 }
 
-#[test]
-fn a_full_journal_ends_the_run(rt: HostRuntime) -> Result<(), Fail> {
-    let alloc = rt.alloc();
-    let script = filling(alloc, FAILING)?;
-    let called = call(
-        &rt,
-        alloc,
-        &["serial"],
-        &[TWO_PATHS, HALF, script.as_slice()],
-    )?;
-    assert_eq!(&rt; called.outcome.status, Status::JournalFull { group: 0 });
-    assert_eq!(&rt; called.text.as_slice(), b"fault full dc1\n".as_slice());
-    assert_eq!(&rt; entry_count(&called.outcome), 200_000);
-    drop(called);
+/// How many entries each journal of a call has, and then how many each log has.
+fn counts_of(alloc: Global, outcome: &Outcome) -> Result<Vec<usize>, AllocError> {
+    let mut counts = Vec::new(alloc);
+    for journal in outcome.journals.as_slice() {
+        counts.push(journal.entries.as_slice().len())?;
+    }
+    for log in outcome.logs.as_slice() {
+        counts.push(log.entries.as_slice().len())?;
+    }
+    Ok(counts)
+}
+
+/// What a run is to end with whose first group's journal gets full, in counts of its journals and its logs.
+fn is_full(
+    rt: &impl Abort,
+    alloc: Global,
+    called: Called,
+    counts: &[usize],
+) -> Result<(), AllocError> {
+    let found = counts_of(alloc, &called.outcome);
+    let told = called.into_told();
+    let status = Status::JournalFull { group: 0 };
+    assert_eq!(rt;
+        (told.status, told.text.as_slice(), found?.as_slice()),
+        (status, b"fault full dc1\n".as_slice(), counts)
+    );
     Ok(())
 }
 
@@ -78,19 +94,9 @@ fn a_full_journal_stops_who_meets_it_alone(rt: HostRuntime) -> Result<(), Fail> 
     let gate = Behind::halves(1);
     let called = call_at(&rt, alloc, &["run"], &parts, &gate)?;
     assert!(&rt; gate.was_kept());
-    assert_eq!(&rt; called.outcome.status, Status::JournalFull { group: 0 });
-    assert_eq!(&rt; called.text.as_slice(), b"fault full dc1\n".as_slice());
-    let journals = called.outcome.journals.as_slice();
-    assert_eq!(&rt; journals.len(), 2);
-    assert_eq!(&rt; journals[0].entries.as_slice().len(), 200_000);
-    // The other application did all of its commands, and nothing is left pending in the other group.
-    assert_eq!(&rt; journals[1].entries.as_slice().len(), 4);
-    let logs = called.outcome.logs.as_slice();
-    assert_eq!(&rt; logs.len(), 2);
-    assert_eq!(&rt; logs[0].entries.as_slice().len(), 1);
-    // And the one that met the full journal did nothing behind it.
-    assert_eq!(&rt; logs[1].entries.as_slice().len(), 1);
-    drop(called);
+    // The other application did all of its commands, and nothing is left pending in the other group. The one that met the full journal did
+    // nothing behind it.
+    is_full(&rt, alloc, called, &[200_000, 4, 1, 1])?;
     Ok(())
 }
 
@@ -142,114 +148,6 @@ fn the_lowest_of_two_full_groups_is_named(rt: HostRuntime) -> Result<(), Fail> {
     let gate = BehindReads::of(2);
     let called = call_at(&rt, alloc, &["run"], &parts, &gate)?;
     assert!(&rt; gate.was_kept());
-    assert_eq!(&rt; called.outcome.status, Status::JournalFull { group: 0 });
-    assert_eq!(&rt; called.text.as_slice(), b"fault full dc1\n".as_slice());
-    for journal in called.outcome.journals.as_slice() {
-        assert_eq!(&rt; journal.entries.as_slice().len(), 200_000);
-    }
-    drop(called);
-    Ok(())
-}
-
-#[test]
-fn bad_input_is_told_by_its_line(rt: HostRuntime) -> Result<(), Fail> {
-    let alloc = rt.alloc();
-    let cases: [(&[&[u8]], u32, DocKind, &str); 2] = [
-        (&[], 1, DocKind::Header, "fault input line 1 header\n"),
-        (
-            &[TWO_PATHS, TO_A_SWITCH],
-            11,
-            DocKind::Pair,
-            "fault input line 11 pair\n",
-        ),
-    ];
-    for (parts, line, kind, text) in cases {
-        let called = call(&rt, alloc, &["serial"], parts)?;
-        let status = Status::BadInput { line, kind };
-        ends_as(&rt, alloc, called, status, text.as_bytes(), &[])?;
-    }
-    Ok(())
-}
-
-#[test]
-fn a_bad_document_is_not_run(rt: HostRuntime) -> Result<(), Fail> {
-    let alloc = rt.alloc();
-    let run = tell(&rt, alloc, &["run"], &[b"statesman 2\n"])?;
-    let bad = Status::BadInput {
-        line: 1,
-        kind: DocKind::Header,
-    };
-    assert_eq!(&rt; run.status, bad);
-    assert_eq!(&rt;
-        run.text.as_slice(),
-        b"fault input line 1 header\n".as_slice()
-    );
-    let long = vec![in alloc; b'#'; 1_048_577]?;
-    let run = tell(&rt, alloc, &["run"], &[long.as_slice()])?;
-    assert_eq!(&rt; run.status, Status::TooLong);
-    assert_eq!(&rt; run.text.as_slice(), b"fault long\n".as_slice());
-    Ok(())
-}
-
-#[test]
-fn input_that_is_too_long_is_told(rt: HostRuntime) -> Result<(), Fail> {
-    let alloc = rt.alloc();
-    let long = vec![in alloc; b'\n'; 1_048_577]?;
-    let called = call(&rt, alloc, &["serial"], &[long.as_slice()])?;
-    ends_as(&rt, alloc, called, Status::TooLong, b"fault long\n", &[])?;
-    Ok(())
-}
-
-#[test]
-fn a_failing_sink_holds_a_prefix(rt: HostRuntime) -> Result<(), Fail> {
-    let alloc = rt.alloc();
-    let words = words_of(alloc, &["serial"])?;
-    let mut source = SureSource::new(joined(alloc, &[TWO_PATHS, HALF, FIRST])?);
-    let mut sink = MemorySink::new(alloc, 16, vec![in alloc; 3]?);
-    let outcome = statesman(
-        &rt,
-        alloc,
-        words.as_slice(),
-        &mut source,
-        &mut sink,
-        &NoGate,
-    );
-    let called = Called {
-        outcome,
-        text: sink.bytes().to_vec(alloc)?,
-    };
-    let text = b"\
-statesman report 1
-group dc1
-ver";
-    ends_as(
-        &rt,
-        alloc,
-        called,
-        Status::WriteFault,
-        text,
-        &["queued", "accepted"],
-    )?;
-    Ok(())
-}
-
-#[test]
-fn a_failing_source_is_told(rt: HostRuntime) -> Result<(), Fail> {
-    let alloc = rt.alloc();
-    let words = words_of(alloc, &["serial"])?;
-    let bytes = joined(alloc, &[TWO_PATHS, HALF, FIRST])?;
-    let mut source = MemorySource::new(bytes, 64, vec![in alloc; 2]?);
-    let mut sink = SureSink::new(alloc);
-    let outcome = statesman(
-        &rt,
-        alloc,
-        words.as_slice(),
-        &mut source,
-        &mut sink,
-        &NoGate,
-    );
-    assert_eq!(rt; outcome.status, Status::ReadFault);
-    assert_eq!(rt; sink.bytes(), b"fault read\n".as_slice());
-    drop(outcome);
+    is_full(&rt, alloc, called, &[200_000, 200_000, 1, 1])?;
     Ok(())
 }

@@ -1,12 +1,11 @@
-//! Words of the texts in tables, a row for each: the kinds of a bad line, the replies of locks, the exit statuses.
+//! The exit statuses, a row for each.
 
 ghost use Rattle.std.specs.Prelude.{None};
 
 use super::ends::{FAILING, filling};
-use super::{HALF, TWO_PATHS, joined, tell, words_of, writes};
-use st_doc::DocKind;
+use super::{HALF, TWO_PATHS, joined, words_of};
 use st_io::{MemorySink, MemorySource, Sink, SureSink, SureSource, WriteStep};
-use st_top::{Status, run_program};
+use st_top::run_program;
 use std::alloc::{AllocError, Global};
 use std::env::Args;
 use std::io::ErrorKind;
@@ -55,102 +54,6 @@ fn args_of(alloc: Global, words: &[&str]) -> Result<Args, AllocError> {
 }
 
 #[test]
-fn each_kind_of_bad_line_has_its_word(rt: HostRuntime) -> Result<(), Fail> {
-    let alloc = rt.alloc();
-    let sixteen = "\
-group b
-group c
-group d
-group e
-group f
-group h
-group i
-group j
-group k
-group l
-group m
-group n
-group o
-group p
-group q
-group r
-";
-    let cases = [
-        ("", "statesman 2\n", "fault input line 1 header\n"),
-        (SMALL, "device b \u{1}\n", "fault input line 5 byte\n"),
-        (SMALL, "devices b switch\n", "fault input line 5 word\n"),
-        (SMALL, "device b\n", "fault input line 5 count\n"),
-        (SMALL, "device 1b switch\n", "fault input line 5 name\n"),
-        (SMALL, "link l t b 10\n", "fault input line 5 unknown\n"),
-        (SMALL, "device a switch\n", "fault input line 5 twice\n"),
-        (SMALL, "link l t a 0\n", "fault input line 5 number\n"),
-        (SMALL, "device b hub\n", "fault input line 5 value\n"),
-        (SMALL, "link l t h/a 10\n", "fault input line 5 cross\n"),
-        (SMALL, "link l a a 10\n", "fault input line 5 loop\n"),
-        (SMALL, "promise t a 50\n", "fault input line 5 pair\n"),
-        (SMALL, sixteen, "fault input line 20 limit\n"),
-    ];
-    for (before, line, text) in cases {
-        let parts = [before.as_bytes(), line.as_bytes()];
-        let check = tell(&rt, alloc, &["check"], &parts)?;
-        assert_eq!(&rt; check.text.as_slice(), text.as_bytes());
-    }
-    Ok(())
-}
-
-#[test]
-fn each_reply_of_a_lock_has_its_word(rt: HostRuntime) -> Result<(), Fail> {
-    let script = b"\
-app te
-lock dc1 a1 low
-unlock dc1 a1 low
-app up
-lock dc1 a1 low
-unlock dc1 a1 low
-unlock dc1 a1 low
-order te up up te up
-";
-    let text = b"\
-statesman report 1
-group dc1
-version 0
-entries 5
-lock te a1 low granted
-lock up a1 low held te
-unlock up a1 low notyours te
-unlock te a1 low released
-unlock up a1 low notyours -
-wire commands 0 reports 0 stale 0 old 0
-promises 0 start 0 now 0
-end
-";
-    writes(&rt, rt.alloc(), &[TWO_PATHS, script], text)?;
-    Ok(())
-}
-
-#[test]
-fn each_status_has_its_exit_status(rt: HostRuntime) {
-    let bad = Status::BadInput {
-        line: 1,
-        kind: DocKind::Header,
-    };
-    let cases = [
-        (Status::Ok, 0),
-        (Status::Usage, 2),
-        (Status::ReadFault, 3),
-        (Status::TooLong, 4),
-        (bad, 5),
-        (Status::JournalFull { group: 0 }, 6),
-        (Status::Illegal { group: 0, entry: 1 }, 7),
-        (Status::WriteFault, 8),
-        (Status::OutOfMemory, 9),
-    ];
-    for (status, exit) in cases {
-        assert_eq!(rt; status.exit_code(), exit);
-    }
-}
-
-#[test]
 fn the_program_ends_with_the_exit_status_of_its_call(rt: HostRuntime) -> Result<(), Fail> {
     let alloc = rt.alloc();
     let counts = "ok groups 1 devices 2 links 0 promises 0 apps 0 commands 0\n";
@@ -171,8 +74,10 @@ fn the_program_ends_with_the_exit_status_of_its_call(rt: HostRuntime) -> Result<
         let mut source = SureSource::new(input.to_vec(alloc)?);
         let mut sink = SureSink::new(alloc);
         let code = run_program(&rt, alloc, Ok(args), &mut source, &mut sink);
-        assert_eq!(&rt; code, ExitCode::from(exit));
-        assert_eq!(&rt; sink.bytes(), text.as_bytes());
+        assert_eq!(&rt;
+            (code, sink.bytes()),
+            (ExitCode::from(exit), text.as_bytes())
+        );
     }
     Ok(())
 }
@@ -193,8 +98,10 @@ fn a_stream_that_fails_has_its_exit_status(rt: HostRuntime) -> Result<(), Fail> 
         let mut source = MemorySource::new(bytes, 64, reads.to_vec(alloc)?);
         let mut sink = MemorySink::new(alloc, 16, writes.to_vec(alloc)?);
         let code = run_program(&rt, alloc, Ok(args), &mut source, &mut sink);
-        assert_eq!(&rt; code, ExitCode::from(exit));
-        assert_eq!(&rt; sink.bytes(), text.as_bytes());
+        assert_eq!(&rt;
+            (code, sink.bytes()),
+            (ExitCode::from(exit), text.as_bytes())
+        );
     }
     Ok(())
 }
@@ -221,8 +128,10 @@ fn arguments_that_were_not_had_have_an_exit_status(rt: HostRuntime) -> Result<()
         let mut source = SureSource::new(Vec::new(alloc));
         let mut sink = SureSink::new(alloc);
         let code = run_program(&rt, alloc, Err(kind.into()), &mut source, &mut sink);
-        assert_eq!(&rt; code, ExitCode::from(exit));
-        assert_eq!(&rt; sink.bytes(), text.as_bytes());
+        assert_eq!(&rt;
+            (code, sink.bytes()),
+            (ExitCode::from(exit), text.as_bytes())
+        );
     }
     Ok(())
 }
