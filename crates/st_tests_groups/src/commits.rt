@@ -118,7 +118,6 @@ fn upgraded_once(
 fn a_commit_in_a_fat_tree_runs_no_flow(rt: HostRuntime) -> Result<(), Fail> {
     let alloc = rt.alloc();
     let seen = upgraded_once(&rt, alloc, open_world(alloc, fat_tree(alloc)?)?)?;
-    assert_eq!(&rt; seen.version, Some(1));
-    assert_eq!(&rt; seen.behind, seen.before);
+    assert_eq!(&rt; (seen.version, seen.behind), (Some(1), seen.before));
     Ok(())
 }

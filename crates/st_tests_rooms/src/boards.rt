@@ -7,7 +7,7 @@ ghost use Rattle.st_net.specs.Ranges.{RowFits};
 use st_board::{Board, Line, MAX_READERS, Note, Seen, TargetReader};
 use st_net::{Entity, GroupTopo, Row, Var};
 use st_overlay::Table;
-use st_samples::groups;
+use st_samples::group;
 use std::alloc::{AllocError, Global};
 use std::sync::Wait;
 use std::test::Fail;
@@ -57,10 +57,9 @@ fn published_and_read<R: Wait>(
 
 #[test]
 fn a_read_sees_what_its_reader_was_not_told_of(rt: HostRuntime) -> Result<(), Fail> {
-    let topos = groups(rt.alloc(), LONE)?;
-    let topo = topos.first().ok_or("no group")?;
+    let topo = group(rt.alloc(), LONE)?;
     assert!(rt; topo.rows_fit(&[FIRMWARE]) && topo.has(A1));
-    let seen = published_and_read(&rt, rt.alloc(), topo, &[FIRMWARE], A1)?;
+    let seen = published_and_read(&rt, rt.alloc(), &topo, &[FIRMWARE], A1)?;
     assert_eq!(rt; seen, MERGED);
     Ok(())
 }
@@ -91,10 +90,9 @@ fn ended_and_learned<R: Wait>(
 
 #[test]
 fn a_reader_that_learned_the_end_has_the_whole_front(rt: HostRuntime) -> Result<(), Fail> {
-    let topos = groups(rt.alloc(), LONE)?;
-    let topo = topos.first().ok_or("no group")?;
+    let topo = group(rt.alloc(), LONE)?;
     assert!(rt; topo.rows_fit(&[FIRMWARE]) && topo.has(A1));
-    let seen = ended_and_learned(&rt, rt.alloc(), topo, &[FIRMWARE], A1)?;
+    let seen = ended_and_learned(&rt, rt.alloc(), &topo, &[FIRMWARE], A1)?;
     assert_eq!(rt; seen, MERGED);
     Ok(())
 }
@@ -155,12 +153,11 @@ fn read_beside<R: Threads + Wait + Sync>(
 
 #[test]
 fn a_thread_reads_one_version_or_the_other(rt: HostRuntime) -> Result<(), Fail> {
-    let topos = groups(rt.alloc(), LONE)?;
-    let topo = topos.first().ok_or("no group")?;
+    let topo = group(rt.alloc(), LONE)?;
     assert!(rt; topo.rows_fit(&[FIRMWARE]) && topo.has(A1));
-    let (first, then) = read_beside(&rt, rt.alloc(), topo, &[FIRMWARE], A1)?;
-    assert!(rt; first == OPENING || first == MERGED);
-    assert_eq!(rt; then, MERGED);
+    let (first, then) = read_beside(&rt, rt.alloc(), &topo, &[FIRMWARE], A1)?;
+    let is_one = first == OPENING || first == MERGED;
+    assert_eq!(rt; (is_one, then), (true, MERGED));
     Ok(())
 }
 
@@ -200,10 +197,9 @@ fn read_by_all<R: Wait>(
 
 #[test]
 fn each_of_512_readers_sees_the_merge(rt: HostRuntime) -> Result<(), Fail> {
-    let topos = groups(rt.alloc(), LONE)?;
-    let topo = topos.first().ok_or("no group")?;
+    let topo = group(rt.alloc(), LONE)?;
     assert!(rt; topo.rows_fit(&[FIRMWARE]) && topo.has(A1));
-    let all = read_by_all(&rt, rt.alloc(), topo, &[FIRMWARE], A1)?;
+    let all = read_by_all(&rt, rt.alloc(), &topo, &[FIRMWARE], A1)?;
     assert_eq!(rt; all.len(), 512);
     for seen in all {
         assert_eq!(rt; seen, MERGED);
@@ -234,10 +230,9 @@ fn learned_late<R: Wait>(
 
 #[test]
 fn an_early_note_takes_nothing_back(rt: HostRuntime) -> Result<(), Fail> {
-    let topos = groups(rt.alloc(), LONE)?;
-    let topo = topos.first().ok_or("no group")?;
+    let topo = group(rt.alloc(), LONE)?;
     assert!(rt; topo.rows_fit(&[FIRMWARE]) && topo.has(A1));
-    let seen = learned_late(&rt, rt.alloc(), topo, &[FIRMWARE], A1)?;
+    let seen = learned_late(&rt, rt.alloc(), &topo, &[FIRMWARE], A1)?;
     assert_eq!(rt; seen, MERGED);
     Ok(())
 }

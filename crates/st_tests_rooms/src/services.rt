@@ -176,87 +176,86 @@ fn counted<R: Threads + Wait + Sync>(
     Ok(counts(&closed))
 }
 
-#[test]
-fn two_threads_propose_in_one_room(rt: HostRuntime) -> Result<(), Fail> {
-    let counts = counted(&rt, rt.alloc(), 2, 0, Scenario::TwoPropose)?;
+/// What each scenario shows, the scenario, how many applications and workers there are, how many entries the journal has then, and how
+/// many lines the logs.
+const PLAYED: [(&str, Scenario, u32, u32, usize, usize); 9] = [
     // Two proposals; each thread awaits its own, and the two checks are made by whoever comes first.
-    assert_eq!(rt; counts, (4, 2));
-    Ok(())
-}
-
-#[test]
-fn a_settle_follows_anothers_await(rt: HostRuntime) -> Result<(), Fail> {
-    let counts = counted(
-        &rt,
-        rt.alloc(),
+    (
+        "two threads propose in one room",
+        Scenario::TwoPropose,
         2,
         0,
+        4,
+        2,
+    ),
+    (
+        "a settle follows another's await",
         Scenario::InTurn(InTurn::SettleAfterAwait),
-    )?;
-    assert_eq!(rt; counts, (7, 1));
-    Ok(())
-}
-
-#[test]
-fn a_worker_does_a_round(rt: HostRuntime) -> Result<(), Fail> {
-    let counts = counted(&rt, rt.alloc(), 1, 1, Scenario::InTurn(InTurn::WorkerRound))?;
-    assert_eq!(rt; counts, (7, 0));
-    Ok(())
-}
-
-#[test]
-fn workers_do_a_round_by_halves(rt: HostRuntime) -> Result<(), Fail> {
-    let counts = counted(
-        &rt,
-        rt.alloc(),
+        2,
+        0,
+        7,
+        1,
+    ),
+    (
+        "a worker does a round",
+        Scenario::InTurn(InTurn::WorkerRound),
+        1,
+        1,
+        7,
+        0,
+    ),
+    (
+        "workers do a round by halves",
+        Scenario::InTurn(InTurn::WorkerHalves),
         1,
         2,
-        Scenario::InTurn(InTurn::WorkerHalves),
-    )?;
-    assert_eq!(rt; counts, (7, 1));
-    Ok(())
-}
-
-#[test]
-fn workers_check_off_the_lock_and_do_halves(rt: HostRuntime) -> Result<(), Fail> {
-    let counts = counted(&rt, rt.alloc(), 1, 3, Scenario::InTurn(InTurn::WorkerCalls))?;
-    assert_eq!(rt; counts, (7, 1));
-    Ok(())
-}
-
-#[test]
-fn a_settle_follows_a_workers_check(rt: HostRuntime) -> Result<(), Fail> {
-    let counts = counted(
-        &rt,
-        rt.alloc(),
+        7,
+        1,
+    ),
+    (
+        "workers check off the lock and do halves",
+        Scenario::InTurn(InTurn::WorkerCalls),
         1,
         3,
+        7,
+        1,
+    ),
+    (
+        "a settle follows a worker's check",
         Scenario::InTurn(InTurn::SettleAfterCheck),
-    )?;
-    assert_eq!(rt; counts, (7, 0));
-    Ok(())
-}
-
-#[test]
-fn a_check_is_judged_off_the_lock(rt: HostRuntime) -> Result<(), Fail> {
-    let counts = counted(&rt, rt.alloc(), 2, 0, Scenario::JudgedAway)?;
+        1,
+        3,
+        7,
+        0,
+    ),
     // The proposal, the lock and the check.
-    assert_eq!(rt; counts, (3, 2));
-    Ok(())
-}
-
-#[test]
-fn each_act_enters_its_events(rt: HostRuntime) -> Result<(), Fail> {
-    let counts = counted(&rt, rt.alloc(), 1, 0, Scenario::InTurn(InTurn::EachAct))?;
+    (
+        "a check is judged off the lock",
+        Scenario::JudgedAway,
+        2,
+        0,
+        3,
+        2,
+    ),
     // Lock, unlock, failure; a report and its hearing.
-    assert_eq!(rt; counts, (5, 2));
-    Ok(())
-}
+    (
+        "each act enters its events",
+        Scenario::InTurn(InTurn::EachAct),
+        1,
+        0,
+        5,
+        2,
+    ),
+    ("readers wait for nobody", Scenario::AllRead, 32, 0, 0, 32),
+];
 
 #[test]
-fn readers_wait_for_nobody(rt: HostRuntime) -> Result<(), Fail> {
-    let counts = counted(&rt, rt.alloc(), 32, 0, Scenario::AllRead)?;
-    assert_eq!(rt; counts, (0, 32));
+fn each_scenario_leaves_its_entries_and_lines(rt: HostRuntime) -> Result<(), Fail> {
+    for (shown, scenario, apps, workers, entries, lines) in PLAYED {
+        assert!(&rt; apps <= 32 && workers <= 3);
+        let counts = counted(&rt, rt.alloc(), apps, workers, scenario)?;
+        assert_eq!(&rt; counts, (entries, lines), "{shown}");
+    }
     Ok(())
 }
 

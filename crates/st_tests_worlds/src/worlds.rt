@@ -31,7 +31,7 @@ const OPENING: [Step; 5] = [
 
 #[test]
 fn events_at_the_opening_are_answered(rt: HostRuntime) -> Result<(), Fail> {
-    course(rt.alloc(), "", OPENING.as_slice())
+    course(rt.alloc(), OPENING.as_slice())
 }
 
 const LOCKS: [Step; 4] = [
@@ -43,14 +43,14 @@ const LOCKS: [Step; 4] = [
 
 #[test]
 fn locks_take_no_memory_where_there_is_room(rt: HostRuntime) -> Result<(), Fail> {
-    course(rt.alloc(), "", LOCKS.as_slice())
+    course(rt.alloc(), LOCKS.as_slice())
 }
 
 const FULL_QUEUE: [Step; 2] = [Step::FillQueue, Step::Told(Deed::Submit(1), "full 64")];
 
 #[test]
 fn the_sixty_fifth_proposal_finds_the_queue_full(rt: HostRuntime) -> Result<(), Fail> {
-    course(rt.alloc(), "", FULL_QUEUE.as_slice())
+    course(rt.alloc(), FULL_QUEUE.as_slice())
 }
 
 const FULL_JOURNAL: [Step; 3] = [
@@ -61,7 +61,7 @@ const FULL_JOURNAL: [Step; 3] = [
 
 #[test]
 fn the_journal_is_full_at_its_limit(rt: HostRuntime) -> Result<(), Fail> {
-    course(rt.alloc(), "", FULL_JOURNAL.as_slice())
+    course(rt.alloc(), FULL_JOURNAL.as_slice())
 }
 
 const FAILURE_IN_MID_UPDATE: [Step; 9] = [
@@ -78,85 +78,5 @@ const FAILURE_IN_MID_UPDATE: [Step; 9] = [
 
 #[test]
 fn a_failure_in_mid_update_leaves_the_command_in_work(rt: HostRuntime) -> Result<(), Fail> {
-    course(rt.alloc(), "", FAILURE_IN_MID_UPDATE.as_slice())
-}
-
-const ROUND: [Step; 4] = [
-    Step::Accept(A1, 2),
-    Step::Round(0, 7),
-    Step::Accept(A2, 2),
-    Step::Unsettled(A2),
-];
-
-#[test]
-fn a_round_settles_what_was_accepted(rt: HostRuntime) -> Result<(), Fail> {
-    course(rt.alloc(), "", ROUND.as_slice())
-}
-
-const DROPPED: [Step; 3] = [Step::Accept(A1, 2), Step::Round(1, 6), Step::Round(0, 11)];
-
-#[test]
-fn a_dropped_command_is_sent_again(rt: HostRuntime) -> Result<(), Fail> {
-    course(rt.alloc(), "drop dc1 command 1\n", DROPPED.as_slice())
-}
-
-const REPEATED_COMMAND: [Step; 5] = [
-    Step::Accept(A1, 2),
-    Step::Round(0, 7),
-    Step::Accept(A1, 3),
-    Step::Round(0, 15),
-    Step::Entry(12, "stale 9"),
-];
-
-#[test]
-fn a_command_that_comes_again_is_stale(rt: HostRuntime) -> Result<(), Fail> {
-    course(
-        rt.alloc(),
-        "repeat dc1 command 1 2\n",
-        REPEATED_COMMAND.as_slice(),
-    )
-}
-
-const REPEATED_REPORT: [Step; 3] = [
-    Step::Accept(A1, 2),
-    Step::Round(0, 8),
-    Step::Entry(8, "old 1"),
-];
-
-#[test]
-fn a_report_that_comes_again_is_old(rt: HostRuntime) -> Result<(), Fail> {
-    course(
-        rt.alloc(),
-        "repeat dc1 report 1 1\n",
-        REPEATED_REPORT.as_slice(),
-    )
-}
-
-const RENEWED: [Step; 6] = [
-    Step::Told(Deed::Fail(9, 5), "changed"),
-    Step::Told(Deed::Report(A1), "reported 1"),
-    Step::Told(Deed::Hear(1), "taken"),
-    Step::Round(0, 8),
-    Step::Entry(4, "sent 1"),
-    Step::Firmware(A1, 1),
-];
-
-#[test]
-fn a_report_of_other_values_renews_its_entity(rt: HostRuntime) -> Result<(), Fail> {
-    course(rt.alloc(), "", RENEWED.as_slice())
-}
-
-const BLOCKED: [Step; 7] = [
-    Step::Accept(A1, 2),
-    Step::Told(Deed::Fail(1, 1), "changed"),
-    Step::Told(Deed::Report(A1), "reported 1"),
-    Step::Told(Deed::Hear(1), "taken"),
-    Step::Round(1, 9),
-    Step::Entry(6, "blocked firmware 2"),
-    Step::Entry(7, "notbusy"),
-];
-
-#[test]
-fn a_row_of_an_entity_that_failed_is_blocked(rt: HostRuntime) -> Result<(), Fail> {
-    course(rt.alloc(), "", BLOCKED.as_slice())
+    course(rt.alloc(), FAILURE_IN_MID_UPDATE.as_slice())
 }

@@ -17,56 +17,30 @@ fn has_least_cut(
     let g = network(alloc, NODES, edges)?;
     assert!(rt; g.nodes() == NODES);
     let cut = least_cut(alloc, &g, 0, 5)?;
-    assert_eq!(rt; cut.value, value);
-    assert_eq!(rt; cut.side.as_slice(), side);
+    assert_eq!(rt; (cut.value, cut.side.as_slice()), (value, side));
     Ok(())
 }
 
 #[test]
 fn least_cuts_worked_by_hand(rt: HostRuntime) -> Result<(), Fail> {
-    let alloc = rt.alloc();
-    // Two ways of 10.
-    has_least_cut(
-        &rt,
-        alloc,
-        &[(0, 1, 10), (1, 5, 10), (0, 2, 10), (2, 5, 10)],
-        20,
-        &[0],
-    )?;
-    // One way of two edges of 10: the cuts 0 and 0 1 have the same value, and the least side is 0 alone.
-    has_least_cut(&rt, alloc, &[(0, 1, 10), (1, 5, 10)], 10, &[0])?;
-    // Nested least cuts 0, 0 1, 0 1 2, 0 1 2 3 of one long way.
-    has_least_cut(
-        &rt,
-        alloc,
-        &[(0, 1, 7), (1, 2, 7), (2, 3, 7), (3, 5, 7)],
-        7,
-        &[0],
-    )?;
-    // The least cuts 0 2 and 0 2 3 are nested behind a wide edge.
-    has_least_cut(
-        &rt,
-        alloc,
-        &[(0, 2, 30), (2, 3, 10), (3, 5, 10)],
-        10,
-        &[0, 2],
-    )?;
-    // Parallel edges add up.
-    has_least_cut(
-        &rt,
-        alloc,
-        &[(0, 1, 9), (1, 5, 2), (5, 1, 3), (1, 5, 1)],
-        6,
-        &[0, 1],
-    )?;
-    // No way leads to 5: the side is all that 0 is joined to.
-    has_least_cut(
-        &rt,
-        alloc,
-        &[(4, 0, 8), (3, 4, 1), (5, 1, 8)],
-        0,
-        &[0, 3, 4],
-    )?;
+    // The edges of a network, the value of the least cut of node 0 and node 5, and its side.
+    let rows: [(&[(u32, u32, u32)], u64, &[u32]); 6] = [
+        // Two ways of 10.
+        (&[(0, 1, 10), (1, 5, 10), (0, 2, 10), (2, 5, 10)], 20, &[0]),
+        // One way of two edges of 10: the cuts 0 and 0 1 have the same value, and the least side is 0 alone.
+        (&[(0, 1, 10), (1, 5, 10)], 10, &[0]),
+        // Nested least cuts 0, 0 1, 0 1 2, 0 1 2 3 of one long way.
+        (&[(0, 1, 7), (1, 2, 7), (2, 3, 7), (3, 5, 7)], 7, &[0]),
+        // The least cuts 0 2 and 0 2 3 are nested behind a wide edge.
+        (&[(0, 2, 30), (2, 3, 10), (3, 5, 10)], 10, &[0, 2]),
+        // Parallel edges add up.
+        (&[(0, 1, 9), (1, 5, 2), (5, 1, 3), (1, 5, 1)], 6, &[0, 1]),
+        // No way leads to 5: the side is all that 0 is joined to.
+        (&[(4, 0, 8), (3, 4, 1), (5, 1, 8)], 0, &[0, 3, 4]),
+    ];
+    for (edges, value, side) in rows {
+        has_least_cut(&rt, rt.alloc(), edges, value, side)?;
+    }
     Ok(())
 }
 
@@ -138,7 +112,7 @@ fn two_ways_of_ten_with_a_need(rt: HostRuntime) -> Result<(), Fail> {
     twenty_flow(&rt, alloc, &g)?;
     let other = network(alloc, NODES, &TWO_WAYS[..3])?;
     nothing_flows(&rt, alloc, &g, &other)?;
-    assert_eq!(&rt; cut_value(&g, &[1, 0]), 20);
-    assert_eq!(&rt; cut_value(&g, &[0, 1, 2, 5]), 0);
+    let values = [cut_value(&g, &[1, 0]), cut_value(&g, &[0, 1, 2, 5])];
+    assert_eq!(&rt; values, [20, 0]);
     Ok(())
 }

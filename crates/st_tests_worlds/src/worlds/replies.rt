@@ -17,17 +17,9 @@ fn word_of(reply: &Reply) -> &'static str {
         Reply::Settled => "settled",
         Reply::Begun => "begun",
         Reply::Done => "done",
-        Reply::NotBusy => "notbusy",
         Reply::Taken => "taken",
         Reply::Changed => "changed",
         _ => "other",
-    }
-}
-
-fn row_word(alloc: Global, row: &Row) -> Result<String, AllocError> {
-    match row.var {
-        Var::Firmware => format!(in alloc; "blocked firmware {}", row.value),
-        _ => String::from_str(alloc, "other"),
     }
 }
 
@@ -38,11 +30,8 @@ fn words_of(alloc: Global, reply: &Reply) -> Result<String, AllocError> {
         Reply::Full { pending } => format!(in alloc; "full {pending}"),
         Reply::Held { holder } => format!(in alloc; "held {}", holder.0),
         Reply::Sent { command } => format!(in alloc; "sent {command}"),
-        Reply::Stale { fence } => format!(in alloc; "stale {fence}"),
         Reply::NoSuch { sent } => format!(in alloc; "nosuch {sent}"),
         Reply::Reported { report } => format!(in alloc; "reported {report}"),
-        Reply::Old { kept } => format!(in alloc; "old {kept}"),
-        Reply::Blocked { row } => row_word(alloc, row),
         _ => String::from_str(alloc, word_of(reply)),
     }
 }
@@ -95,12 +84,6 @@ pub fn is_full(world: &mut World, event: Event, limit: u32) -> Result<(), Fail> 
 pub fn round_leads(world: &mut World, unsettled: u32, entries: usize) -> Result<(), Fail> {
     let rounded = world.round()?;
     expect(rounded == Rounded::Did { unsettled } && world.journal().len() == entries)
-}
-
-/// These entities are not settled.
-pub fn leaves(world: &World, entities: &[Entity]) -> Result<(), Fail> {
-    let unsettled = world.unsettled()?;
-    expect(unsettled.as_slice() == entities)
 }
 
 /// The firmware of an entity.

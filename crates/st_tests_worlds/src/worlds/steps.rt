@@ -1,8 +1,6 @@
 //! Courses as tables of steps: each enters an event or more, or looks at the world, and tells what is to come of it.
 
-use super::replies::{
-    accept, firmware, has_entry, has_firmware, is_full, is_sure, leaves, round_leads, told,
-};
+use super::replies::{accept, firmware, has_firmware, is_full, is_sure, round_leads, told};
 use super::{A1, TE};
 use st_event::{Event, MAX_ENTRIES};
 use st_net::{AppId, Entity, Prio, Vals};
@@ -37,12 +35,8 @@ pub enum Step {
     Accept(Entity, u32),
     /// A round leaves so many entities unsettled, and the journal has so many entries then.
     Round(u32, usize),
-    /// An entity alone is not settled.
-    Unsettled(Entity),
     /// An entity is in the sure set.
     Sure(Entity),
-    /// An entry, counted from 1, has this reply.
-    Entry(usize, &'static str),
     /// An agent has this firmware.
     Firmware(Entity, u32),
     /// Room is made for so many entries.
@@ -119,9 +113,7 @@ fn take(alloc: Global, world: &mut World, step: Step) -> Result<(), Fail> {
         Step::Told(deed, words) => told(alloc, world, event(alloc, deed)?, words),
         Step::Accept(entity, value) => accept(alloc, world, entity, value),
         Step::Round(unsettled, entries) => round_leads(world, unsettled, entries),
-        Step::Unsettled(entity) => leaves(world, [entity].as_slice()),
         Step::Sure(entity) => is_sure(world, entity),
-        Step::Entry(n, words) => has_entry(alloc, world, n, words),
         Step::Firmware(entity, value) => has_firmware(world, entity, value),
         Step::Reserve(n) => Ok(world.reserve(n)?),
         Step::FillQueue => fill_queue(alloc, world),
@@ -144,8 +136,7 @@ fn take_once(alloc: Global, mut world: World, steps: &[Step]) -> Result<(), Fail
     told
 }
 
-/// The two-path group takes each step of a course, with these wire lines.
-pub fn course(alloc: Global, wires: &str, steps: &[Step]) -> Result<(), Fail> {
-    let text = format!(in alloc; "{TWO_PATH}{wires}")?;
-    take_once(alloc, world(alloc, text.as_str())?, steps)
+/// The two-path group takes each step of a course.
+pub fn course(alloc: Global, steps: &[Step]) -> Result<(), Fail> {
+    take_once(alloc, world(alloc, TWO_PATH)?, steps)
 }
