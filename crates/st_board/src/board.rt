@@ -8,9 +8,7 @@ use crate::line::Line;
 use crate::note::Note;
 use crate::post::Post;
 use crate::reader::TargetReader;
-use crate::recent::Recent;
-use crate::target::{Desk, Merge, Same, Target, show, show_next};
-use left_right::writer::Writer;
+use crate::target::{Desk, Merge, Same, Target, desk_with, show};
 use st_event::Rows;
 use st_line::Writer as LineWriter;
 use st_net::{GroupTopo, Row};
@@ -89,21 +87,9 @@ impl Board {
         requires { readers ≤ MAX_READERS }
         ensures { IfOk result (λ board. board ≡ opening_on line topo.now) }
     {
-        let table = Table::opening(alloc, topo)?;
-        let spare = table.copy(alloc)?;
         let (line, front) = line.open(topo);
-        let first = Target {
-            table,
-            front: front.again(),
-            recent: Recent::new(alloc)?,
-        };
-        let second = Target {
-            table: spare,
-            front,
-            recent: Recent::new(alloc)?,
-        };
-        let desk: Desk = Writer::new(alloc, first, second, readers as usize + 1)?;
-        let (desk, ()) = show_next(desk, rt);
+        let (first, second) = Target::openings(alloc, topo, &front)?;
+        let desk = desk_with(rt, alloc, first, second, readers)?;
         Ok(Board {
             desk,
             line,

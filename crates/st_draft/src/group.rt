@@ -77,13 +77,35 @@ impl Group {
         ensures parts { result.0 ≡ parts_of self }
         ensures wires { result.1 ≡ self.wires }
     {
+        let Group {
+            alloc: _,
+            name,
+            devices,
+            device_names,
+            tors: _,
+            links,
+            link_names,
+            promises,
+            pairs,
+            opens,
+            told_devices,
+            told_links,
+            wires,
+        } = self;
+        // What is left is handed to `drop` part by part: so the proof is short.
+        drop(device_names);
+        drop(link_names);
+        drop(pairs);
+        drop(opens);
+        drop(told_devices);
+        drop(told_links);
         let parts = Parts {
-            name: self.name,
-            devices: Items::new(self.devices),
-            links: Items::new(self.links),
-            promises: Items::new(self.promises),
+            name,
+            devices: Items::new(devices),
+            links: Items::new(links),
+            promises: Items::new(promises),
         };
-        (parts, self.wires)
+        (parts, wires)
     }
 
     /// Whether a device or a link has the name.

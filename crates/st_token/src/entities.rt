@@ -1,7 +1,7 @@
 //! Tokens that name an entity of a group, name a variable of it, or set one. The group is one that is being declared or one that
 //! is built: a trait finds its entities.
 
-ghost use Rattle.std.specs.Prelude.{◌≡◌, ℕ, List, [], Option, All, IfOk, map, true};
+ghost use Rattle.std.specs.Prelude.{◌≡◌, ◌++◌, ◌∷◌, ℕ, List, [], Option, All, IfOk, map, true};
 ghost use Rattle.st_text.specs.Tokens.{token_in, IsTokenOf};
 ghost use Rattle.st_net.specs.declared.entity.Entity.{Entity};
 ghost use Rattle.st_net.specs.Groups.{find_in, IsEntityOf};
@@ -127,12 +127,26 @@ pub fn rows_in<G: NamedEntities>(
 {
     let mut set = RowSet::new(alloc);
     for token in tokens {
-        match new_assignment_in(alloc, group, &set, &line[token.start..token.end]) {
-            Ok(row) => set.add(row)?,
-            Err(error) => return Err(error),
-        }
+        add_assignment(alloc, group, &mut set, &line[token.start..token.end])?;
     }
     Ok(set.into_rows())
+}
+
+/// Adds the row of an assignment on a variable that is not set yet, and gives it. All that can fail for one token stands here, where the
+/// rows are borrowed.
+fn add_assignment<G: NamedEntities>(
+    alloc: Global,
+    group: &G,
+    set: &mut RowSet,
+    token: &[u8],
+) -> Result<Row, LineError>
+    ensures gives { Gives (λ row. row) result (new_assignment_in (G.find group.now) set.old token.now) }
+    ensures within { IfOk result (λ row. G.IsWithin group.now row.entity) }
+    ensures added { IfOk result (λ row. set.new ≡ set.old ++ row ∷ []) }
+{
+    let row = new_assignment_in(alloc, group, set, token)?;
+    set.add(row)?;
+    Ok(row)
 }
 
 /// What a variable's place in a token names.

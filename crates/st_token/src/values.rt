@@ -1,6 +1,6 @@
 //! How variables and their values are read, and the values of a line.
 
-ghost use Rattle.std.specs.Prelude.{◌≡◌, [], All, IfOk, map, true};
+ghost use Rattle.std.specs.Prelude.{◌≡◌, ◌++◌, ◌∷◌, [], All, IfOk, map, true};
 ghost use Rattle.st_text.specs.Tokens.{token_in, IsTokenOf};
 ghost use Rattle.st_net.specs.Ranges.{is_in_range, is_free_of};
 ghost use Rattle.st_token.specs.Steps.{Gives};
@@ -150,10 +150,18 @@ pub fn values_in(
 {
     let mut set = RowSet::new(alloc);
     for token in tokens {
-        match new_value_in(entity, &set, &line[token.start..token.end]) {
-            Ok(row) => set.add(row)?,
-            Err(error) => return Err(error),
-        }
+        add_value(entity, &mut set, &line[token.start..token.end])?;
     }
     Ok(set.into_rows())
+}
+
+/// Adds the row of a value on a variable that is not set yet, and gives it. All that can fail for one token stands here, where the rows are
+/// borrowed.
+fn add_value(entity: Entity, set: &mut RowSet, token: &[u8]) -> Result<Row, LineError>
+    ensures gives { Gives (λ row. row) result (new_value_in entity set.old token.now) }
+    ensures added { IfOk result (λ row. set.new ≡ set.old ++ row ∷ []) }
+{
+    let row = new_value_in(entity, set, token)?;
+    set.add(row)?;
+    Ok(row)
 }

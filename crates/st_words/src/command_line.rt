@@ -16,14 +16,17 @@ use std::alloc::{AllocError, Global};
 fn flat_command<'a>(alloc: Global) -> Result<Command<'a>, AllocError>
     ensures { IfOk result (λ command. app_of command ≡ flat_app) }
 {
-    let form = Arg::new(alloc, "form").long("form");
-    let pods = Arg::new(alloc, "pods").long("pods");
-    let seed = Arg::new(alloc, "seed").long("seed");
-    let word = Arg::new(alloc, "command").required(true);
     let command = Command::new(alloc, "statesman")
         .no_binary_name(true)
         .disable_help_flag(true);
-    command.arg(form)?.arg(pods)?.arg(seed)?.arg(word)
+    let form = Arg::new(alloc, "form").long("form");
+    let command = command.arg(form)?;
+    let pods = Arg::new(alloc, "pods").long("pods");
+    let command = command.arg(pods)?;
+    let seed = Arg::new(alloc, "seed").long("seed");
+    let command = command.arg(seed)?;
+    let word = Arg::new(alloc, "command").required(true);
+    command.arg(word)
 }
 
 /// What the texts that `clap` found ask for.

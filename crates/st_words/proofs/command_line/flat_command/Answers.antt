@@ -11,7 +11,7 @@ returns c =
     let seed_is : rule_of c.long-seed.result ≡ option_arg (codes "seed") = search rules in
     let word_is : rule_of c.required-word.result ≡ command_arg = search rules in
     let bare_is : app_of c.disable_help_flag-command.result ≡ bare_app = search rules in
-    let one = c.in_ok-arg.ensures.shape (search rules) ∙ ap₂ with_rule bare_is form_is in
-    let two = c.in_ok-arg-2.ensures.shape (search rules) ∙ ap₂ with_rule one pods_is in
-    let three = c.in_ok-arg-3.ensures.shape (search rules) ∙ ap₂ with_rule two seed_is in
+    let one = c.in_ok-command.ensures.shape (search rules) ∙ ap₂ with_rule bare_is form_is in
+    let two = c.in_ok-command-2.ensures.shape (search rules) ∙ ap₂ with_rule one pods_is in
+    let three = c.in_ok-command-3.ensures.shape (search rules) ∙ ap₂ with_rule two seed_is in
     IfOk-weaker c.arg-4.result _ _ (λ command adds. adds.shape (search rules) ∙ ap₂ with_rule three word_is) c.arg-4.ensures
