@@ -10,6 +10,7 @@ pub mod JoinLemmas
 pub mod PartLemmas
 pub mod PassLemmas
 pub mod PictureLemmas
+pub mod Pieces
 pub mod PlayLemmas
 pub mod PlaybackLemmas
 pub mod PlayedBack

@@ -9,13 +9,31 @@ use Rattle.st_replay.specs.Statuses.{status_line}
 use Rattle.st_replay.specs.declared.status.Status.{Status}
 use Rattle.st_replay.specs.declared.status.Status.TheVariants as ends
 use Rattle.st_player.specs.declared.playing.Played.{Played}
-use Rattle.st_player.specs.declared.head.TheConstants.{HEAD}
-use Rattle.st_player.specs.declared.tail.TheConstants.{TAIL}
+use Rattle.st_player.specs.declared.head.style.TheConstants.{STYLE}
+use Rattle.st_player.specs.declared.head.body.TheConstants.{BODY}
+use Rattle.st_player.specs.declared.script.data.TheConstants.{DATA}
+use Rattle.st_player.specs.declared.script.layout.TheConstants.{LAYOUT}
+use Rattle.st_player.specs.declared.script.labels.TheConstants.{LABELS}
+use Rattle.st_player.specs.declared.script.drawing.TheConstants.{DRAWING}
+use Rattle.st_player.specs.declared.script.words.TheConstants.{WORDS}
+use Rattle.st_player.specs.declared.script.lists.TheConstants.{LISTS}
+use Rattle.st_player.specs.declared.script.listing.TheConstants.{LISTING}
+use Rattle.st_player.specs.declared.script.timeline.TheConstants.{TIMELINE}
+use Rattle.st_player.specs.declared.script.moving.TheConstants.{MOVING}
+use Rattle.st_player.specs.declared.script.printing.TheConstants.{PRINTING}
+use Rattle.st_player.specs.declared.script.start.TheConstants.{START}
 use Rattle.st_player.specs.Pictures.{picture}
+
+-- the page up to its data, and behind it
+unfoldable pub page_head : List ℕ
+page_head = STYLE.now ++ BODY.now
+
+unfoldable pub page_script : List ℕ
+page_script = DATA.now ++ LAYOUT.now ++ LABELS.now ++ DRAWING.now ++ WORDS.now ++ LISTS.now ++ LISTING.now ++ TIMELINE.now ++ MOVING.now ++ PRINTING.now ++ START.now
 
 -- the page with this data
 unfoldable pub page_with : List ℕ → List ℕ
-page_with data_text = HEAD.now ++ data_text ++ TAIL.now
+page_with data_text = page_head ++ data_text ++ page_script
 
 -- the page that shows a run behind the first entries of each journal
 abbrev pub page_of : ℕ → Replay → List ℕ

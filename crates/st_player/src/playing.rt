@@ -10,9 +10,9 @@ ghost use Rattle.st_serial.specs.Kept.{groups_of};
 ghost use Rattle.st_replay.specs.Replaying.{AreLegal, HasFewEntries, replay_with};
 ghost use Rattle.st_player.specs.Playing.{IsFault, Plays, PlaysRead, PlaysRun, page_of};
 
-use crate::head::HEAD;
+use crate::head::put_head;
 use crate::pictures::write_picture;
-use crate::tail::TAIL;
+use crate::script::put_script;
 use st_doc::{Doc, DocRead, read_doc};
 use st_event::Journal;
 use st_journal::JournalsRead;
@@ -43,7 +43,7 @@ fn page_of_run(
     let topos = topos_of(alloc, doc.groups.as_slice())?;
     let apps = app_names(alloc, doc)?;
     let mut out = Text::new(alloc);
-    out.word(HEAD.as_bytes())?;
+    put_head(&mut out)?;
     write_picture(
         &mut out,
         alloc,
@@ -52,7 +52,7 @@ fn page_of_run(
         apps.as_slice(),
         from as usize,
     )?;
-    out.word(TAIL.as_bytes())?;
+    put_script(&mut out)?;
     Ok(out)
 }
 

@@ -1,4 +1,4 @@
-use Rattle.std.proofs.Common.{◌∙◌, ℕ, List, ap, ap₂, map}
+use Rattle.std.proofs.Common.{◌∙◌, ℕ, List, ap, ap₂, map, refl}
 use Rattle.serde_json.specs.Written.{compact_text}
 use Rattle.st_net.specs.Faults.{group_of}
 use Rattle.st_net.specs.Groups.{Group, are_names}
@@ -17,6 +17,6 @@ unfolding page_with
 returns c =
     let journals = map (λ (journal : Journal). journal.entries) c.args.journals.now in
     let is = ap₂ (λ (names : List (List ℕ)) (groups : List Group). compact_text (picture names c.args.from groups journals)) (c.as_slice-3.ensures.value ∙ c.in_ok-apps.ensures) (c.as_slice-2.ensures.value ∙ (c.in_ok-topos.ensures ∙ ap (map group_of) c.as_slice.ensures)) in
-    three_words c.new-out.result c.word.new.self c.write_picture.new.out c.word-2.new.self c.as_bytes.result.now _ c.as_bytes-2.result.now _ _ _
-    c.new-out.ensures c.in_ok-word.ensures.ok c.in_ok-write_picture.ensures.text c.in_ok-word-2.ensures.ok
-    c.as_bytes.ensures.value is c.as_bytes-2.ensures.value
+    three_words c.new-out.result c.put_head.new.out c.write_picture.new.out c.put_script.new.out _ _ _ _ _ _
+    c.new-out.ensures c.in_ok-put_head.ensures.ok c.in_ok-write_picture.ensures.text c.in_ok-put_script.ensures.ok
+    refl is refl
