@@ -19,6 +19,10 @@ from_none = refl
 from_most : from_of (codes "--from" ∷ codes "4294967295" ∷ []) ≡ Some 4294967295
 from_most = refl
 
+-- in one word or in two
+joined_words : from_of (codes "--from=12" ∷ []) ≡ Some 12
+joined_words = refl
+
 -- a number is wanted behind the word, of 32 bits, and as a document has it
 from_alone : from_of (codes "--from" ∷ []) ≡ None
 from_alone = refl
@@ -38,12 +42,24 @@ from_below = refl
 from_a_leading_zero : from_of (codes "--from" ∷ codes "01" ∷ []) ≡ None
 from_a_leading_zero = refl
 
+joined_alone : from_of (codes "--from=" ∷ []) ≡ None
+joined_alone = refl
+
+joined_a_leading_zero : from_of (codes "--from=01" ∷ []) ≡ None
+joined_a_leading_zero = refl
+
+joined_and_more : from_of (codes "--from=1" ∷ codes "2" ∷ []) ≡ None
+joined_and_more = refl
+
+joined_twice : from_of (codes "--from==1" ∷ []) ≡ None
+joined_twice = refl
+
 -- no other words are the player's
 other_word : from_of (codes "--to" ∷ codes "1" ∷ []) ≡ None
 other_word = refl
 
-joined_words : from_of (codes "--from=1" ∷ []) ≡ None
-joined_words = refl
+joined_other : from_of (codes "--to=1" ∷ []) ≡ None
+joined_other = refl
 
 number_alone : from_of (codes "1" ∷ []) ≡ None
 number_alone = refl

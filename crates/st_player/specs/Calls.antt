@@ -1,5 +1,5 @@
 -- What the words of the player ask for, and how a call of it ends.
-use Rattle.std.specs.Prelude.{◌≡◌, ◌⊎◌, ℕ, List, [], ◌∷◌, Option, Some, None, String, bytes_eq, codes, drop, if◌then◌else◌, map, string_bytes, Result, Ok, Err}
+use Rattle.std.specs.Prelude.{◌≡◌, ◌⊎◌, ℕ, List, [], ◌∷◌, Option, Some, None, String, bytes_eq, codes, drop, take, if◌then◌else◌, map, string_bytes, Result, Ok, Err}
 use Rattle.std.specs.Process.{exit_status}
 use Rattle.std.specs.declared.process.ExitCode.{ExitCode}
 use Rattle.std.specs.declared.vec.IntoIter.{IntoIter}
@@ -16,9 +16,14 @@ use Rattle.st_replay.specs.declared.status.Status.TheVariants as ends
 use Rattle.st_player.specs.declared.playing.Played.{Played}
 use Rattle.st_player.specs.Playing.{IsFault, Plays}
 
--- how many entries stand before the page: `--from N`, or no words; other words are none of the player's
+-- the number in a word `--from=N`
+abbrev pub joined_from : List ℕ → Option ℕ
+joined_from word = if bytes_eq (take 7 word) (codes "--from=") then number_of (drop 7 word) else None
+
+-- how many entries stand before the page: `--from N` or `--from=N`, or no words; other words are none of the player's
 abbrev pub from_of : List (List ℕ) → Option ℕ
 from_of [] = Some 0
+from_of (word ∷ []) = joined_from word
 from_of (name ∷ n ∷ []) = if bytes_eq name (codes "--from") then number_of n else None
 from_of _ = None
 

@@ -3,7 +3,7 @@
 ghost use Rattle.std.specs.Prelude.{◌≡◌, map, string_bytes, IfOk};
 ghost use Rattle.std.specs.Process.{exit_status};
 ghost use Rattle.st_replay.specs.Statuses.{exit_code_of};
-ghost use Rattle.st_player.specs.Calls.{ComesOfSource, Ends, IsCalledFor, ProgramEnds, from_in as from_in_lem, from_of as from_of_lem};
+ghost use Rattle.st_player.specs.Calls.{ComesOfSource, Ends, IsCalledFor, ProgramEnds, from_in as from_in_lem, from_of as from_of_lem, joined_from as joined_from_lem};
 
 use crate::playing::{Played, fault, play};
 use st_io::{ReadEnd, Sink, Source, read_all, write_all};
@@ -30,13 +30,22 @@ fn from_in(alloc: Global, args: io::Result<Args>) -> Result<Option<u32>, AllocEr
     }
 }
 
-/// How many entries of each journal stand before the page, by the words `--from N`, and 0 where there are no words; none where the words
-/// are others.
+/// The number in a word `--from=N`; none where the word is another.
+fn joined_from(word: &[u8]) -> Option<u32>
+    ensures { result ≡ joined_from_lem word.now }
+{
+    let behind = word.strip_prefix(b"--from=".as_slice())?;
+    number(behind)
+}
+
+/// How many entries of each journal stand before the page, by the words `--from N` or `--from=N`, and 0 where there are no words; none
+/// where the words are others.
 fn from_of(words: &[String]) -> Option<u32>
     ensures { result ≡ from_of_lem (map string_bytes words.now) }
 {
     match words {
         [] => Some(0),
+        [word] => joined_from(word.as_bytes()),
         [name, n] if name.as_bytes() == b"--from".as_slice() => number(n.as_bytes()),
         _ => None,
     }
