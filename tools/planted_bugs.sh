@@ -41,6 +41,8 @@ for crate in "$top"/crates/*; do
     done
 done
 
+state="$(date -u +%F), commit $(git -C "$top" rev-parse --short HEAD)"
+[ -z "$(git -C "$top" status --porcelain -- crates)" ] || state="$state, and what is changed since"
 rows=() refused=0 others=0
 TIMEFORMAT='%U %S'
 # Tries the bugs of one crate, prints what came of each and adds its row.
@@ -87,7 +89,7 @@ for name in "${names[@]}"; do
     try "$name"
 done
 echo
-echo "$(date -u +%F), commit $(git -C "$top" rev-parse --short HEAD)$([ -z "$(git -C "$top" status --porcelain -- crates)" ] || echo ', and what is changed since'):"
+echo "$state:"
 echo
 echo "| crate | bugs | result | minutes |"
 echo "|---|---|---|---|"
