@@ -131,12 +131,14 @@ class Reader:
         """The text of a word, plain or quoted; None of an empty one."""
         if text[0] in BEYOND:
             self.refuse(number, "'%s' begins %s, which this simple form has not" % (text, BEYOND[text[0]]))
-        if text[0] == "'" and len(text) > 1 and text[-1] == "'":
-            return text[1:-1].replace("''", "'")
-        if text[0] == '"' and len(text) > 1 and text[-1] == '"':
-            return re.sub(r"\\(.)", lambda found: self.escaped(number, found[1]), text[1:-1])
-        if text[0] in "'\"":
+        if text[0] in ",[]{}" or DASH.match(text):
+            self.refuse(number, "'%s' where a word is to be" % text)
+        if text[0] in "'\"" and not re.fullmatch(QUOTED, text):
             self.refuse(number, "'%s' stands behind the end of a text in quotes" % text)
+        if text[0] == "'":
+            return text[1:-1].replace("''", "'")
+        if text[0] == '"':
+            return re.sub(r"\\(.)", lambda found: self.escaped(number, found[1]), text[1:-1])
         return None if text in ("~", "null") else text
 
     def escaped(self, number, byte):
