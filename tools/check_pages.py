@@ -1,12 +1,14 @@
 """Compares the pages with the examples: `python3 tools/check_pages.py`.
 
 In README.md and docs/GUIDE.md a block that begins with `$ ./statesman WORDS <examples/NAME`, or without an input, has to go on with
-what the stored run of crates/statesman_examples prints for it, and with `| jq WORDS` behind it with what jq makes of that. Each
-fenced block has to be lines of an example, of that stored run or of crates/st_event/DESIGN.md, which has the rules, one behind the
-other. Each example has to stand in the stored run, and in docs/GUIDE.md in a row with its first lines; `--gallery` prints these
-rows. Those of examples/calls, which no page tells of, have to stand in the stored run alone. The files that docs/CLAIMS.md lists as what to read have to have the lines that it says, and import none but those above them.
-The definitions and functions that docs/DEFINITIONS.md names have to stand in their files. Prints what differs; the exit status is
-then 1.
+what the stored run of crates/statesman_examples prints for it, and with `| jq WORDS` behind it with what jq makes of that. A block with a line
+`$ python3 tools/NAME.py WORDS` is typed, all of its commands in one folder, where `./statesman` is the program that is there; each has to print what
+stands behind it, its output and then its errors. Every other fenced block has to be lines of an example, of that stored run or of
+crates/st_event/DESIGN.md, which has the rules, one behind the other. Each example has to stand in the stored run, and in docs/GUIDE.md in a row
+with its first lines; `--gallery` prints these rows. Those of examples/calls, which no page tells of, have to stand in the stored run alone. The
+files that docs/CLAIMS.md lists as what to read have to have the lines that it says, and import none but those above them. The definitions and
+functions that docs/DEFINITIONS.md names have to stand in their files. Prints what differs; the exit status is then 1. Where there is no
+program the blocks that are typed are left out, and the status is 2 if nothing else differs.
 """
 
 import argparse
@@ -17,6 +19,10 @@ import shutil
 import subprocess
 import sys
 
+sys.dont_write_bytecode = True
+
+from operators.typed_commands import Folder, add_program, is_there  # noqa: E402
+
 REPOSITORY = os.path.dirname(os.path.dirname(os.path.abspath(__file__)))
 RUNS = os.path.join(REPOSITORY, "crates", "statesman_examples")
 GUIDE = os.path.join("docs", "GUIDE.md")
@@ -26,6 +32,7 @@ DEFINITIONS = os.path.join("docs", "DEFINITIONS.md")
 CLAIMS = os.path.join("docs", "CLAIMS.md")
 RECIPE = re.compile(r"\$ ./statesman ([^<|]*[^<| ]) <examples/(\S+) \| jq (.*)$")
 RUN = re.compile(r"\$ ./statesman ([^<|]*[^<| ])(?: <examples/(\S+))?$")
+TYPED = "$ python3 tools/"
 IMPORT = re.compile(r"use Rattle\.(st_\w+\.specs\.(?!declared)\w+)")
 KINDS = "header byte word count name unknown twice number value cross loop pair limit".split()
 
@@ -192,12 +199,28 @@ def undefined():
                 yield "%s: %s: no code is named" % (DEFINITIONS, name)
 
 
-def differing_blocks(outputs, names):
+def is_typed(block):
+    return any(line.startswith(TYPED) for line in block)
+
+
+def typed_differences(program, page, block):
+    """The commands of a block of which something else comes than stands behind them."""
+    with Folder(program) as folder:
+        for part in "\n".join(block).removeprefix("$ ").split("\n$ "):
+            command, *printed = part.split("\n")
+            came = folder.run(command)
+            if (came.output + came.errors).splitlines() != printed:
+                yield "%s: not what is printed: $ %s" % (page, command)
+
+
+def differing_blocks(outputs, names, program):
     texts = [lines_of(RUNS, "data", name) for name in names] + [lines_of(RUNS, "stdout"), lines_of(REPOSITORY, RULES)]
     for page in PAGES:
         for is_fenced, block in blocks_of(page):
             run = RUN.match(block[0])
-            if run and len(block) > 1:
+            if is_typed(block):
+                yield from typed_differences(program, page, block) if program else ()
+            elif run and len(block) > 1:
                 if outputs.get(" <".join(filter(None, run.groups()))) != block[1:]:
                     yield "%s: not what is printed: %s" % (page, block[0])
             elif is_fenced and not any(stands_in(block, lines) for lines in texts):
@@ -223,9 +246,9 @@ def missing_examples(outputs, names):
             yield "%s: lacks the kind of %s" % (GUIDE, name)
 
 
-def differences():
+def differences(program):
     outputs, names, calls = stored_outputs(), names_in(""), names_in("calls")
-    yield from differing_blocks(outputs, names)
+    yield from differing_blocks(outputs, names, program)
     if has_jq():
         yield from failing_recipes(outputs)
     yield from missing_examples(outputs, names)
@@ -237,18 +260,21 @@ def differences():
 
 
 def main():
-    parser = argparse.ArgumentParser(description="Compares README.md and docs/ with the examples.")
+    parser = argparse.ArgumentParser(prog="check_pages", description=__doc__, formatter_class=argparse.RawDescriptionHelpFormatter)
     parser.add_argument("--gallery", action="store_true", help="print the rows of the table of examples, and compare nothing")
-    if parser.parse_args().gallery:
+    add_program(parser)
+    options = parser.parse_args()
+    if options.gallery:
         print("\n".join(gallery()))
         return 0
-    found = list(differences())
+    program = options.program if is_there(options.program) else None
+    found = list(differences(program))
     for line in found:
         print(line)
     if not has_jq():
         print("jq is not there (Debian: apt-get install jq), so %d lines for it are not tried" % len(list(recipes())))
     print("%d differ" % len(found))
-    return 1 if found else 0
+    return 1 if found else 0 if program else 2
 
 
 if __name__ == "__main__":
