@@ -112,7 +112,7 @@ dialog td { padding: 3px 10px 3px 0; } dialog td + td { white-space: normal; } k
 .link.busy { stroke: var(--busy-ink); stroke-width: 3; stroke-dasharray: 6 3; }
 .link.off { stroke: var(--idle-ink); stroke-width: 2; stroke-dasharray: 10 4 2 4; }
 .link.failed { stroke: var(--lost); stroke-width: 2.5; stroke-dasharray: 7 4; }
-.link.near { stroke: var(--ink); } .link.near.shut { stroke: var(--soft); }
+.link.near:not(.failed, .busy, .off, .waiting, .blocked, .left, .out) { stroke: var(--ink); } .link.near.shut:not(.failed, .busy, .off, .waiting, .blocked, .left, .out) { stroke: var(--soft); }
 .link.left { stroke: var(--cut); stroke-width: 3.5; }
 .link.out:not(.failed, .busy, .off, .waiting, .blocked, .asked) { stroke: var(--cut); stroke-width: 2; stroke-dasharray: 8 6; stroke-linecap: butt; }
 .band { fill: none; stroke-width: 10; } .band.wide { stroke-width: 17; } .core { fill: none; stroke: var(--ground); stroke-width: 6; } .core.wide { stroke-width: 12; }
@@ -167,7 +167,8 @@ dialog td { padding: 3px 10px 3px 0; } dialog td + td { white-space: normal; } k
 .sheet :is(#panel-now, #panel-receipts, #panel-promises) { max-height: 172px; overflow: hidden; } .sheet #lists li button { padding: 0; } .sheet #lists li button.here { padding-left: 7px; }
 .sheet :is(#more p, .hint) { margin: 0 0 3px; } .sheet :is(.hint, li small, th, table) { font-size: 10.5px; } .sheet .kept { display: none; }
 .sheet #more:empty, .sheet #panel-promises:not(:has(tr:not(.kept) td)) { display: none !important; }
-.sheet #lists:not(:has(#panel-promises tr:not(.kept) td)) #panel-receipts { grid-column: span 2; }
+.sheet #lists:not(:has(#panel-promises tr:not(.kept) td)) #panel-receipts { grid-column: span 2; } .sheet body:has(#more:empty) #panel-promises { grid-column: 3 / -1; }
+.sheet #panel-promises > .hint:first-child { display: none; }
 </style>
 </head>
 "###;
