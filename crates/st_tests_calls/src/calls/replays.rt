@@ -111,8 +111,8 @@ fn a_generated_document_is_counted_run_and_replayed(rt: HostRuntime) -> Result<(
     let whole = joined(alloc, &[OF_A_FAT_TREE, read, b"end\n"])?;
     let rest = joined(alloc, &[OF_A_FAT_TREE, b"end\n"])?;
     assert_eq!(&rt;
-        [counted.as_slice(), run.as_slice(), again.as_slice()],
-        [COUNTED, whole.as_slice(), rest.as_slice()]
+        (counted.as_slice(), run.as_slice(), again.as_slice()),
+        (COUNTED, whole.as_slice(), rest.as_slice())
     );
     Ok(())
 }
