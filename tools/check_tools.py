@@ -109,9 +109,11 @@ def ascii_lines(text):
 # Reports.
 
 def examples():
-    for name in sorted(os.listdir(EXAMPLES)):
-        with open(os.path.join(EXAMPLES, name), "rb") as file:
-            yield name, file.read()
+    for folder, _, names in sorted(os.walk(EXAMPLES)):
+        for name in sorted(names):
+            path = os.path.join(folder, name)
+            with open(path, "rb") as file:
+                yield os.path.relpath(path, EXAMPLES), file.read()
 
 
 def reports(program):
@@ -181,16 +183,17 @@ def without_part(report, path):
 # Drawings.
 
 def drawings(program):
-    """What is drawn of an example's network is read back as that network, but for promises, opening values and health."""
+    """What is drawn of an example's network is read back as that network, but for promises, opening values and health. Where there is no group,
+    nothing is drawn."""
     with Folder(program) as folder:
         found = each_at_once(lambda each: drawing_difference(program, folder, *each), list(examples()))
     return [line for line in found if line]
 
 
 def drawing_difference(program, folder, name, data):
-    if ask(program, ["check"], data).status != 0:
+    if ask(program, ["check"], data).status != 0 or not parts_of(data):
         return None
-    drawn = name + ".dot"
+    drawn = name.replace(os.sep, "-") + ".dot"
     came = folder.run("python3 tools/topology.py draw examples/%s >%s && python3 tools/topology.py read %s" % (name, drawn, drawn))
     if came.status != 0 or parts_of(came.output.encode()) != parts_of(data):
         return "%s: what is drawn is not read back: %s" % (name, came.errors)
