@@ -128,10 +128,8 @@ fn arguments_that_were_not_had_have_an_exit_status(rt: HostRuntime) -> Result<()
         let mut source = SureSource::new(Vec::new(alloc));
         let mut sink = SureSink::new(alloc);
         let code = run_program(&rt, alloc, Err(kind.into()), &mut source, &mut sink);
-        assert_eq!(&rt;
-            (code, sink.bytes()),
-            (ExitCode::from(exit), text.as_bytes())
-        );
+        assert_eq!(&rt; code, ExitCode::from(exit));
+        assert_eq!(&rt; sink.bytes(), text.as_bytes());
     }
     Ok(())
 }

@@ -94,35 +94,32 @@ fn each_failing_write_leaves_a_beginning(rt: HostRuntime) -> Result<(), Fail> {
     Ok(())
 }
 
+/// Lets one write fail: the sink holds this beginning of the text, and the journals have so many entries.
+fn one_write_fails<R: Abort + Threads + Wait + Sync>(
+    rt: &R,
+    alloc: Global,
+    words: &[&str],
+    parts: &[&[u8]],
+    failing: u32,
+    held: &[u8],
+    entries: usize,
+) -> Result<(), AllocError> {
+    let called = write_failing(rt, alloc, words, parts, failing)?;
+    let count = entry_count(&called.outcome);
+    let Told { status, text } = called.into_told();
+    let is_told = status == Status::WriteFault && text.as_slice() == held;
+    assert_eq!(rt; (is_told, count), (true, entries));
+    Ok(())
+}
+
 #[test]
 fn a_failing_sink_leaves_the_journals(rt: HostRuntime) -> Result<(), Fail> {
     let alloc = rt.alloc();
-    // The command and what it reads, which write fails, what the sink holds then, and how many entries the journals have.
-    let cases: [(&str, &[&[u8]], u32, &str, usize); 2] = [
-        (
-            "serial",
-            &[TWO_PATHS, HALF, FIRST],
-            3,
-            "statesman report 1\ngroup dc1\nver",
-            2,
-        ),
-        (
-            "replay",
-            &[PRINTED.as_bytes(), JOURNAL.as_bytes()],
-            2,
-            "statesman report",
-            4,
-        ),
-    ];
-    for (command, parts, failing, held, entries) in cases {
-        let called = write_failing(&rt, alloc, &[command], parts, failing)?;
-        let count = entry_count(&called.outcome);
-        let told = called.into_told();
-        assert_eq!(&rt;
-            (told.status, told.text.as_slice(), count),
-            (Status::WriteFault, held.as_bytes(), entries)
-        );
-    }
+    let begun = b"statesman report 1\ngroup dc1\nver";
+    let scripts = [TWO_PATHS, HALF, FIRST];
+    one_write_fails(&rt, alloc, &["serial"], &scripts, 3, begun, 2)?;
+    let printed = [PRINTED.as_bytes(), JOURNAL.as_bytes()];
+    one_write_fails(&rt, alloc, &["replay"], &printed, 2, b"statesman report", 4)?;
     Ok(())
 }
 
