@@ -44,7 +44,8 @@ def look(root, seen):
         pid, given = work.pop()
         if pid in processes:
             _, began, seconds = processes[pid]
-            here = purpose(pid) or given
+            # (of a process that has ended, and is not waited for yet, the words are gone)
+            here = purpose(pid) or seen.get((pid, began), (given,))[0]
             seen[pid, began] = (here, seconds)
             work += [(child, here) for child in below[pid]]
 

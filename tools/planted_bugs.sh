@@ -1,7 +1,8 @@
 #!/usr/bin/env bash
 # Has the prover refuse the planted bugs that the gate does not try: tools/planted_bugs.sh [--anew] CRATE.., or --all in place of the names.
 # They lie in crates/CRATE/planted, and are written as those in must-fail/ are. They are tried in a copy of the crates, where planted/ stands in the
-# place of must-fail/, by `rt must-fail`: it begins with what `rt check` kept of the crate on this machine, and tries again only what changed (--anew: all).
+# place of must-fail/, by `rt must-fail`: it begins with what `rt check` and `rt ci` left of the crates in this checkout, of which the copy has its own, and
+# tries again only what changed (--anew: all). In a checkout where nothing was proved, all crates below are proved first.
 # A line tells of each bug. Then comes a row for each crate, as the table in docs/TESTING.md has them: how many bugs were tried and how many of these
 # refused, and the processor minutes. The last line is 'N refused, M not refused'; a bug that could not be applied, compiled or tried is not refused.
 set -euo pipefail
@@ -36,8 +37,9 @@ mkdir -p "$copy/crates"
 cp "$top/crates.txt" "$top/HANDLES" "$copy/"
 for crate in "$top"/crates/*; do
     mkdir "$copy/crates/${crate##*/}"
-    for part in src specs proofs; do
-        [ ! -d "$crate/$part" ] || cp -Rp "$crate/$part" "$copy/crates/${crate##*/}/"
+    mkdir "$copy/crates/${crate##*/}/out"
+    for part in src specs proofs out/rlib out/incremental; do
+        [ ! -d "$crate/$part" ] || cp -Rp "$crate/$part" "$copy/crates/${crate##*/}/$part"
     done
 done
 
