@@ -47,6 +47,8 @@ serial
 run
 check
 replay
+roll
+revert
 gen
 demo
 serail
@@ -101,6 +103,35 @@ gen --seed=-1
 gen --seed=
 demo --seed +1
 demo --seed 1 --seed 1
+roll --to 2
+--to=0 revert
+revert --to 4294967295
+--to 7 -- roll
+roll 2
+roll --to
+roll --to=
+roll --to 4294967296
+revert --to 99999999999
+roll --to 007
+revert --to -1
+roll --to=-1
+revert --to +1
+roll --to two
+roll --to 1 --to 1
+revert --to=1 --to 2
+roll --too 1
+roll --to 1 revert
+roll --form text
+roll --to 1 --form text
+revert --to 1 --form=json
+revert --to 1 --pods 4
+roll --to 1 --seed 0
+serial --to 1
+run --to=1
+replay --to 1
+check --to 0
+gen --to 1
+demo --to 1
 END
         ;;
     player)

@@ -4,8 +4,9 @@ The failing call is made by failing_malloc.c, compiled into a temporary folder a
 docs/FORMATS.md a run ends with status 9 and a prefix of the output that it would have had, or with that whole output and its
 status. Any other ending is printed, and the exit status is then 1; it is 2 where nothing could be tried.
 
-`replay` is given the journals of `serial` behind the document; `gen` and `demo` are run once, without a document. Of `run` with
-several applications each whole report is right that the second reading lets through, and so is the beginning of one.
+`roll` is given firmware 2 and `revert` version 0, and `replay` the journals of `serial` behind the document; `gen` and `demo` are run
+once, without a document. Of `run` with several applications each whole report is right that the second reading lets through, and so
+is the beginning of one.
 """
 
 import argparse
@@ -154,6 +155,8 @@ def tasks_of(program, path):
     yield Task("check " + name, ("check",), text)
     yield Task("serial " + name, ("serial",), text)
     yield Task("run " + name, ("run",), text, reading if is_order_free(reading) else None)
+    yield Task("roll " + name, ("roll", "--to", "2"), text)
+    yield Task("revert " + name, ("revert", "--to", "0"), text)
     printed = subprocess.run([program, "serial", "--form", "replay"], input=text, stdout=subprocess.PIPE, check=False)
     if printed.returncode == 0:
         yield Task("replay " + name, ("replay",), printed.stdout)
@@ -171,7 +174,7 @@ def main():
     parser.add_argument("--program", help="the program to try (the one that ./statesman runs)")
     parser.add_argument("--seconds", type=float, default=600, help="after so many seconds no further call fails (600)")
     parser.add_argument("--calls-on", action="store_true", help="let each call behind the failing one fail too")
-    parser.add_argument("--commands", default="check,serial,run,replay,gen,demo", help="which commands (all)")
+    parser.add_argument("--commands", default="check,serial,run,roll,revert,replay,gen,demo", help="which commands (all)")
     parser.add_argument("documents", nargs="*", help="files (those of examples/)")
     options = parser.parse_args()
     if options.program is None:

@@ -1,6 +1,6 @@
 #!/usr/bin/env bash
 # Runs the program under valgrind's memcheck on each example, or on the files that are given: tools/memcheck.sh [FILE..]
-# With check, serial and run, with replay of what run printed, and once with gen and demo.
+# With check, serial, run, roll and revert, with replay of what run printed, and once with gen and demo.
 # Prints a line for each run with what valgrind found; the exit status is 1 where it found an error or a leak.
 # PROGRAM=PATH names another program than the one that ./statesman runs.
 set -uo pipefail
@@ -39,6 +39,8 @@ for document in "$@"; do
     try "$name" "$document" check
     try "$name" "$document" serial
     try "$name" "$document" run
+    try "$name" "$document" roll --to 2
+    try "$name" "$document" revert --to 0
     try "$name" "$document" run --form replay
     cp "$said/output" "$said/printed"
     try "what run printed of $name" "$said/printed" replay

@@ -30,6 +30,9 @@ fn each_command_is_read_with_its_options(rt: HostRuntime) -> Result<(), Fail> {
         ("run", Job::Run(Form::Text)),
         ("replay", Job::Replay(Form::Text)),
         ("check", Job::Check),
+        ("roll --to 2", Job::Roll(2)),
+        ("--to=0 revert", Job::Revert(0)),
+        ("revert --to 4294967295", Job::Revert(4294967295)),
         ("gen", Job::Gen(four)),
         ("demo", Job::Demo(four)),
         ("--form json serial", Job::Serial(Form::Json)),
@@ -93,6 +96,20 @@ fn other_words_are_refused(rt: HostRuntime) -> Result<(), Fail> {
         "--form -- serial",
         "--pods 4 --form text gen",
         "-- --form=text serial",
+        "roll",
+        "revert",
+        "roll 2",
+        "roll --to",
+        "roll --to=",
+        "roll --to 4294967296",
+        "revert --to 02",
+        "revert --to -1",
+        "roll --to 1 --to 1",
+        "revert --to=1 --to 2",
+        "roll --to 1 --form text",
+        "revert --to 1 --pods 4",
+        "roll --to 1 --seed 0",
+        "roll revert --to 1",
     ];
     for line in lines {
         assert_eq!(rt; asked_by(rt.alloc(), line)?, None, "{line}");
@@ -102,36 +119,42 @@ fn other_words_are_refused(rt: HostRuntime) -> Result<(), Fail> {
 
 #[test]
 fn each_command_takes_its_own_options_alone(rt: HostRuntime) -> Result<(), Fail> {
-    // Whether a form may stand, and whether pods and a seed may.
+    // Whether a form may stand, whether pods and a seed may, and whether a number to go to does.
     let commands = [
-        ("serial", true, false),
-        ("run", true, false),
-        ("replay", true, false),
-        ("check", false, false),
-        ("gen", false, true),
-        ("demo", false, true),
-        ("Serial", false, false),
+        ("serial", true, false, false),
+        ("run", true, false, false),
+        ("replay", true, false, false),
+        ("check", false, false, false),
+        ("roll", false, false, true),
+        ("revert", false, false, true),
+        ("gen", false, true, false),
+        ("demo", false, true, false),
+        ("Serial", false, false, false),
     ];
-    // Whether an option is a form, and whether it is one of pods or a seed.
+    // Whether an option is a form, whether it is one of pods or a seed, and whether it is a number to go to.
     let options = [
-        ("--form=text", true, false),
-        ("--form=json", true, false),
-        ("--form=replay", true, false),
-        ("--pods=4", false, true),
-        ("--seed=0", false, true),
-        ("--seed=4294967295", false, true),
-        ("--form=xml", false, false),
-        ("--pods=5", false, false),
-        ("--pods=04", false, false),
-        ("--seed=x", false, false),
-        ("--seed=4294967296", false, false),
-        ("--help", false, false),
-        ("check", false, false),
+        ("--form=text", true, false, false),
+        ("--form=json", true, false, false),
+        ("--form=replay", true, false, false),
+        ("--pods=4", false, true, false),
+        ("--seed=0", false, true, false),
+        ("--seed=4294967295", false, true, false),
+        ("--to=0", false, false, true),
+        ("--to=4294967295", false, false, true),
+        ("--form=xml", false, false, false),
+        ("--pods=5", false, false, false),
+        ("--pods=04", false, false, false),
+        ("--seed=x", false, false, false),
+        ("--seed=4294967296", false, false, false),
+        ("--to=x", false, false, false),
+        ("--to=4294967296", false, false, false),
+        ("--help", false, false, false),
+        ("check", false, false, false),
     ];
-    for (command, formed, sized) in commands {
-        for (option, is_form, is_size) in options {
+    for (command, formed, sized, goes) in commands {
+        for (option, is_form, is_size, is_to) in options {
             let job = asked(rt.alloc(), &[option, command])?;
-            let is_taken = formed && is_form || sized && is_size;
+            let is_taken = formed && is_form || sized && is_size || goes && is_to;
             assert_eq!(rt; job.is_some(), is_taken, "{option} {command}");
         }
     }

@@ -1,6 +1,6 @@
 -- What `clap` answers is what the words ask for.
 use Rattle.std.proofs.Common.{◌≡◌, ◌∙◌, Bool, true, false, List, [], ◌∷◌, ap, ap₂, sym, refl, codes, Option, Some, None}
-use Rattle.std.specs.Prelude.{option_and_then}
+use Rattle.std.specs.Prelude.{option_and_then, option_to_list}
 use Rattle.std.specs.Str.{bytes_eq}
 use Rattle.clap.specs.Walk.{Row, first_of, nothing_held, rows_after, rows_of}
 use Rattle.clap.specs.Simple.{App, matches_of, names_of}
@@ -12,7 +12,7 @@ use Rattle.clap.proofs.FaultLemmas.{leaf_fault}
 use Rattle.clap.proofs.WalkLemmas.{first_value-rows}
 use Rattle.st_words.specs.declared.job.Job.{Job}
 use Rattle.st_words.specs.Grammar.{Text, option_names}
-use Rattle.st_words.specs.Jobs.{job_asked}
+use Rattle.st_words.specs.Jobs.{given_by, job_of, job_asked}
 use Rattle.st_words.specs.CommandLine.{flat_app, job_found}
 use Rattle.st_words.proofs.Rules.{flat_shape, flat_is_built}
 use Rattle.st_words.proofs.Reading.{NamedText, has_name, text_of, reads}
@@ -48,14 +48,14 @@ no_text name [] h = refl
 no_text name (p ∷ said) h = no_text_first (bytes_eq p.0 name) p name said refl (no_text name said) h
 
 abbrev job_rows : List Row → Option Job
-job_rows rows = job_texts (first_of (codes "form") rows) (first_of (codes "pods") rows) (first_of (codes "seed") rows) (first_of (codes "command") rows)
+job_rows rows = job_texts (λ name. first_of name rows)
 
 rows_job : (said : List NamedText) → job_rows (rows_for said) ≡ job_from said
-rows_job said = λ i. job_texts (text_is (codes "form") said i) (text_is (codes "pods") said i) (text_is (codes "seed") said i) (text_is (codes "command") said i)
+rows_job said = λ i. job_texts (λ name. text_is name said i)
 
 complete_by : (b : Bool) (said : List NamedText) → has_name (codes "command") said ≡ b → option_and_then job_rows (complete option_names said) ≡ job_from said
 complete_by true said e = rw e (rows_job said)
-complete_by false said e = rw e (sym (ap (job_texts (text_of (codes "form") said) (text_of (codes "pods") said) (text_of (codes "seed") said)) (no_text (codes "command") said e)))
+complete_by false said e = rw e (sym (ap (λ c. job_of (given_by (λ name. option_to_list (text_of name said))) (option_to_list c)) (no_text (codes "command") said e)))
 
 spelled_job : (read : Option (List NamedText)) → option_and_then job_rows (option_and_then (complete option_names) read) ≡ option_and_then job_from read
 spelled_job None = refl
@@ -66,7 +66,7 @@ asked words = ap (option_and_then job_rows) (outcome words) ∙ spelled_job (rea
 
 pub asked_ok : (words : List Text) (f : Found) → fault_of flat_app words ≡ [] → rows_of f ≡ matches_of flat_app words → job_found f ≡ job_asked words
 asked_ok words f fine rows =
-    (λ i. job_texts (first_value-rows f (codes "form") i) (first_value-rows f (codes "pods") i) (first_value-rows f (codes "seed") i) (first_value-rows f (codes "command") i))
+    (λ i. job_texts (λ name. first_value-rows f name i))
     ∙ ap job_rows rows ∙ sym (ap (λ k. option_and_then job_rows (unless k (Some (matches_of flat_app words)))) fine) ∙ asked words
 
 refused_by : (kinds : Kinds) (k : ErrorKind) (rows : List Row) → IsAmong k kinds → None ≡ option_and_then job_rows (unless kinds (Some rows))

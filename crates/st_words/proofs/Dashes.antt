@@ -1,49 +1,30 @@
 -- What `clap` takes beyond the grammar, a text that begins with a dash and is no flag to it, asks for no job.
-use Rattle.std.proofs.Common.{◌≡◌, ◌∙◌, ◌||◌, ◌++◌, ◌==◌, ℕ, Bool, true, false, cond, List, [], ◌∷◌, ap, sym, refl, subst, codes, true≢false, Option, Some, None}
+use Rattle.std.proofs.Common.{◌≡◌, ◌++◌, ◌==◌, ◌∙◌, ℕ, Bool, true, false, cond, List, [], ◌∷◌, ap, sym, refl, codes, true≢false, Option, Some, None}
 use Rattle.std.specs.Prelude.{option_and_then, option_to_list}
 use Rattle.std.specs.Str.{bytes_eq}
 use Rattle.st_words.specs.declared.job.Job.{Job}
 use Rattle.st_words.specs.Grammar.{Text, is_among, is_option, option_names, begins_with_dash, name_in, value_in}
-use Rattle.st_words.specs.Jobs.{job_of}
+use Rattle.st_words.specs.Jobs.{given_by, job_of}
 use Rattle.st_words.proofs.Reading.{NamedText, has_name, with_text, text_of, option_read, reads}
-use Rattle.st_words.proofs.Refusals.{forms_refused, pods_refused, seeds_refused, is_dashed, dashed_given, dashed_form, dashed_pods, dashed_seed, dashed_command}
+use Rattle.st_words.proofs.Refusals.{is_dashed, bad_values, bad_commands}
 use Rattle.st_words.proofs.Rules.{same_text, bytes_eq-self}
 use Rattle.st_words.proofs.Looks.{Looks, looks, is_flag, flag_two, flag_long, flag_short, no_flag, two_dashes, named, unnamed, bundled, dashed, plain}
 
 -- what one text for each option, or none, and one command ask for
-abbrev pub job_texts : Option Text → Option Text → Option Text → Option Text → Option Job
-job_texts form pods seed command = job_of (option_to_list form) (option_to_list pods) (option_to_list seed) (option_to_list command)
+abbrev pub job_texts : (Text → Option Text) → Option Job
+job_texts text = job_of (given_by (λ name. option_to_list (text name))) (option_to_list (text (codes "command")))
 
 abbrev pub job_from : List NamedText → Option Job
-job_from said = job_texts (text_of (codes "form") said) (text_of (codes "pods") said) (text_of (codes "seed") said) (text_of (codes "command") said)
+job_from said = job_texts (λ name. text_of name said)
 
 -- one of the texts begins with a dash
 pub data Bad (said : List NamedText) : Type 0 where
-  in_form : is_dashed (text_of (codes "form") said) ≡ true → Bad said
-  in_pods : is_dashed (text_of (codes "pods") said) ≡ true → Bad said
-  in_seed : is_dashed (text_of (codes "seed") said) ≡ true → Bad said
+  in_option : (name : Text) → is_among name option_names ≡ true → is_dashed (text_of name said) ≡ true → Bad said
   in_word : is_dashed (text_of (codes "command") said) ≡ true → Bad said
 
-form_none : (form pods seed command : Option Text) → is_dashed form ≡ true → job_texts form pods seed command ≡ None
-form_none form pods seed command e =
-    forms_refused (option_to_list form) (option_to_list pods) (option_to_list seed) (option_to_list command) (dashed_given form e) (dashed_form form e)
-
-pods_none : (form pods seed command : Option Text) → is_dashed pods ≡ true → job_texts form pods seed command ≡ None
-pods_none form pods seed command e =
-    pods_refused (option_to_list form) (option_to_list pods) (option_to_list seed) (option_to_list command) (dashed_given pods e) (dashed_pods pods e)
-
-seed_none : (form pods seed command : Option Text) → is_dashed seed ≡ true → job_texts form pods seed command ≡ None
-seed_none form pods seed command e =
-    seeds_refused (option_to_list form) (option_to_list pods) (option_to_list seed) (option_to_list command) (dashed_given seed e) (dashed_seed seed e)
-
-command_none : (form pods seed command : Option Text) → is_dashed command ≡ true → job_texts form pods seed command ≡ None
-command_none form pods seed command e = dashed_command (option_to_list form) (option_to_list pods) (option_to_list seed) command e
-
 bad_job : (said : List NamedText) → Bad said → job_from said ≡ None
-bad_job said (in_form e) = form_none (text_of (codes "form") said) (text_of (codes "pods") said) (text_of (codes "seed") said) (text_of (codes "command") said) e
-bad_job said (in_pods e) = pods_none (text_of (codes "form") said) (text_of (codes "pods") said) (text_of (codes "seed") said) (text_of (codes "command") said) e
-bad_job said (in_seed e) = seed_none (text_of (codes "form") said) (text_of (codes "pods") said) (text_of (codes "seed") said) (text_of (codes "command") said) e
-bad_job said (in_word e) = command_none (text_of (codes "form") said) (text_of (codes "pods") said) (text_of (codes "seed") said) (text_of (codes "command") said) e
+bad_job said (in_option name among dash) = bad_values (λ n. option_to_list (text_of n said)) (option_to_list (text_of (codes "command") said)) name among dash
+bad_job said (in_word dash) = bad_commands (given_by (λ n. option_to_list (text_of n said))) (option_to_list (text_of (codes "command") said)) dash
 
 dashed_first : (b : Bool) (q : NamedText) (name : Text) (said : List NamedText) (p : NamedText) → bytes_eq q.0 name ≡ b
     → (is_dashed (text_of name said) ≡ true → is_dashed (text_of name (said ++ p ∷ [])) ≡ true)
@@ -56,10 +37,8 @@ dashed_stays name [] p h = absurd (true≢false (sym h))
 dashed_stays name (q ∷ said) p h = dashed_first (bytes_eq q.0 name) q name said p refl (dashed_stays name said p) h
 
 bad_stays : (said : List NamedText) (p : NamedText) → Bad said → Bad (said ++ p ∷ [])
-bad_stays said p (in_form e) = in_form (dashed_stays (codes "form") said p e)
-bad_stays said p (in_pods e) = in_pods (dashed_stays (codes "pods") said p e)
-bad_stays said p (in_seed e) = in_seed (dashed_stays (codes "seed") said p e)
-bad_stays said p (in_word e) = in_word (dashed_stays (codes "command") said p e)
+bad_stays said p (in_option name among dash) = in_option name among (dashed_stays name said p dash)
+bad_stays said p (in_word dash) = in_word (dashed_stays (codes "command") said p dash)
 
 abbrev pub job_then : Option (List NamedText) → Option Job
 job_then = option_and_then job_from
@@ -96,10 +75,6 @@ module _ (dash : Text → Bool) where
       (none_of_jobs (dash word) None _ refl
       (more_bad (has_name (codes "command") said) (λ more. reads dash option_names None false more rest) said (codes "command", word) (bad_reads rest None false _) (bad_stays said (codes "command", word) bad))))
 
-or_false : (b : Bool) → (b || false) ≡ b
-or_false true = refl
-or_false false = refl
-
 -- the word of an option begins with a dash
 dashed_if : (d : Bool) (b : ℕ) (rest : Text) → (b == 45) ≡ d → is_option option_names (b ∷ rest) ≡ true → begins_with_dash (b ∷ rest) ≡ true
 dashed_if true b rest e h = e
@@ -122,19 +97,6 @@ bad_text_last name text (q ∷ said) e = last_first (bytes_eq q.0 name) q name t
 dashed_last : (name text : Text) (said : List NamedText) → has_name name said ≡ false → begins_with_dash text ≡ true → is_dashed (text_of name (said ++ (name, text) ∷ [])) ≡ true
 dashed_last name text said none dash = ap is_dashed (bad_text_last name text said none) ∙ dash
 
-bad_at : (a b : Bool) (name text : Text) (said : List NamedText) → bytes_eq (codes "form") name ≡ a → bytes_eq (codes "pods") name ≡ b → is_among name option_names ≡ true
-    → has_name name said ≡ false → begins_with_dash text ≡ true → Bad (said ++ (name, text) ∷ [])
-bad_at true b name text said e f among none dash =
-    let same : codes "form" ≡ name = same_text (codes "form") name e in
-    in_form (subst (λ (n : Text). is_dashed (text_of n (said ++ (name, text) ∷ [])) ≡ true) (sym same) (dashed_last name text said none dash))
-bad_at false true name text said e f among none dash =
-    let same : codes "pods" ≡ name = same_text (codes "pods") name f in
-    in_pods (subst (λ (n : Text). is_dashed (text_of n (said ++ (name, text) ∷ [])) ≡ true) (sym same) (dashed_last name text said none dash))
-bad_at false false name text said e f among none dash =
-    let left : (bytes_eq (codes "seed") name || false) ≡ true = rw (e, f) at among in
-    let same : codes "seed" ≡ name = same_text (codes "seed") name (sym (or_false (bytes_eq (codes "seed") name)) ∙ left) in
-    in_seed (subst (λ (n : Text). is_dashed (text_of n (said ++ (name, text) ∷ [])) ≡ true) (sym same) (dashed_last name text said none dash))
-
 -- a part that begins with a dash asks for nothing
 word_asks_none : (b : Bool) (text : Text) (rest : List Text) (said : List NamedText) → has_name (codes "command") said ≡ b → begins_with_dash text ≡ true
     → job_then (option_and_then (λ more. reads is_flag option_names None false more rest) (with_text (codes "command", text) said)) ≡ None
@@ -144,7 +106,7 @@ word_asks_none false text rest said e dash = rw e (bad_reads is_flag rest None f
 option_asks_none : (b : Bool) (name text : Text) (rest : List Text) (said : List NamedText) → has_name name said ≡ b → is_among name option_names ≡ true → begins_with_dash text ≡ true
     → job_then (option_and_then (λ more. reads is_flag option_names None false more rest) (with_text (name, text) said)) ≡ None
 option_asks_none true name text rest said e among dash = rw e refl
-option_asks_none false name text rest said e among dash = rw e (bad_reads is_flag rest None false _ (bad_at (bytes_eq (codes "form") name) (bytes_eq (codes "pods") name) name text said refl refl among e dash))
+option_asks_none false name text rest said e among dash = rw e (bad_reads is_flag rest None false _ (in_option name among (dashed_last name text said e dash)))
 
 then_same : (o : Option (List NamedText)) (f g : List NamedText → Option (List NamedText)) → ((more : List NamedText) → job_then (f more) ≡ job_then (g more)) → job_then (option_and_then f o) ≡ job_then (option_and_then g o)
 then_same None f g same = refl

@@ -1,6 +1,7 @@
 pub mod Rules
 pub mod Looks
 pub mod Reading
+pub mod Names
 pub mod Walks
 pub mod Refusals
 pub mod Dashes

@@ -1,14 +1,15 @@
 -- A name that comes again is refused at once where `clap` walks, and by the whole list of parts in the grammar: both ask for the same job.
-use Rattle.std.proofs.Common.{◌≡◌, ◌∙◌, ◌||◌, ◌++◌, Bool, true, false, cond, List, [], ◌∷◌, map, take, ap, sym, refl, subst, codes, true≢false, Option, Some, None}
+use Rattle.std.proofs.Common.{◌≡◌, ◌∙◌, ◌++◌, Bool, true, false, cond, List, [], ◌∷◌, map, take, ap, sym, refl, codes, true≢false, Option, Some, None}
 use Rattle.std.proofs.lemmas.List.{append-nil, append_assoc}
 use Rattle.std.specs.Prelude.{option_and_then, option_to_list}
 use Rattle.std.specs.Str.{bytes_eq}
 use Rattle.st_words.specs.declared.job.Job.{Job}
 use Rattle.st_words.specs.Grammar.{Text, Part, option, further, option_names, is_among, is_option, begins_with_dash, name_in, value_in, and_then, parts_from, values_of, further_words}
-use Rattle.st_words.specs.Jobs.{job_of, job_asked}
+use Rattle.st_words.specs.Jobs.{given_by, job_of, job_asked}
 use Rattle.st_words.proofs.Reading.{NamedText, has_name, with_text, text_of, reads}
-use Rattle.st_words.proofs.Refusals.{forms_refused, pods_refused, seeds_refused, has_two, two_given, two_forms, two_pods, two_seeds, two_commands}
-use Rattle.st_words.proofs.Rules.{same_text}
+use Rattle.st_words.proofs.Names.{by_name, given_same}
+use Rattle.st_words.proofs.Refusals.{is_bad, bad_values, bad_commands}
+use Rattle.st_words.proofs.Rules.{same_text, bytes_eq-self}
 use Rattle.st_words.proofs.Dashes.{job_then, job_from}
 
 -- ---- the texts under a name
@@ -36,17 +37,17 @@ no_texts : (name : Text) (said : List NamedText) → has_name name said ≡ fals
 no_texts name [] h = refl
 no_texts name (q ∷ said) h = no_texts_first (bytes_eq q.0 name) q name said refl (no_texts name said) h
 
-two_first : (a v : Text) (xs vs : List Text) → has_two (a ∷ (xs ++ v ∷ vs)) ≡ true
+two_first : (a v : Text) (xs vs : List Text) → is_bad (a ∷ (xs ++ v ∷ vs)) ≡ true
 two_first a v [] vs = refl
 two_first a v (x ∷ xs) vs = refl
 
 two_texts_first : (b : Bool) (q : NamedText) (name : Text) (said : List NamedText) (v : Text) (vs : List Text) → bytes_eq q.0 name ≡ b
-    → (has_name name said ≡ true → has_two (texts_of name said ++ v ∷ vs) ≡ true) → has_name name (q ∷ said) ≡ true → has_two (texts_of name (q ∷ said) ++ v ∷ vs) ≡ true
+    → (has_name name said ≡ true → is_bad (texts_of name said ++ v ∷ vs) ≡ true) → has_name name (q ∷ said) ≡ true → is_bad (texts_of name (q ∷ said) ++ v ∷ vs) ≡ true
 two_texts_first true q name said v vs e later h = rw e (two_first q.1 v (texts_of name said) vs)
 two_texts_first false q name said v vs e later h = rw e (later (rw e at h))
 
 -- one more text under a name that has one
-two_texts : (name : Text) (said : List NamedText) (v : Text) (vs : List Text) → has_name name said ≡ true → has_two (texts_of name said ++ v ∷ vs) ≡ true
+two_texts : (name : Text) (said : List NamedText) (v : Text) (vs : List Text) → has_name name said ≡ true → is_bad (texts_of name said ++ v ∷ vs) ≡ true
 two_texts name [] v vs h = absurd (true≢false (sym h))
 two_texts name (q ∷ said) v vs h = two_texts_first (bytes_eq q.0 name) q name said v vs refl (two_texts name said v vs) h
 
@@ -106,7 +107,7 @@ abbrev pub words_after : List NamedText → List Part → List Text
 words_after said parts = texts_of (codes "command") said ++ further_words parts
 
 abbrev pub asked_after : List NamedText → List Part → Option Job
-asked_after said parts = job_of (values_after (codes "form") said parts) (values_after (codes "pods") said parts) (values_after (codes "seed") said parts) (words_after said parts)
+asked_after said parts = job_of (given_by (λ name. values_after name said parts)) (words_after said parts)
 
 abbrev pub job_after : List NamedText → Option (List Part) → Option Job
 job_after said parts = option_and_then (asked_after said) parts
@@ -125,7 +126,7 @@ nothing_to_come : (name : Text) (said : List NamedText) → IsOnce said → opti
 nothing_to_come name said once = sym (append-nil (texts_of name said) ∙ once.each name)
 
 at_end : (said : List NamedText) → IsOnce said → job_from said ≡ asked_after said []
-at_end said once = λ i. job_of (nothing_to_come (codes "form") said once i) (nothing_to_come (codes "pods") said once i) (nothing_to_come (codes "seed") said once i) (nothing_to_come (codes "command") said once i)
+at_end said once = λ i. job_of (given_by (λ name. nothing_to_come name said once i)) (nothing_to_come (codes "command") said once i)
 
 -- ---- one more further word
 
@@ -134,16 +135,20 @@ no_value : (name : Text) (word : Text) (said : List NamedText) (ps : List Part) 
 no_value name word said ps other =
     ap (λ ts. ts ++ values_of name ps) (texts_last name said (codes "command", word) ∙ ap (λ b. texts_of name said ++ cond b (word ∷ []) []) other ∙ append-nil (texts_of name said))
 
+other_name_than_command : (name : Text) → is_among name option_names ≡ true → bytes_eq (codes "command") name ≡ false
+other_name_than_command name among = by_name (λ n. bytes_eq (codes "command") n ≡ false) name among refl refl refl refl
+
 word_moved : (word : Text) (said : List NamedText) (ps : List Part) → asked_after (said ++ (codes "command", word) ∷ []) ps ≡ asked_after said (further word ∷ ps)
 word_moved word said ps =
     let words : texts_of (codes "command") (said ++ (codes "command", word) ∷ []) ++ further_words ps ≡ texts_of (codes "command") said ++ further_words (further word ∷ ps)
     = ap (λ ts. ts ++ further_words ps) (texts_last (codes "command") said (codes "command", word)) ∙ append_assoc (texts_of (codes "command") said) (word ∷ []) (further_words ps) in
-    λ i. job_of (no_value (codes "form") word said ps refl i) (no_value (codes "pods") word said ps refl i) (no_value (codes "seed") word said ps refl i) (words i)
+    let given = given_same (λ name. values_after name (said ++ (codes "command", word) ∷ []) ps) (λ name. values_after name said ps)
+    (λ name among. no_value name word said ps (other_name_than_command name among)) in
+    λ i. job_of (given i) (words i)
 
 spent_word : (said : List NamedText) (word : Text) (ps : List Part) → has_name (codes "command") said ≡ true → asked_after said (further word ∷ ps) ≡ None
 spent_word said word ps e =
-    two_commands (values_after (codes "form") said ps) (values_after (codes "pods") said ps) (values_after (codes "seed") said ps) (words_after said (further word ∷ ps))
-    (two_texts (codes "command") said word (further_words ps) e)
+    bad_commands (given_by (λ name. values_after name said ps)) (words_after said (further word ∷ ps)) (two_texts (codes "command") said word (further_words ps) e)
 
 word_by : (b : Bool) (word : Text) (said : List NamedText) (f : List NamedText → Option (List NamedText)) (parts : Option (List Part)) → has_name (codes "command") said ≡ b → IsOnce said
     → ((more : List NamedText) → IsOnce more → job_then (f more) ≡ job_after more parts)
@@ -171,64 +176,21 @@ no_command n value said ps other =
 
 option_moved : (n value : Text) (said : List NamedText) (ps : List Part) → bytes_eq n (codes "command") ≡ false → asked_after (said ++ (n, value) ∷ []) ps ≡ asked_after said (option n value ∷ ps)
 option_moved n value said ps other =
-    λ i. job_of (value_moved (codes "form") n value said ps i) (value_moved (codes "pods") n value said ps i) (value_moved (codes "seed") n value said ps i) (no_command n value said ps other i)
+    λ i. job_of (given_by (λ name. value_moved name n value said ps i)) (no_command n value said ps other i)
 
-or_false : (b : Bool) → (b || false) ≡ b
-or_false true = refl
-or_false false = refl
-
--- an option's name is one of the three
-pub data IsName (name : Text) : Type 0 where
-  is_form : codes "form" ≡ name → IsName name
-  is_pods : codes "pods" ≡ name → IsName name
-  is_seed : codes "seed" ≡ name → IsName name
-
-name_by : (a b : Bool) (name : Text) → bytes_eq (codes "form") name ≡ a → bytes_eq (codes "pods") name ≡ b → is_among name option_names ≡ true → IsName name
-name_by true b name e f among = is_form (same_text (codes "form") name e)
-name_by false true name e f among = is_pods (same_text (codes "pods") name f)
-name_by false false name e f among =
-    let left : (bytes_eq (codes "seed") name || false) ≡ true = rw (e, f) at among in
-    is_seed (same_text (codes "seed") name (sym (or_false (bytes_eq (codes "seed") name)) ∙ left))
-
-pub name_of : (name : Text) → is_among name option_names ≡ true → IsName name
-name_of name among = name_by (bytes_eq (codes "form") name) (bytes_eq (codes "pods") name) name refl refl among
-
-apart : (name : Text) → IsName name → bytes_eq name (codes "command") ≡ false
-apart name (is_form e) = subst (λ (n : Text). bytes_eq n (codes "command") ≡ false) e refl
-apart name (is_pods e) = subst (λ (n : Text). bytes_eq n (codes "command") ≡ false) e refl
-apart name (is_seed e) = subst (λ (n : Text). bytes_eq n (codes "command") ≡ false) e refl
-
-abbrev IsSpent : Text → List NamedText → Type 0
-IsSpent name said = has_name name said ≡ true → (value : Text) (ps : List Part) → asked_after said (option name value ∷ ps) ≡ None
-
-spent_form : (said : List NamedText) → IsSpent (codes "form") said
-spent_form said e value ps =
-    let two : has_two (values_after (codes "form") said (option (codes "form") value ∷ ps)) ≡ true = two_texts (codes "form") said value (values_of (codes "form") ps) e in
-    forms_refused (values_after (codes "form") said (option (codes "form") value ∷ ps)) (values_after (codes "pods") said (option (codes "form") value ∷ ps)) (values_after (codes "seed") said (option (codes "form") value ∷ ps))
-    (words_after said ps) (two_given (values_after (codes "form") said (option (codes "form") value ∷ ps)) two) (two_forms (values_after (codes "form") said (option (codes "form") value ∷ ps)) two)
-
-spent_pods : (said : List NamedText) → IsSpent (codes "pods") said
-spent_pods said e value ps =
-    let two : has_two (values_after (codes "pods") said (option (codes "pods") value ∷ ps)) ≡ true = two_texts (codes "pods") said value (values_of (codes "pods") ps) e in
-    pods_refused (values_after (codes "form") said (option (codes "pods") value ∷ ps)) (values_after (codes "pods") said (option (codes "pods") value ∷ ps)) (values_after (codes "seed") said (option (codes "pods") value ∷ ps))
-    (words_after said ps) (two_given (values_after (codes "pods") said (option (codes "pods") value ∷ ps)) two) (two_pods (values_after (codes "pods") said (option (codes "pods") value ∷ ps)) two)
-
-spent_seed : (said : List NamedText) → IsSpent (codes "seed") said
-spent_seed said e value ps =
-    let two : has_two (values_after (codes "seed") said (option (codes "seed") value ∷ ps)) ≡ true = two_texts (codes "seed") said value (values_of (codes "seed") ps) e in
-    seeds_refused (values_after (codes "form") said (option (codes "seed") value ∷ ps)) (values_after (codes "pods") said (option (codes "seed") value ∷ ps)) (values_after (codes "seed") said (option (codes "seed") value ∷ ps))
-    (words_after said ps) (two_given (values_after (codes "seed") said (option (codes "seed") value ∷ ps)) two) (two_seeds (values_after (codes "seed") said (option (codes "seed") value ∷ ps)) two)
+apart : (name : Text) → is_among name option_names ≡ true → bytes_eq name (codes "command") ≡ false
+apart name among = by_name (λ n. bytes_eq n (codes "command") ≡ false) name among refl refl refl refl
 
 -- an option that comes again
-spent : (name : Text) (said : List NamedText) → IsName name → IsSpent name said
-spent name said (is_form e) = subst (λ (n : Text). IsSpent n said) e (spent_form said)
-spent name said (is_pods e) = subst (λ (n : Text). IsSpent n said) e (spent_pods said)
-spent name said (is_seed e) = subst (λ (n : Text). IsSpent n said) e (spent_seed said)
+spent : (name value : Text) (said : List NamedText) (ps : List Part) → is_among name option_names ≡ true → has_name name said ≡ true → asked_after said (option name value ∷ ps) ≡ None
+spent name value said ps among e =
+    bad_values (λ n. values_after n said (option name value ∷ ps)) (words_after said ps) name among
+    (rw (bytes_eq-self name) (two_texts name said value (values_of name ps) e))
 
-option_by : (b : Bool) (name value : Text) (said : List NamedText) (f : List NamedText → Option (List NamedText)) (parts : Option (List Part)) → has_name name said ≡ b → IsName name → IsOnce said
-    → ((more : List NamedText) → IsOnce more → job_then (f more) ≡ job_after more parts)
+option_by : (b : Bool) (name value : Text) (said : List NamedText) (f : List NamedText → Option (List NamedText)) (parts : Option (List Part)) → has_name name said ≡ b → is_among name option_names ≡ true
+    → IsOnce said → ((more : List NamedText) → IsOnce more → job_then (f more) ≡ job_after more parts)
     → job_then (option_and_then f (with_text (name, value) said)) ≡ job_after said (and_then (option name value) parts)
-option_by true name value said f parts e among once later = rw e (none_after said (option name value) parts (spent name said among e value))
+option_by true name value said f parts e among once later = rw e (none_after said (option name value) parts (λ ps. spent name value said ps among e))
 option_by false name value said f parts e among once later =
     rw e (later (said ++ (name, value) ∷ []) (once_more said (name, value) e once)
     ∙ moved said (name, value) (option name value) parts (λ ps. option_moved name value said ps (apart name among)))
@@ -256,7 +218,7 @@ module _ (word : Text) (rest : List Text) (later : AsksAll rest) where
       → job_then (by_dash (Some name) false said (word ∷ rest)) ≡ job_after said (parts_from (Some name) (word ∷ rest))
   waits_by true name said dash among once = rw dash refl
   waits_by false name said dash among once =
-      rw dash (option_by (has_name name said) name word said (λ more. by_dash None false more rest) (parts_from None rest) refl (name_of name among) once later.between)
+      rw dash (option_by (has_name name said) name word said (λ more. by_dash None false more rest) (parts_from None rest) refl among once later.between)
 
   plain_by : (dash : Bool) (said : List NamedText) → begins_with_dash word ≡ dash → bytes_eq word (codes "--") ≡ false → is_option option_names word ≡ false → IsOnce said
       → job_then (by_dash None false said (word ∷ rest)) ≡ job_after said (parts_from None (word ∷ rest))
@@ -270,7 +232,7 @@ module _ (word : Text) (rest : List Text) (later : AsksAll rest) where
       rw (two, opt, val) (later.waits (name_in word) said (among_of (bytes_eq (take 2 word) (codes "--")) word refl opt) once)
   valued_by (Some value) said val two opt once =
       rw (two, opt, val) (option_by (has_name (name_in word) said) (name_in word) value said (λ more. by_dash None false more rest) (parts_from None rest) refl
-      (name_of (name_in word) (among_of (bytes_eq (take 2 word) (codes "--")) word refl opt)) once later.between)
+      (among_of (bytes_eq (take 2 word) (codes "--")) word refl opt) once later.between)
 
   between_by : (two opt : Bool) (said : List NamedText) → bytes_eq word (codes "--") ≡ two → is_option option_names word ≡ opt → IsOnce said
       → job_then (by_dash None false said (word ∷ rest)) ≡ job_after said (parts_from None (word ∷ rest))

@@ -81,6 +81,9 @@ flat_is_free = refl
 pub same_text : (xs ys : Text) → bytes_eq xs ys ≡ true → xs ≡ ys
 same_text xs ys h = grind (arith, bytes_eq-Decides xs ys)
 
+pub other_text : (xs ys : Text) → (xs ≡ ys → ⊥) → bytes_eq xs ys ≡ false
+other_text xs ys h = grind (arith, bytes_eq-Decides xs ys)
+
 pub bytes_eq-self : (xs : Text) → bytes_eq xs xs ≡ true
 bytes_eq-self xs = grind (arith, bytes_eq-Decides xs xs)
 

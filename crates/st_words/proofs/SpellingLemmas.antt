@@ -8,19 +8,17 @@ use Rattle.st_words.specs.Grammar.{Text, Part, option, further, option_names, is
 use Rattle.st_words.specs.Spelling.{Spells, no_words, option_in_one, option_in_two, one_further, words_behind, flag, flag_with}
 use Rattle.st_words.specs.Laws.{ReadsSpellings, ReadsSpellingsAlone}
 use Rattle.st_words.proofs.Rules.{same_text}
-use Rattle.st_words.proofs.Once.{IsName, is_form, is_pods, is_seed, name_of, among_of}
+use Rattle.st_words.proofs.Names.{by_name}
+use Rattle.st_words.proofs.Once.{among_of}
 
 -- ---- what is spelled is read
 
-one_read : (name value : Text) (words : List Text) → IsName name → parts_of (flag_with name value ∷ words) ≡ and_then (option name value) (parts_of words)
-one_read name value words (is_form e) = subst (λ (n : Text). parts_of (flag_with n value ∷ words) ≡ and_then (option n value) (parts_of words)) e refl
-one_read name value words (is_pods e) = subst (λ (n : Text). parts_of (flag_with n value ∷ words) ≡ and_then (option n value) (parts_of words)) e refl
-one_read name value words (is_seed e) = subst (λ (n : Text). parts_of (flag_with n value ∷ words) ≡ and_then (option n value) (parts_of words)) e refl
+one_read : (name value : Text) (words : List Text) → is_among name option_names ≡ true → parts_of (flag_with name value ∷ words) ≡ and_then (option name value) (parts_of words)
+one_read name value words among = by_name (λ n. parts_of (flag_with n value ∷ words) ≡ and_then (option n value) (parts_of words)) name among refl refl refl refl
 
-two_read : (name value : Text) (words : List Text) → IsName name → begins_with_dash value ≡ false → parts_of (flag name ∷ value ∷ words) ≡ and_then (option name value) (parts_of words)
-two_read name value words (is_form e) dash = subst (λ (n : Text). parts_of (flag n ∷ value ∷ words) ≡ and_then (option n value) (parts_of words)) e (rw dash refl)
-two_read name value words (is_pods e) dash = subst (λ (n : Text). parts_of (flag n ∷ value ∷ words) ≡ and_then (option n value) (parts_of words)) e (rw dash refl)
-two_read name value words (is_seed e) dash = subst (λ (n : Text). parts_of (flag n ∷ value ∷ words) ≡ and_then (option n value) (parts_of words)) e (rw dash refl)
+two_read : (name value : Text) (words : List Text) → is_among name option_names ≡ true → begins_with_dash value ≡ false → parts_of (flag name ∷ value ∷ words) ≡ and_then (option name value) (parts_of words)
+two_read name value words among dash =
+    by_name (λ n. parts_of (flag n ∷ value ∷ words) ≡ and_then (option n value) (parts_of words)) name among (rw dash refl) (rw dash refl) (rw dash refl) (rw dash refl)
 
 further_read : (word : Text) (words : List Text) → begins_with_dash word ≡ false → parts_of (word ∷ words) ≡ and_then (further word) (parts_of words)
 further_read [] words dash = refl
@@ -28,8 +26,8 @@ further_read (b ∷ rest) words dash = rw dash refl
 
 pub spelled_read : ReadsSpellings
 spelled_read words parts no_words = refl
-spelled_read words parts (option_in_one name value rest more among spells) = one_read name value rest (name_of name among) ∙ ap (and_then (option name value)) (spelled_read rest more spells)
-spelled_read words parts (option_in_two name value rest more among dash spells) = two_read name value rest (name_of name among) dash ∙ ap (and_then (option name value)) (spelled_read rest more spells)
+spelled_read words parts (option_in_one name value rest more among spells) = one_read name value rest among ∙ ap (and_then (option name value)) (spelled_read rest more spells)
+spelled_read words parts (option_in_two name value rest more among dash spells) = two_read name value rest among dash ∙ ap (and_then (option name value)) (spelled_read rest more spells)
 spelled_read words parts (one_further word rest more dash spells) = further_read word rest dash ∙ ap (and_then (further word)) (spelled_read rest more spells)
 spelled_read words parts (words_behind rest) = refl
 

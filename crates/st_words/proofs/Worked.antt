@@ -1,10 +1,10 @@
 -- Lists of words, computed: what the grammar takes, and for each of its rules words that break this rule and no other.
-use Rattle.std.proofs.Common.{◌≡◌, List, [], ◌∷◌, refl, codes, Some, None}
+use Rattle.std.proofs.Common.{◌≡◌, true, false, List, [], ◌∷◌, refl, codes, Some, None}
 use Rattle.st_words.specs.declared.job.Form.TheVariants as form
 use Rattle.st_words.specs.declared.job.Pods.TheVariants.{Four, Ten}
-use Rattle.st_words.specs.declared.job.Job.TheVariants.{Serial, Run, Replay, Check, Gen, Demo}
+use Rattle.st_words.specs.declared.job.Job.TheVariants.{Serial, Run, Replay, Check, Roll, Revert, Gen, Demo}
 use Rattle.st_words.specs.Grammar.{Text, option, further, parts_of}
-use Rattle.st_words.specs.Jobs.{job_asked}
+use Rattle.st_words.specs.Jobs.{only, job_asked}
 
 -- lists of one to four words
 abbrev one : Text → List Text
@@ -45,6 +45,15 @@ demo_of_ten = refl
 greatest_seed : job_asked (two (codes "gen") (codes "--seed=4294967295")) ≡ Some (Gen (record { pods = Four; seed = 4294967295 }))
 greatest_seed = refl
 
+roll_to : job_asked (three (codes "roll") (codes "--to") (codes "2")) ≡ Some (Roll 2)
+roll_to = refl
+
+revert_to_the_opening : job_asked (two (codes "--to=0") (codes "revert")) ≡ Some (Revert 0)
+revert_to_the_opening = refl
+
+greatest_number_to : job_asked (two (codes "revert") (codes "--to=4294967295")) ≡ Some (Revert 4294967295)
+greatest_number_to = refl
+
 command_behind_dashes : job_asked (three (codes "--form=text") (codes "--") (codes "serial")) ≡ Some (Serial form.Text)
 command_behind_dashes = refl
 
@@ -61,6 +70,12 @@ pods_twice = refl
 
 seed_in_both_spellings : job_asked (codes "gen" ∷ codes "--seed" ∷ codes "0" ∷ codes "--seed=0" ∷ []) ≡ None
 seed_in_both_spellings = refl
+
+to_twice : job_asked (three (codes "roll") (codes "--to=1") (codes "--to=1")) ≡ None
+to_twice = refl
+
+to_in_both_spellings : job_asked (codes "revert" ∷ codes "--to" ∷ codes "1" ∷ codes "--to=2" ∷ []) ≡ None
+to_in_both_spellings = refl
 
 -- ---- exactly one further word, and a command
 
@@ -84,6 +99,12 @@ no_such_command = refl
 
 help_is_no_command : job_asked (one (codes "help")) ≡ None
 help_is_no_command = refl
+
+two_commands_to : job_asked (three (codes "roll") (codes "revert") (codes "--to=1")) ≡ None
+two_commands_to = refl
+
+number_as_a_further_word : job_asked (two (codes "roll") (codes "2")) ≡ None
+number_as_a_further_word = refl
 
 command_in_capitals : job_asked (one (codes "Serial")) ≡ None
 command_in_capitals = refl
@@ -113,6 +134,12 @@ dash_alone = refl
 
 value_left_out : job_asked (two (codes "serial") (codes "--form")) ≡ None
 value_left_out = refl
+
+number_left_out : job_asked (two (codes "roll") (codes "--to")) ≡ None
+number_left_out = refl
+
+lengthened_option : job_asked (two (codes "roll") (codes "--too=1")) ≡ None
+lengthened_option = refl
 
 -- a value of its own does not begin with a dash, not even as a part
 dashed_value_in_one_word : parts_of (one (codes "--form=-")) ≡ Some (option (codes "form") (codes "-") ∷ [])
@@ -170,7 +197,52 @@ seed_with_a_sign = refl
 empty_seed : job_asked (two (codes "gen") (codes "--seed=")) ≡ None
 empty_seed = refl
 
+to_past_its_range : job_asked (two (codes "roll") (codes "--to=4294967296")) ≡ None
+to_past_its_range = refl
+
+to_past_its_range_in_revert : job_asked (two (codes "revert") (codes "--to=4294967296")) ≡ None
+to_past_its_range_in_revert = refl
+
+to_with_a_zero : job_asked (two (codes "roll") (codes "--to=02")) ≡ None
+to_with_a_zero = refl
+
+to_with_a_sign : job_asked (two (codes "revert") (codes "--to=+1")) ≡ None
+to_with_a_sign = refl
+
+to_in_letters : job_asked (two (codes "roll") (codes "--to=two")) ≡ None
+to_in_letters = refl
+
+empty_to : job_asked (two (codes "revert") (codes "--to=")) ≡ None
+empty_to = refl
+
+-- ---- an option that has to be given
+
+roll_without_to : job_asked (one (codes "roll")) ≡ None
+roll_without_to = refl
+
+revert_without_to : job_asked (one (codes "revert")) ≡ None
+revert_without_to = refl
+
 -- ---- which options go with which command
+
+-- `only` asks of each option that is not named whether it is absent
+none_given : only [] (record { form = []; pods = []; seed = []; to = [] }) ≡ true
+none_given = refl
+
+one_named_and_given : only (codes "form" ∷ []) (record { form = one (codes "text"); pods = []; seed = []; to = [] }) ≡ true
+one_named_and_given = refl
+
+named_and_not_given : only (codes "pods" ∷ codes "seed" ∷ []) (record { form = []; pods = []; seed = one (codes "0"); to = [] }) ≡ true
+named_and_not_given = refl
+
+given_and_not_named : only (codes "to" ∷ []) (record { form = []; pods = []; seed = one (codes "0"); to = one (codes "1") }) ≡ false
+given_and_not_named = refl
+
+given_where_none_is_named : only [] (record { form = []; pods = []; seed = []; to = one (codes "1") }) ≡ false
+given_where_none_is_named = refl
+
+serial_with_to : job_asked (three (codes "serial") (codes "--to") (codes "1")) ≡ None
+serial_with_to = refl
 
 serial_with_pods : job_asked (three (codes "serial") (codes "--pods") (codes "4")) ≡ None
 serial_with_pods = refl
@@ -178,17 +250,26 @@ serial_with_pods = refl
 serial_with_seed : job_asked (three (codes "serial") (codes "--seed") (codes "0")) ≡ None
 serial_with_seed = refl
 
+run_with_to : job_asked (three (codes "run") (codes "--to") (codes "1")) ≡ None
+run_with_to = refl
+
 run_with_pods : job_asked (three (codes "run") (codes "--pods") (codes "4")) ≡ None
 run_with_pods = refl
 
 run_with_seed : job_asked (three (codes "run") (codes "--seed") (codes "0")) ≡ None
 run_with_seed = refl
 
+replay_with_to : job_asked (three (codes "replay") (codes "--to") (codes "1")) ≡ None
+replay_with_to = refl
+
 replay_with_pods : job_asked (three (codes "replay") (codes "--pods") (codes "4")) ≡ None
 replay_with_pods = refl
 
 replay_with_seed : job_asked (three (codes "replay") (codes "--seed") (codes "0")) ≡ None
 replay_with_seed = refl
+
+check_with_to : job_asked (three (codes "check") (codes "--to") (codes "1")) ≡ None
+check_with_to = refl
 
 check_with_form : job_asked (three (codes "check") (codes "--form") (codes "text")) ≡ None
 check_with_form = refl
@@ -198,6 +279,34 @@ check_with_pods = refl
 
 check_with_seed : job_asked (three (codes "check") (codes "--seed") (codes "0")) ≡ None
 check_with_seed = refl
+
+roll_with_form : job_asked (three (codes "roll") (codes "--to=1") (codes "--form=text")) ≡ None
+roll_with_form = refl
+
+roll_with_pods : job_asked (three (codes "roll") (codes "--to=1") (codes "--pods=4")) ≡ None
+roll_with_pods = refl
+
+roll_with_seed : job_asked (three (codes "roll") (codes "--to=1") (codes "--seed=0")) ≡ None
+roll_with_seed = refl
+
+revert_with_form : job_asked (three (codes "revert") (codes "--to=1") (codes "--form=text")) ≡ None
+revert_with_form = refl
+
+revert_with_pods : job_asked (three (codes "revert") (codes "--to=1") (codes "--pods=4")) ≡ None
+revert_with_pods = refl
+
+revert_with_seed : job_asked (three (codes "revert") (codes "--to=1") (codes "--seed=0")) ≡ None
+revert_with_seed = refl
+
+-- with a form in the place of the number
+roll_with_form_alone : job_asked (two (codes "roll") (codes "--form=text")) ≡ None
+roll_with_form_alone = refl
+
+gen_with_to : job_asked (three (codes "gen") (codes "--to") (codes "1")) ≡ None
+gen_with_to = refl
+
+demo_with_to : job_asked (three (codes "demo") (codes "--to") (codes "1")) ≡ None
+demo_with_to = refl
 
 gen_with_form : job_asked (three (codes "gen") (codes "--form") (codes "text")) ≡ None
 gen_with_form = refl

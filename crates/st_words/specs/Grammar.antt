@@ -13,7 +13,7 @@ pub data Part : Type 0 where
   further : Text → Part
 
 abbrev pub option_names : List Text
-option_names = codes "form" ∷ codes "pods" ∷ codes "seed" ∷ []
+option_names = codes "form" ∷ codes "pods" ∷ codes "seed" ∷ codes "to" ∷ []
 
 abbrev pub is_among : Text → List Text → Bool
 is_among name names = list_any (λ n. bytes_eq n name) names

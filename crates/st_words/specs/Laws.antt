@@ -6,7 +6,7 @@ use Rattle.st_words.specs.declared.job.Pods.{Pods}
 use Rattle.st_words.specs.declared.job.Pods.TheVariants.{Four, Six, Eight, Ten}
 use Rattle.st_words.specs.declared.job.FatTree.{FatTree}
 use Rattle.st_words.specs.declared.job.Job.{Job}
-use Rattle.st_words.specs.declared.job.Job.TheVariants.{Serial, Run, Replay, Check, Gen, Demo}
+use Rattle.st_words.specs.declared.job.Job.TheVariants.{Serial, Run, Replay, Check, Roll, Revert, Gen, Demo}
 use Rattle.st_words.specs.Grammar.{Text, Part, parts_of}
 use Rattle.st_words.specs.Jobs.{job_in, job_asked}
 use Rattle.st_words.specs.Spelling.{Spells, flag_with}
@@ -40,24 +40,31 @@ form_words command f = command ∷ flag_with (codes "form") (form_name f) ∷ []
 abbrev pub tree_words : Text → FatTree → List Text
 tree_words command tree = command ∷ flag_with (codes "pods") (pods_name tree.pods) ∷ flag_with (codes "seed") (decimal tree.seed) ∷ []
 
+abbrev pub to_words : Text → ℕ → List Text
+to_words command n = command ∷ flag_with (codes "to") (decimal n) ∷ []
+
 -- words that ask for a job
 abbrev pub words_for : Job → List Text
 words_for (Serial f) = form_words (codes "serial") f
 words_for (Run f) = form_words (codes "run") f
 words_for (Replay f) = form_words (codes "replay") f
 words_for Check = codes "check" ∷ []
+words_for (Roll n) = to_words (codes "roll") n
+words_for (Revert n) = to_words (codes "revert") n
 words_for (Gen tree) = tree_words (codes "gen") tree
 words_for (Demo tree) = tree_words (codes "demo") tree
 
--- the seed of a job, 0 where it has none
-abbrev pub seed_in : Job → ℕ
-seed_in (Serial f) = 0
-seed_in (Run f) = 0
-seed_in (Replay f) = 0
-seed_in Check = 0
-seed_in (Gen tree) = tree.seed
-seed_in (Demo tree) = tree.seed
+-- the number in a job, of its seed or of `to`; 0 where it has none
+abbrev pub number_in : Job → ℕ
+number_in (Serial f) = 0
+number_in (Run f) = 0
+number_in (Replay f) = 0
+number_in Check = 0
+number_in (Roll n) = n
+number_in (Revert n) = n
+number_in (Gen tree) = tree.seed
+number_in (Demo tree) = tree.seed
 
 -- each job is asked for by its words
 abbrev pub AsksForEachJob : Type 0
-AsksForEachJob = (job : Job) → seed_in job < 2 ^ 32 → job_asked (words_for job) ≡ Some job
+AsksForEachJob = (job : Job) → number_in job < 2 ^ 32 → job_asked (words_for job) ≡ Some job

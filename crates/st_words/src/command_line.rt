@@ -12,7 +12,7 @@ use clap::error::ErrorKind;
 use clap::{Arg, ArgMatches, Command};
 use std::alloc::{AllocError, Global};
 
-/// The flat command: three options with a text each, and one further word. It has no help and no version option.
+/// The flat command: four options with a text each, and one further word. It has no help and no version option.
 fn flat_command<'a>(alloc: Global) -> Result<Command<'a>, AllocError>
     ensures { IfOk result (λ command. app_of command ≡ flat_app) }
 {
@@ -25,6 +25,8 @@ fn flat_command<'a>(alloc: Global) -> Result<Command<'a>, AllocError>
     let command = command.arg(pods)?;
     let seed = Arg::new(alloc, "seed").long("seed");
     let command = command.arg(seed)?;
+    let to = Arg::new(alloc, "to").long("to");
+    let command = command.arg(to)?;
     let word = Arg::new(alloc, "command").required(true);
     command.arg(word)
 }
@@ -37,19 +39,20 @@ fn job_of(matches: &ArgMatches) -> Option<Job>
         form: matches.get_str("form"),
         pods: matches.get_str("pods"),
         seed: matches.get_str("seed"),
+        to: matches.get_str("to"),
     };
     job_named(matches.get_str("command")?, options)
 }
 
 /// What the words after the program's name ask for. None exactly where they are not in the grammar of words, whose rules are:
 ///
-/// - At most one each of the options `--form VALUE`, `--pods VALUE` and `--seed VALUE`, and exactly one further word, in any
-///   order. An option can be one word too, `--form=VALUE`; a value that is a word of its own does not begin with `-`. After the
-///   word `--` there are no options. No option has a short name, none can be shortened, and there is no help.
-/// - The further word is `serial`, `run` or `replay`, with which only `--form` goes, `check`, with which no option goes, or `gen`
-///   or `demo`, with which only `--pods` and `--seed` go.
-/// - The form is `text`, `json` or `replay`, the pods are `4`, `6`, `8` or `10`, and the seed is a number as `st_text` reads it. Without
-///   them the form is `text`, the pods are 4, and the seed is 0.
+/// - At most one each of the options `--form VALUE`, `--pods VALUE`, `--seed VALUE` and `--to VALUE`, and exactly one further
+///   word, in any order. An option can be one word too, `--form=VALUE`; a value that is a word of its own does not begin with `-`.
+///   After the word `--` there are no options. No option has a short name, none can be shortened, and there is no help.
+/// - The further word is `serial`, `run` or `replay`, with which only `--form` goes, `check`, with which no option goes, `roll` or
+///   `revert`, with which only `--to` goes, and which need it, or `gen` or `demo`, with which only `--pods` and `--seed` go.
+/// - The form is `text`, `json` or `replay`, the pods are `4`, `6`, `8` or `10`, and the seed and the value of `--to` are numbers as
+///   `st_text` reads them. Without them the form is `text`, the pods are 4, and the seed is 0.
 ///
 /// An error is want of memory, here or within `clap`.
 pub fn read_words<'a>(alloc: Global, words: &'a [String]) -> Result<Option<Job>, AllocError>

@@ -14,6 +14,10 @@ pub enum Job {
     Replay(Form),
     /// Read a document, and count its parts.
     Check,
+    /// Plan the upgrade of all devices of each group to this firmware, on what a document's scripts leave.
+    Roll(u32),
+    /// Lead each group back to this version of its target, after the scripts of a document.
+    Revert(u32),
     /// Write the document that is generated for this fat tree.
     Gen(FatTree),
     /// Run the scripts of that document on one thread, and sum up.
