@@ -89,8 +89,10 @@ fn print_broken(topo: &GroupTopo, broken: &Broken, out: &mut Text) -> Result<(),
     print_devices(topo, broken.side.as_slice(), out)
 }
 
-/// Adds what a refusal names.
-fn print_cause<'a>(
+/// Adds the words of what a refusal names, each behind a space: the row that can't be set, and why; or the entity that is locked, its
+/// holder and the lock; or the promise that breaks, how, and the devices of its side. `Err` is for want of memory alone, and nothing is
+/// said of the text then.
+pub fn print_cause<'a>(
     topo: &'a GroupTopo,
     apps: &'a [Name],
     cause: &Cause,

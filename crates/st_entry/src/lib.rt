@@ -10,7 +10,7 @@ mod names;
 mod replies;
 mod saws;
 
-pub use causes::print_verdict;
+pub use causes::{print_cause, print_verdict};
 pub use entries::print_entry;
 pub use events::print_event;
 pub use keyword::{CauseWord, EventWord, ReplyWord, VerdictWord, kind_word};
