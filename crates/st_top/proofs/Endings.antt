@@ -28,16 +28,18 @@ use Rattle.st_top.specs.declared.ending.Ending.{Ending}
 use Rattle.st_replay.specs.declared.replaying.Again.{Again}
 use Rattle.st_replay.specs.declared.replaying.Again.TheVariants as again
 use Rattle.st_top.specs.declared.task.Task.{Task}
-use Rattle.st_top.specs.declared.task.Task.TheVariants.{Serial, Count, Print}
 use Rattle.st_top.specs.declared.task.Showing.TheVariants.{In}
 use Rattle.st_top.specs.declared.task.Reading.{Reading}
 use Rattle.st_top.specs.declared.task.Reading.TheVariants as readings
-use Rattle.st_top.specs.Ways.{Way, nothing, reads, makes, tree_doc}
+use Rattle.st_top.specs.declared.task.Way.{Way}
+use Rattle.st_top.specs.declared.task.Way.TheVariants.{Nothing, Reads, Makes}
+use Rattle.st_top.specs.Ways.{tree_doc}
 use Rattle.st_replay.specs.Replaying.{app_names, AreLegal, IsFirstIllegal, Replay, journal_bytes, journal_line, replay_of, replay_with}
 use Rattle.st_top.specs.Output.{shown}
 use Rattle.st_serial.specs.Kept.{groups_of}
-use Rattle.st_top.specs.Answer.{Results, SourceState, SinkState, ComesOf, EndsAtEnd, EndsOn, EndsOnBytes, EndsBy, EndsOnDoc, EndsOnReplay, EndsOnRun, EndsOnRunDoc, HasWritten, IsUnread, StopsTooLong}
-use Rattle.st_top.specs.Completeness.{CanBeDoneBy, CanBeDoneOn, CanBeRead, IsAfterReadFault, IsFaultless}
+use Rattle.st_serial.specs.Serial.{Run}
+use Rattle.st_top.specs.Answer.{Results, SourceState, SinkState, ComesOf, EndsAtEnd, EndsOn, EndsOnBytes, EndsBy, EndsOnDoc, EndsOnReplay, EndsOnRun, EndsOnRunDoc, HasWritten, IsUnread, MeetsFullIn, StopsTooLong, run_of}
+use Rattle.st_top.specs.Completeness.{CanBeDoneBy, CanBeDoneOn, CanBeRead, IsAfterReadFault, IsFaultless, MeetsNoFull}
 use Rattle.st_replay.specs.Again.{IsAgain}
 use Rattle.st_top.specs.Ending.{IsCalledFor, IsEndOnBytes, IsEndOnDoc, IsEndOnReplay, IsToldAgain, TellsFault, WritesEnding, results_in}
 use Rattle.st_replay.specs.Statuses.{told}
@@ -127,7 +129,7 @@ bytes_can (readings.Doc task) bytes results text status is = on_can task (docume
 bytes_can (readings.Run form) bytes results text status is = run_can form (document_of bytes) results text status is
 bytes_can (readings.Journals form) bytes results text status is = replay_can form (replay_of bytes) results text status is
 
-comes_by : (reading : Reading) (old new : SourceState) (results : Results) (text : List ℕ) (status : Status) → CanEnd status → EndsAtEnd reading old new results text status → ComesOf (reads reading) old new results text status
+comes_by : (reading : Reading) (old new : SourceState) (results : Results) (text : List ℕ) (status : Status) → CanEnd status → EndsAtEnd reading old new results text status → ComesOf (Reads reading) old new results text status
 comes_by reading old new results text Ok can is = is
 comes_by reading old new results text (BadInput line kind) can is = is
 comes_by reading old new results text (JournalFull group) can is = is
@@ -135,7 +137,7 @@ comes_by reading old new results text (Illegal group entry) can is = is
 comes_by reading old new results text _ can is = absurd can
 
 -- what is called for of a source that was read to its end
-pub end_comes : (reading : Reading) (old new : SourceState) (bytes slice : List ℕ) (ending : Ending) → ReadsInput old.left new.left old.faults new.faults bytes End → slice ≡ bytes → IsEndOnBytes reading slice ending → IsCalledFor (reads reading) old new ending
+pub end_comes : (reading : Reading) (old new : SourceState) (bytes slice : List ℕ) (ending : Ending) → ReadsInput old.left new.left old.faults new.faults bytes End → slice ≡ bytes → IsEndOnBytes reading slice ending → IsCalledFor (Reads reading) old new ending
 end_comes reading old new bytes slice ending read same is =
     let ends : IsEndOnBytes reading bytes ending = subst (λ (bs : List ℕ). IsEndOnBytes reading bs ending) same is in
     comes_by reading old new (results_in ending) ending.text ending.status (bytes_can reading bytes (results_in ending) ending.text ending.status ends)
@@ -149,19 +151,19 @@ keeps_same (Some bytes) = refl
 pub unread : (old : SourceState) → IsUnread old old
 unread old = record { left = keeps_same old.left; faults = refl }
 
-pub tree_comes : (way : Way) (task : Task) (tree : FatTree) (old : SourceState) (ending : Ending) → way ≡ makes task tree → IsEndOnDoc task (tree_doc tree) ending → IsCalledFor way old old ending
+pub tree_comes : (way : Way) (task : Task) (tree : FatTree) (old : SourceState) (ending : Ending) → way ≡ Makes task tree → IsEndOnDoc task (tree_doc tree) ending → IsCalledFor way old old ending
 tree_comes way task tree old ending is end = subst (λ (x : Way). IsCalledFor x old old ending) (sym is) (record { unread = unread old; ends = end })
 
 -- neither a failed write nor want of memory is called for
 never_write : (way : Way) (old new : SourceState) (results : Results) (text : List ℕ) → ComesOf way old new results text WriteFault → ⊥
-never_write nothing old new results text is = is
-never_write (reads reading) old new results text is = is
-never_write (makes task tree) old new results text is = doc_can task (tree_doc tree) results text WriteFault is.ends
+never_write Nothing old new results text is = is
+never_write (Reads reading) old new results text is = is
+never_write (Makes task tree) old new results text is = doc_can task (tree_doc tree) results text WriteFault is.ends
 
 never_memory : (way : Way) (old new : SourceState) (results : Results) (text : List ℕ) → ComesOf way old new results text OutOfMemory → ⊥
-never_memory nothing old new results text is = is
-never_memory (reads reading) old new results text is = is
-never_memory (makes task tree) old new results text is = doc_can task (tree_doc tree) results text OutOfMemory is.ends
+never_memory Nothing old new results text is = is
+never_memory (Reads reading) old new results text is = is
+never_memory (Makes task tree) old new results text is = doc_can task (tree_doc tree) results text OutOfMemory is.ends
 
 -- so the call ends with what was called for, as far as it was written
 whole_ends : (way : Way) (old new : SourceState) (before now : SinkState) (results : Results) (status : Status) → HasWritten way old new before now results status → EndsBy way old new before now results status
@@ -187,18 +189,18 @@ abbrev IsStill : SourceState → SourceState → Type 0
 IsStill old new = new.faults ≡ old.faults
 
 rose_or_still : (way : Way) (old new : SourceState) (results : Results) (text : List ℕ) (status : Status) → ComesOf way old new results text status → IsAfterReadFault status ⊎ IsStill old new
-rose_or_still nothing old new results text Usage is = inr is.unread.faults
-rose_or_still nothing old new results text _ is = absurd is
-rose_or_still (makes task tree) old new results text status is = inr is.unread.faults
-rose_or_still (reads reading) old new results text Ok is = inr is.still
-rose_or_still (reads reading) old new results text Usage is = absurd is
-rose_or_still (reads reading) old new results text ReadFault is = inl tt
-rose_or_still (reads reading) old new results text TooLong is = inr is.still
-rose_or_still (reads reading) old new results text (BadInput line kind) is = inr is.still
-rose_or_still (reads reading) old new results text (JournalFull group) is = inr is.still
-rose_or_still (reads reading) old new results text (Illegal group entry) is = inr is.still
-rose_or_still (reads reading) old new results text WriteFault is = absurd is
-rose_or_still (reads reading) old new results text OutOfMemory is = absurd is
+rose_or_still Nothing old new results text Usage is = inr is.unread.faults
+rose_or_still Nothing old new results text _ is = absurd is
+rose_or_still (Makes task tree) old new results text status is = inr is.unread.faults
+rose_or_still (Reads reading) old new results text Ok is = inr is.still
+rose_or_still (Reads reading) old new results text Usage is = absurd is
+rose_or_still (Reads reading) old new results text ReadFault is = inl tt
+rose_or_still (Reads reading) old new results text TooLong is = inr is.still
+rose_or_still (Reads reading) old new results text (BadInput line kind) is = inr is.still
+rose_or_still (Reads reading) old new results text (JournalFull group) is = inr is.still
+rose_or_still (Reads reading) old new results text (Illegal group entry) is = inr is.still
+rose_or_still (Reads reading) old new results text WriteFault is = absurd is
+rose_or_still (Reads reading) old new results text OutOfMemory is = absurd is
 
 after_by : (old new : SourceState) (status : Status) → old.faults < new.faults → IsAfterReadFault status ⊎ IsStill old new → IsAfterReadFault status
 after_by old new status rose (inl is) = is
@@ -211,9 +213,9 @@ after_fault way old new before now results status is rose = after_by old new sta
 
 -- where nothing failed, no failure is told
 read_rose : (way : Way) (old new : SourceState) (results : Results) (text : List ℕ) → ComesOf way old new results text ReadFault → Rose old.faults new.faults
-read_rose nothing old new results text is = absurd is
-read_rose (reads reading) old new results text is = is.rose
-read_rose (makes task tree) old new results text is = absurd (doc_can task (tree_doc tree) results text ReadFault is.ends)
+read_rose Nothing old new results text is = absurd is
+read_rose (Reads reading) old new results text is = is.rose
+read_rose (Makes task tree) old new results text is = absurd (doc_can task (tree_doc tree) results text ReadFault is.ends)
 
 pub read_fault : (way : Way) (old new : SourceState) (before now : SinkState) (results : Results) (status : Status) → EndsBy way old new before now results status → new.faults ≡ old.faults → old.faults < 2 ^ 64 - 1 → status ≡ ReadFault → ⊥
 read_fault way old new before now results status ends same below is =
@@ -239,11 +241,14 @@ none_illegal groups journals group entry legal i =
 abbrev pub IsWell : Status → Type 0
 IsWell status = (status ≡ Ok) ⊎ (status ≡ OutOfMemory)
 
+-- a run that meets no full journal meets none of a group
+no_full : (run : Option Run) (doc : Doc) (results : Results) (text : List ℕ) (group : ℕ) → MeetsNoFull run → MeetsFullIn run doc results text group → ⊥
+no_full None doc results text group can is = is
+no_full (Some run) doc results text group can is = let none : None ≡ Some group = sym can ∙ is.full in cc
+
 doc_well : (task : Task) (doc : Doc) (results : Results) (text : List ℕ) (status : Status) → CanBeDoneOn task doc → EndsOnDoc task doc results text status → IsWell status
 doc_well task doc results text Ok can is = inl refl
-doc_well (Serial showing) doc results text (JournalFull group) can is = let none : None ≡ Some group = sym can ∙ is.1.full in absurd (cc)
-doc_well Count doc results text (JournalFull group) can is = absurd is.0
-doc_well Print doc results text (JournalFull group) can is = absurd is.0
+doc_well task doc results text (JournalFull group) can is = absurd (no_full (run_of task doc) doc results text group can is)
 doc_well task doc results text _ can is = absurd is
 
 on_well : (task : Task) (doc : Doc) (read : Result Doc LineFault) (results : Results) (text : List ℕ) (status : Status) → read ≡ read_ok doc → CanBeDoneOn task doc → EndsOn task read results text status → IsWell status
@@ -304,17 +309,17 @@ too_long reading old new results text can is =
     omega (arith, part, is.many, few.few)
 
 way_well : (way : Way) (old new : SourceState) (results : Results) (text : List ℕ) (status : Status) → CanBeDoneBy way old.left → IsFaultless old.faults new.faults → ComesOf way old new results text status → IsWell status
-way_well nothing old new results text status can still is = absurd can
-way_well (makes task tree) old new results text status can still is = doc_well task (tree_doc tree) results text status can is.ends
-way_well (reads reading) old new results text Ok can still is = inl refl
-way_well (reads reading) old new results text Usage can still is = absurd is
-way_well (reads reading) old new results text ReadFault can still is = absurd (no_rise old.faults new.faults still is.rose)
-way_well (reads reading) old new results text TooLong can still is = absurd (too_long reading old new results text can is)
-way_well (reads reading) old new results text (BadInput line kind) can still is = at_end_well reading old new results text (BadInput line kind) can is
-way_well (reads reading) old new results text (JournalFull group) can still is = at_end_well reading old new results text (JournalFull group) can is
-way_well (reads reading) old new results text (Illegal group entry) can still is = at_end_well reading old new results text (Illegal group entry) can is
-way_well (reads reading) old new results text WriteFault can still is = absurd is
-way_well (reads reading) old new results text OutOfMemory can still is = absurd is
+way_well Nothing old new results text status can still is = absurd can
+way_well (Makes task tree) old new results text status can still is = doc_well task (tree_doc tree) results text status can is.ends
+way_well (Reads reading) old new results text Ok can still is = inl refl
+way_well (Reads reading) old new results text Usage can still is = absurd is
+way_well (Reads reading) old new results text ReadFault can still is = absurd (no_rise old.faults new.faults still is.rose)
+way_well (Reads reading) old new results text TooLong can still is = absurd (too_long reading old new results text can is)
+way_well (Reads reading) old new results text (BadInput line kind) can still is = at_end_well reading old new results text (BadInput line kind) can is
+way_well (Reads reading) old new results text (JournalFull group) can still is = at_end_well reading old new results text (JournalFull group) can is
+way_well (Reads reading) old new results text (Illegal group entry) can still is = at_end_well reading old new results text (Illegal group entry) can is
+way_well (Reads reading) old new results text WriteFault can still is = absurd is
+way_well (Reads reading) old new results text OutOfMemory can still is = absurd is
 
 -- so the call succeeds
 pub call_well : (way : Way) (old new : SourceState) (before now : SinkState) (results : Results) (status : Status) → EndsBy way old new before now results status

@@ -1,10 +1,12 @@
--- What the scripts of a document come to is what is shown of it, and its journals and logs are handed back.
+-- What a run of a document comes to is what is shown of it, and its journals and logs are handed back.
 use Rattle.std.proofs.Common.{◌≡◌, ℕ, suc, ◌+◌, List, [], ◌∷◌, ◌++◌, length, refl, ap, sym, ◌∙◌, subst, arith}
 use Rattle.std.specs.Prelude.{reverse, map}
 use Rattle.std.proofs.lemmas.List.{reverse-reverse}
+use Rattle.st_text.specs.Words.{text_of}
 use Rattle.st_event.specs.declared.act.Log.{Log}
 use Rattle.st_event.specs.declared.act.LogEntry.{LogEntry}
 use Rattle.st_event.specs.declared.journal.Journal.{Journal}
+use Rattle.st_event.specs.History.{History}
 use Rattle.st_event.specs.Legal.{IsLegal, AtEach}
 use Rattle.st_event.specs.Network.{KeepsPromises}
 use Rattle.st_grammar.specs.declared.doc.Doc.{Doc}
@@ -12,14 +14,22 @@ use Rattle.st_grammar.specs.Sound.{IsSoundDoc}
 use Rattle.st_replay.specs.declared.status.Status.{Status}
 use Rattle.st_replay.specs.declared.status.Status.TheVariants as statuses
 use Rattle.st_top.specs.declared.task.Showing.{Showing}
-use Rattle.st_top.specs.declared.task.Task.TheVariants.{Serial}
-use Rattle.st_serial.specs.Serial.{GroupState, Run, groups_in, journals_from, logs_from, serial_end, serial_logs, serial_run}
+use Rattle.st_top.specs.declared.task.Task.TheVariants.{Serial, Revert}
+use Rattle.st_serial.specs.Serial.{GroupState, Run, groups_in, journals_from, logs_from, serial_end, serial_logs, states_of}
 use Rattle.st_replay.specs.Again.{histories_of, AreKeptStates}
 use Rattle.st_top.specs.Output.{shown}
 use Rattle.st_serial.specs.Kept.{groups_of, AreKept, IsKept}
-use Rattle.st_top.specs.Answer.{Results, AreOfScripts, EndsOnDoc}
-use Rattle.st_top.specs.Ending.{IsToldOf}
+use Rattle.st_top.specs.Answer.{Results, AreOfRun, AreOfScripts, EndsOnDoc}
+use Rattle.st_top.specs.Ending.{IsToldOf, histories_in, reverted_text, serial_text}
+use Rattle.st_top.specs.Reverting.{revert_lines, revert_text, reverted}
+use Rattle.st_world.specs.World.{WorldView}
+use Rattle.st_report.specs.Lines.{histories}
+use Rattle.st_report.specs.Text.{report_text_of}
+use Rattle.st_replay.specs.Replaying.{app_names}
+use Rattle.st_top.proofs.Histories.{histories_are}
 use Rattle.st_serial.proofs.Runs.{serial_groups}
+use Rattle.st_top.proofs.Asked.{reverted_led}
+use Rattle.st_top.proofs.LedBack.{reverted_groups}
 
 -- journals of groups that are kept
 kept_all : (n : ℕ) (ss : List GroupState) → AreKeptStates ss → AreKept (groups_in ss) (journals_from n ss)
@@ -34,15 +44,15 @@ kept_all n (s ∷ ss) kept =
     } in
     (here, kept_all (n + 1) ss kept.1)
 
--- what a document comes to is what its scripts do
-pub of_scripts : (doc : Doc) (run : Run) (journals : List Journal) (logs : List Log) → IsSoundDoc doc → run ≡ serial_end doc → journals ≡ journals_from 0 run.groups → AreKeptStates run.groups → logs ≡ logs_from 0 run.logs → AreOfScripts doc (record { journals = journals; logs = logs })
-of_scripts doc run journals logs sound is journals_are kept logs_are =
-    let journals_end : journals ≡ serial_run doc = journals_are ∙ ap (λ (r : Run). journals_from 0 r.groups) is in
-    let kept_end : AreKeptStates (serial_end doc).groups = subst (λ (r : Run). AreKeptStates r.groups) is kept in
+-- what a document comes to is what a run makes of it
+pub of_run : (doc : Doc) (run ran : Run) (journals : List Journal) (logs : List Log) → groups_in run.groups ≡ groups_of doc → ran ≡ run → journals ≡ journals_from 0 ran.groups → AreKeptStates ran.groups → logs ≡ logs_from 0 ran.logs → AreOfRun run doc (record { journals = journals; logs = logs })
+of_run doc run ran journals logs groups is journals_are kept logs_are =
+    let journals_end : journals ≡ journals_from 0 run.groups = journals_are ∙ ap (λ (r : Run). journals_from 0 r.groups) is in
+    let kept_end : AreKeptStates run.groups = subst (λ (r : Run). AreKeptStates r.groups) is kept in
     record {
       order = journals_end;
       seen = logs_are ∙ ap (λ (r : Run). logs_from 0 r.logs) is;
-      kept = subst (AreKept (groups_of doc)) (sym journals_end) (subst (λ gs. AreKept gs (serial_run doc)) (serial_groups doc sound) (kept_all 0 (serial_end doc).groups kept_end));
+      kept = subst (AreKept (groups_of doc)) (sym journals_end) (subst (λ gs. AreKept gs (journals_from 0 run.groups)) groups (kept_all 0 run.groups kept_end));
     }
 
 -- the groups of a run with their journals
@@ -54,19 +64,47 @@ histories_same n (s ∷ ss) =
     ap (λ p. record { group = g; past = p } ∷ map (λ (x : GroupState). x.history) ss) (sym (reverse-reverse past))
     ∙ ap (λ hs. record { group = g; past = reverse (reverse past) } ∷ hs) (histories_same (n + 1) ss)
 
--- what is shown of them is shown of the groups of the document with its journals
-shown_same : (showing : Showing) (doc : Doc) (results : Results) → IsSoundDoc doc → AreOfScripts doc results → shown showing doc (map (λ s. s.history) (serial_end doc).groups) (serial_logs doc) ≡ shown showing doc (histories_of (groups_of doc) results.journals) results.logs
-shown_same showing doc results sound scripts =
-    let end = serial_end doc in
-    let same : map (λ s. s.history) end.groups ≡ histories_of (groups_of doc) results.journals =
-    histories_same 0 end.groups ∙ ap (λ gs. histories_of gs (journals_from 0 end.groups)) (serial_groups doc sound) ∙ ap (histories_of (groups_of doc)) (sym scripts.order) in
-    ap (λ hs. shown showing doc hs (serial_logs doc)) same ∙ ap (shown showing doc (histories_of (groups_of doc) results.journals)) (sym scripts.seen)
+-- those are the groups of the document with its journals
+run_histories : (run : Run) (doc : Doc) (results : Results) → groups_in run.groups ≡ groups_of doc → AreOfRun run doc results → histories_in run ≡ histories_of (groups_of doc) results.journals
+run_histories run doc results groups is =
+    histories_same 0 run.groups ∙ ap (λ gs. histories_of gs (journals_from 0 run.groups)) groups ∙ ap (histories_of (groups_of doc)) (sym is.order)
 
 -- so the call ends on what was told
-pub ends_told : (showing : Showing) (doc : Doc) (results : Results) (status : Status) (text : List ℕ) → IsSoundDoc doc → AreOfScripts doc results → IsToldOf showing doc status text → EndsOnDoc (Serial showing) doc results text status
-ends_told showing doc results statuses.Ok text sound scripts told = record { scripts = scripts; room = told.0; report = told.1 ∙ shown_same showing doc results sound scripts }
-ends_told showing doc results (statuses.JournalFull group) text sound scripts told = (tt, record { scripts = scripts; full = told.0; told = told.1 })
-ends_told showing doc results _ text sound scripts told = absurd told
+pub serial_told : (showing : Showing) (doc : Doc) (results : Results) (status : Status) (text : List ℕ) → IsSoundDoc doc → AreOfScripts doc results → IsToldOf (serial_end doc) (serial_text showing doc) doc status text → EndsOnDoc (Serial showing) doc results text status
+serial_told showing doc results statuses.Ok text sound scripts told =
+    let same = run_histories (serial_end doc) doc results (serial_groups doc sound) scripts in
+    record {
+      scripts = scripts;
+      room = told.0;
+      report = told.1 ∙ ap (λ (hs : List History). shown showing doc hs (serial_logs doc)) same ∙ ap (shown showing doc (histories_of (groups_of doc) results.journals)) (sym scripts.seen);
+    }
+serial_told showing doc results (statuses.JournalFull group) text sound scripts told = record { run_is = scripts; full = told.0; told = told.1 }
+serial_told showing doc results _ text sound scripts told = absurd told
+
+pub revert_told : (n : ℕ) (doc : Doc) (results : Results) (status : Status) (text : List ℕ) → IsSoundDoc doc → AreOfRun (reverted n doc) doc results → AreKeptStates (reverted n doc).groups → IsToldOf (reverted n doc) (reverted_text n doc) doc status text
+    → EndsOnDoc (Revert n) doc results text status
+revert_told n doc results statuses.Ok text sound run kept told =
+    let same = run_histories (reverted n doc) doc results (reverted_groups n doc sound) run in
+    record {
+      run = run;
+      room = told.0;
+      report = told.1 ∙ ap (λ (hs : List History). revert_text n doc (serial_end doc).groups hs (logs_from 0 (reverted n doc).logs)) same ∙ ap (revert_text n doc (serial_end doc).groups (histories_of (groups_of doc) results.journals)) (sym run.seen);
+      led = reverted_led n doc told.0 kept;
+    }
+revert_told n doc results (statuses.JournalFull group) text sound run kept told = record { run_is = run; full = told.0; told = told.1 }
+revert_told n doc results _ text sound run kept told = absurd told
+
+-- the text of groups that were led back
+pub reverted_written : (n : ℕ) (doc : Doc) (worlds : List WorldView) (names : List (List ℕ)) (logs : List Log) (lines text : List ℕ) → states_of worlds ≡ (reverted n doc).groups → names ≡ app_names doc → logs ≡ logs_from 0 (reverted n doc).logs
+    → lines ≡ text_of (revert_lines n (serial_end doc).groups) → text ≡ lines ++ report_text_of (histories worlds) names logs → text ≡ reverted_text n doc
+reverted_written n doc worlds names logs lines text groups named logged told is =
+    let head = text_of (revert_lines n (serial_end doc).groups) in
+    let after : histories worlds ≡ histories_in (reverted n doc) = sym (histories_are worlds) ∙ ap (map (λ (s : GroupState). s.history)) groups in
+    is
+    ∙ ap (λ t. t ++ report_text_of (histories worlds) names logs) told
+    ∙ ap (λ (hs : List History). head ++ report_text_of hs names logs) after
+    ∙ ap (λ (ns : List (List ℕ)). head ++ report_text_of (histories_in (reverted n doc)) ns logs) named
+    ∙ ap (λ (ls : List Log). head ++ report_text_of (histories_in (reverted n doc)) (app_names doc) ls) logged
 
 journals_more : (n : ℕ) (ss : List GroupState) (s : GroupState) → journals_from n (ss ++ s ∷ []) ≡ journals_from n ss ++ record { group = n + length ss; entries = reverse s.history.past } ∷ []
 journals_more n [] s = ap (λ m. record { group = m; entries = reverse s.history.past } ∷ []) (omega arith)

@@ -15,15 +15,18 @@ use Rattle.st_words.specs.declared.job.FatTree.{FatTree}
 use Rattle.st_words.specs.declared.job.Form.{Form}
 use Rattle.st_doc.specs.Printed.{printed_doc}
 use Rattle.st_top.specs.declared.task.Task.{Task}
-use Rattle.st_top.specs.declared.task.Task.TheVariants.{Serial, Count, Print}
+use Rattle.st_top.specs.declared.task.Task.TheVariants.{Serial, Revert, Count, Print}
 use Rattle.st_top.specs.declared.task.Showing.{Showing}
 use Rattle.st_top.specs.declared.task.Showing.TheVariants.{In}
 use Rattle.st_top.specs.declared.task.Reading.{Reading}
 use Rattle.st_top.specs.declared.task.Reading.TheVariants as readings
-use Rattle.st_top.specs.Ways.{Way, nothing, reads, makes, way_of, tree_doc}
-use Rattle.st_serial.specs.Serial.{serial_run, serial_logs, serial_full}
+use Rattle.st_top.specs.declared.task.Way.{Way}
+use Rattle.st_top.specs.declared.task.Way.TheVariants.{Nothing, Reads, Makes}
+use Rattle.st_top.specs.Ways.{way_of, tree_doc}
+use Rattle.st_serial.specs.Serial.{Run, journals_from, logs_from, serial_end, serial_full}
 use Rattle.st_replay.specs.Again.{histories_of}
 use Rattle.st_top.specs.Output.{shown, check_text}
+use Rattle.st_top.specs.Reverting.{AreLedBack, revert_text, reverted}
 use Rattle.st_serial.specs.Kept.{AreKept, groups_of}
 use Rattle.st_run.specs.Running.{IsRunOf}
 use Rattle.st_replay.specs.Replaying.{Replay, replay_of, IsFirstIllegal}
@@ -37,11 +40,22 @@ pub record Results : Type 0 where
 abbrev pub no_results : Results
 no_results = record { journals = []; logs = [] }
 
--- journals and logs are those of the script order, and the journals are legal and kept
-pub record AreOfScripts (doc : Doc) (results : Results) : Type 0 where
-  pub order : results.journals ≡ serial_run doc
-  pub seen : results.logs ≡ serial_logs doc
+-- the run that a task makes of a document, if it makes one
+abbrev pub run_of : Task → Doc → Option Run
+run_of (Serial showing) doc = Some (serial_end doc)
+run_of (Revert n) doc = Some (reverted n doc)
+run_of Count doc = None
+run_of Print doc = None
+
+-- journals and logs are those of a run, and the journals are legal and kept
+pub record AreOfRun (run : Run) (doc : Doc) (results : Results) : Type 0 where
+  pub order : results.journals ≡ journals_from 0 run.groups
+  pub seen : results.logs ≡ logs_from 0 run.logs
   pub kept : AreKept (groups_of doc) results.journals
+
+-- they are those of the script order: `serial_run` and `serial_logs`
+abbrev pub AreOfScripts : Doc → Results → Type 0
+AreOfScripts doc results = AreOfRun (serial_end doc) doc results
 
 -- the scripts of a document were carried out, no event met a full journal, and this is shown of what came of them
 pub record RunsSerial (showing : Showing) (doc : Doc) (results : Results) (text : List ℕ) : Type 0 where
@@ -49,11 +63,23 @@ pub record RunsSerial (showing : Showing) (doc : Doc) (results : Results) (text 
   pub room : serial_full doc ≡ None
   pub report : text ≡ shown showing doc (histories_of (groups_of doc) results.journals) results.logs
 
--- they were carried out up to an event of this group that met a full journal, and this is the text
-pub record MeetsFull (doc : Doc) (results : Results) (text : List ℕ) (group : ℕ) : Type 0 where
-  pub scripts : AreOfScripts doc results
-  pub full : serial_full doc ≡ Some group
+-- they were, and each group was led back to a version, no event met a full journal, and this is the text
+pub record Reverts (n : ℕ) (doc : Doc) (results : Results) (text : List ℕ) : Type 0 where
+  pub run : AreOfRun (reverted n doc) doc results
+  pub room : (reverted n doc).full ≡ None
+  pub report : text ≡ revert_text n doc (serial_end doc).groups (histories_of (groups_of doc) results.journals) results.logs
+  pub led : AreLedBack n (serial_end doc).groups (reverted n doc).groups
+
+-- a run came up to an event of this group that met a full journal, and this is the text
+pub record MeetsFull (run : Run) (doc : Doc) (results : Results) (text : List ℕ) (group : ℕ) : Type 0 where
+  pub run_is : AreOfRun run doc results
+  pub full : run.full ≡ Some group
   pub told : text ≡ status_line doc.groups (JournalFull group)
+
+-- so it is of the run that there is
+abbrev pub MeetsFullIn : Option Run → Doc → Results → List ℕ → ℕ → Type 0
+MeetsFullIn None doc results text group = ⊥
+MeetsFullIn (Some run) doc results text group = MeetsFull run doc results text group
 
 -- its parts were counted
 pub record Counts (doc : Doc) (results : Results) (text : List ℕ) : Type 0 where
@@ -68,19 +94,14 @@ pub record Prints (doc : Doc) (results : Results) (text : List ℕ) : Type 0 whe
 -- a task was done on a document, to its end
 abbrev pub IsDone : Task → Doc → Results → List ℕ → Type 0
 IsDone (Serial showing) = RunsSerial showing
+IsDone (Revert n) = Reverts n
 IsDone Count = Counts
 IsDone Print = Prints
-
--- a task that carries out scripts
-abbrev pub HasScripts : Task → Type 0
-HasScripts (Serial showing) = Unit {0}
-HasScripts Count = ⊥
-HasScripts Print = ⊥
 
 -- what a task ends with on a document
 abbrev pub EndsOnDoc : Task → Doc → Results → List ℕ → Status → Type 0
 EndsOnDoc task doc results text Ok = IsDone task doc results text
-EndsOnDoc task doc results text (JournalFull group) = HasScripts task × MeetsFull doc results text group
+EndsOnDoc task doc results text (JournalFull group) = MeetsFullIn (run_of task doc) doc results text group
 EndsOnDoc task doc results text _ = ⊥
 
 -- what a task ends with on what was read to its end
@@ -191,15 +212,15 @@ pub record EndsOnTree (task : Task) (tree : FatTree) (old new : SourceState) (re
 -- why a status comes, of what the words ask for, of the source before and after the call, with these results and this text. WriteFault and
 -- OutOfMemory never come so
 abbrev pub ComesOf : Way → SourceState → SourceState → Results → List ℕ → Status → Type 0
-ComesOf nothing old new results text Usage = IsNoTask old new results text
-ComesOf nothing old new results text _ = ⊥
-ComesOf (reads reading) old new results text Usage = ⊥
-ComesOf (reads reading) old new results text ReadFault = StopsAtFault old new results text
-ComesOf (reads reading) old new results text TooLong = StopsTooLong old new results text
-ComesOf (reads reading) old new results text WriteFault = ⊥
-ComesOf (reads reading) old new results text OutOfMemory = ⊥
-ComesOf (reads reading) old new results text status = EndsAtEnd reading old new results text status
-ComesOf (makes task tree) old new results text status = EndsOnTree task tree old new results text status
+ComesOf Nothing old new results text Usage = IsNoTask old new results text
+ComesOf Nothing old new results text _ = ⊥
+ComesOf (Reads reading) old new results text Usage = ⊥
+ComesOf (Reads reading) old new results text ReadFault = StopsAtFault old new results text
+ComesOf (Reads reading) old new results text TooLong = StopsTooLong old new results text
+ComesOf (Reads reading) old new results text WriteFault = ⊥
+ComesOf (Reads reading) old new results text OutOfMemory = ⊥
+ComesOf (Reads reading) old new results text status = EndsAtEnd reading old new results text status
+ComesOf (Makes task tree) old new results text status = EndsOnTree task tree old new results text status
 
 -- a status that came for its reason, and its text was written whole: no write failed
 pub record HasWritten (way : Way) (old new : SourceState) (before now : SinkState) (results : Results) (status : Status) : Type 0 where

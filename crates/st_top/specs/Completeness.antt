@@ -6,14 +6,16 @@ use Rattle.st_grammar.specs.Reading.{document_of}
 use Rattle.st_replay.specs.declared.status.Status.{Status}
 use Rattle.st_replay.specs.declared.status.Status.TheVariants.{Ok, Usage, ReadFault, TooLong, BadInput, JournalFull, Illegal, WriteFault, OutOfMemory}
 use Rattle.st_top.specs.declared.task.Task.{Task}
-use Rattle.st_top.specs.declared.task.Task.TheVariants.{Serial, Count, Print}
 use Rattle.st_top.specs.declared.task.Reading.{Reading}
 use Rattle.st_top.specs.declared.task.Reading.TheVariants as readings
-use Rattle.st_top.specs.Ways.{Way, nothing, reads, makes, way_of, tree_doc}
+use Rattle.st_top.specs.declared.task.Way.{Way}
+use Rattle.st_top.specs.declared.task.Way.TheVariants.{Nothing, Reads, Makes}
+use Rattle.st_top.specs.Ways.{way_of, tree_doc}
 use Rattle.st_serial.specs.Most.{HasRoom}
-use Rattle.st_serial.specs.Serial.{serial_full}
+use Rattle.st_serial.specs.Serial.{Run}
 use Rattle.st_serial.specs.Kept.{groups_of}
 use Rattle.st_replay.specs.Replaying.{Replay, replay_of, AreLegal}
+use Rattle.st_top.specs.Answer.{run_of}
 
 -- a call in which a read failed tells it, unless that line could not be written, or memory was refused
 abbrev pub IsAfterReadFault : Status → Type 0
@@ -41,11 +43,14 @@ pub record HasDocument (left : Option (List ℕ)) (Holds : Doc → Type 0) : Typ
   pub declared : document_of bytes ≡ read_ok doc
   pub holds : Holds doc
 
--- a task can be done on a document to its end: where it has scripts, no event of the script order meets a full journal
+-- no event of the run that there is meets a full journal
+abbrev pub MeetsNoFull : Option Run → Type 0
+MeetsNoFull None = Unit {0}
+MeetsNoFull (Some run) = run.full ≡ None
+
+-- a task can be done on a document to its end: where it makes a run, this meets no full journal
 abbrev pub CanBeDoneOn : Task → Doc → Type 0
-CanBeDoneOn (Serial showing) doc = serial_full doc ≡ None
-CanBeDoneOn Count doc = Unit {0}
-CanBeDoneOn Print doc = Unit {0}
+CanBeDoneOn task doc = MeetsNoFull (run_of task doc)
 
 -- all that a source has left is told: few enough bytes, which declare a document with journals, and these are legal
 pub record HasJournals (left : Option (List ℕ)) : Type 0 where
@@ -64,9 +69,9 @@ CanBeRead (readings.Journals form) left = HasJournals left
 
 -- the words ask for a task that can be done: on the document that the source gives, or on that of a fat tree
 abbrev pub CanBeDoneBy : Way → Option (List ℕ) → Type 0
-CanBeDoneBy nothing left = ⊥
-CanBeDoneBy (reads reading) left = CanBeRead reading left
-CanBeDoneBy (makes task tree) left = CanBeDoneOn task (tree_doc tree)
+CanBeDoneBy Nothing left = ⊥
+CanBeDoneBy (Reads reading) left = CanBeRead reading left
+CanBeDoneBy (Makes task tree) left = CanBeDoneOn task (tree_doc tree)
 
 abbrev pub CanBeDone : List (List ℕ) → Option (List ℕ) → Type 0
 CanBeDone words left = CanBeDoneBy (way_of words) left

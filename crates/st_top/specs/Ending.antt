@@ -2,6 +2,8 @@
 use Rattle.std.specs.Prelude.{◌≡◌, ℕ, List, [], map, Some, None, Result}
 use Rattle.st_io.specs.declared.writing.Written.{Written}
 use Rattle.st_io.specs.Output.{Writes}
+use Rattle.st_text.specs.Words.{text_of}
+use Rattle.st_event.specs.History.{History}
 use Rattle.st_grammar.specs.declared.doc.Doc.{Doc}
 use Rattle.st_token.specs.declared.fault.LineFault.{LineFault}
 use Rattle.st_top.specs.declared.answer.Outcome.{Outcome}
@@ -16,10 +18,12 @@ use Rattle.st_replay.specs.declared.replaying.Again.{Again}
 use Rattle.st_replay.specs.declared.replaying.Again.TheVariants as again
 use Rattle.st_words.specs.declared.job.Form.{Form}
 use Rattle.st_report.specs.Lines.{histories}
-use Rattle.st_top.specs.Ways.{Way}
-use Rattle.st_serial.specs.Serial.{serial_end, serial_full, serial_logs}
+use Rattle.st_top.specs.declared.task.Way.{Way}
+use Rattle.st_serial.specs.Serial.{Run, logs_from, run_in, serial_end, serial_logs}
 use Rattle.st_replay.specs.Again.{histories_of}
 use Rattle.st_top.specs.Output.{shown}
+use Rattle.st_top.specs.declared.reverting.LedBack.{LedBack}
+use Rattle.st_top.specs.Reverting.{led_back, revert_lines, revert_text, reverted}
 use Rattle.st_replay.specs.Replaying.{Replay}
 use Rattle.st_replay.specs.Statuses.{fault_line, status_line, told}
 use Rattle.st_serial.specs.Kept.{groups_of}
@@ -36,11 +40,27 @@ pub record TellsFault (status : Status) (ending : Ending) : Type 0 where
   pub none : results_in ending ≡ no_results
   pub text_is : ending.text ≡ fault_line status
 
--- the status and the text of a document whose scripts were run: what is shown of them, or the line of the group at whose full journal the run stopped
-abbrev pub IsToldOf : Showing → Doc → Status → List ℕ → Type 0
-IsToldOf showing doc statuses.Ok text = (serial_full doc ≡ None) × (text ≡ shown showing doc (map (λ s. s.history) (serial_end doc).groups) (serial_logs doc))
-IsToldOf showing doc (statuses.JournalFull group) text = (serial_full doc ≡ Some group) × (text ≡ status_line doc.groups (statuses.JournalFull group))
-IsToldOf showing doc _ text = ⊥
+-- the groups of a run with their journals
+abbrev pub histories_in : Run → List History
+histories_in run = map (λ s. s.history) run.groups
+
+-- the status and the text of a document of which a run was made: what is shown of it, or the line of the group at whose full journal it stopped
+abbrev pub IsToldOf : Run → List ℕ → Doc → Status → List ℕ → Type 0
+IsToldOf run whole doc statuses.Ok text = (run.full ≡ None) × (text ≡ whole)
+IsToldOf run whole doc (statuses.JournalFull group) text = (run.full ≡ Some group) × (text ≡ status_line doc.groups (statuses.JournalFull group))
+IsToldOf run whole doc _ text = ⊥
+
+-- what is shown of the scripts' run, and of groups that were led back behind it
+abbrev pub serial_text : Showing → Doc → List ℕ
+serial_text showing doc = shown showing doc (histories_in (serial_end doc)) (serial_logs doc)
+
+abbrev pub reverted_text : ℕ → Doc → List ℕ
+reverted_text n doc = revert_text n doc (serial_end doc).groups (histories_in (reverted n doc)) (logs_from 0 (reverted n doc).logs)
+
+-- a run whose groups were led back to a version, and the lines that tell of each, unless an event met a full journal
+pub record IsLed (n : ℕ) (run : Run) (led : LedBack) : Type 0 where
+  pub run_is : run_in led.ran ≡ led_back n run
+  pub told : led.ran.full ≡ None → led.lines ≡ text_of (revert_lines n run.groups)
 
 -- what a task ends with on a document
 abbrev pub IsEndOnDoc : Task → Doc → Ending → Type 0

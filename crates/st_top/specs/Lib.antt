@@ -1,4 +1,6 @@
 pub mod Ways
+pub mod Rolling
+pub mod Reverting
 pub mod Output
 pub mod Answer
 pub mod Completeness

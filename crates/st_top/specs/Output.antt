@@ -14,7 +14,8 @@ use Rattle.st_report.specs.Json.{report_json_of}
 use Rattle.st_report.specs.Sums.{sums_text}
 use Rattle.st_replay.specs.Replaying.{app_names}
 use Rattle.st_top.specs.declared.task.Showing.{Showing}
-use Rattle.st_top.specs.declared.task.Showing.TheVariants.{In, Sums}
+use Rattle.st_top.specs.declared.task.Showing.TheVariants.{In, Sums, Roll}
+use Rattle.st_top.specs.Rolling.{roll_text_of}
 
 -- the journal of each group, in order
 abbrev pub journals_text : List History → List (List ℕ) → List ℕ
@@ -27,12 +28,14 @@ demo_text tree groups =
     flat_map (λ h. sums_text h.group h.past) groups ++
     line (codes "end") []
 
--- what is shown of a document, its groups with their journals, and logs: a report, or the document with the journals, which can be replayed; or sums
+-- what is shown of a document, its groups with their journals, and logs: a report, or the document with the journals, which can be replayed; or sums;
+-- or plans of an upgrade
 abbrev pub shown : Showing → Doc → List History → List Log → List ℕ
 shown (In forms.Text) doc groups logs = report_text_of groups (app_names doc) logs
 shown (In forms.Json) doc groups logs = report_json_of groups (app_names doc) logs
 shown (In forms.Replay) doc groups logs = printed_doc doc ++ journals_text groups (app_names doc)
 shown (Sums tree) doc groups logs = demo_text tree groups
+shown (Roll firmware) doc groups logs = roll_text_of groups (app_names doc) firmware
 
 -- the counts of a document's parts
 abbrev pub check_text : Doc → List ℕ

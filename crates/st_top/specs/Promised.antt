@@ -1,5 +1,5 @@
 -- What a call that ended with Ok says of a document's promises, where no entity fails of itself.
-use Rattle.std.specs.Prelude.{ℕ, ◌<◌, List, [], ◌∷◌, reverse, ◌⊎◌}
+use Rattle.std.specs.Prelude.{ℕ, ◌<◌, List, [], ◌∷◌, reverse, IsSome, ◌⊎◌}
 use Rattle.st_net.specs.Demands.{demand_count, HoldsIn}
 use Rattle.st_net.specs.Groups.{Group}
 use Rattle.st_event.specs.declared.journal.Entry.{Entry}
@@ -11,9 +11,8 @@ use Rattle.st_grammar.specs.declared.doc.Doc.{Doc}
 use Rattle.st_words.specs.declared.job.Form.{Form}
 use Rattle.st_replay.specs.declared.status.Status.TheVariants.{Ok}
 use Rattle.st_serial.specs.Kept.{groups_of}
-use Rattle.st_top.specs.declared.task.Showing.{Showing}
-use Rattle.st_top.specs.declared.task.Task.TheVariants.{Serial}
-use Rattle.st_top.specs.Answer.{Results, EndsOnDoc, EndsOnRunDoc}
+use Rattle.st_top.specs.declared.task.Task.{Task}
+use Rattle.st_top.specs.Answer.{Results, EndsOnDoc, EndsOnRunDoc, run_of}
 
 -- each promise that held at the opening holds in the network after these entries
 abbrev pub AllHold : Group → List Entry → Type 0
@@ -30,10 +29,10 @@ AllThroughout [] (journal ∷ journals) = ⊥
 AllThroughout (g ∷ groups) [] = ⊥
 AllThroughout (g ∷ groups) (journal ∷ journals) = HoldsThroughout g journal × AllThroughout groups journals
 
--- a document's scripts were run, on one thread or by threads, and the call ended with Ok
-abbrev pub EndsWell : Showing → Form → Doc → Results → List ℕ → Type 0
-EndsWell showing form doc results text = EndsOnDoc (Serial showing) doc results text Ok ⊎ EndsOnRunDoc form doc results text Ok
+-- a task that makes a run of a document was done on it, or threads ran its scripts, and the call ended with Ok
+abbrev pub EndsWell : Task → Form → Doc → Results → List ℕ → Type 0
+EndsWell task form doc results text = (IsSome (run_of task doc) × EndsOnDoc task doc results text Ok) ⊎ EndsOnRunDoc form doc results text Ok
 
 -- so it is with the journals that such a call hands back
 abbrev pub PromisesHoldWithoutFailures : Type 0
-PromisesHoldWithoutFailures = (showing : Showing) (form : Form) (doc : Doc) (results : Results) (text : List ℕ) → EndsWell showing form doc results text → AllThroughout (groups_of doc) results.journals
+PromisesHoldWithoutFailures = (task : Task) (form : Form) (doc : Doc) (results : Results) (text : List ℕ) → EndsWell task form doc results text → AllThroughout (groups_of doc) results.journals

@@ -30,10 +30,10 @@ pub fn runs_by_threads_are_replayed()
     ensures { RunsByThreadsAreReplayed }
 {}
 
-/// What was promised of a network whose entities never fail of themselves: a document's scripts are run, on one thread or by threads, the
-/// call ends with `Ok`, and there is no `fail` in a group's journal. Then every promise of the group that held at the opening holds in
-/// the network at each of the journal's moments. It follows from clause `ends` of `statesman`, whose cases for `serial` and `run` are its
-/// premises.
+/// What was promised of a network whose entities never fail of themselves: a document's scripts are run, on one thread, whatever is done
+/// behind them, or by threads, the call ends with `Ok`, and there is no `fail` in a group's journal. Then every promise of the group that
+/// held at the opening holds in the network at each of the journal's moments. It follows from clause `ends` of `statesman`, whose cases for
+/// the tasks that make a run, as `serial` and `revert`, and for `run` are its premises.
 pub fn promises_hold_without_failures()
     ensures { PromisesHoldWithoutFailures }
 {}

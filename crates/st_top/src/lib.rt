@@ -9,6 +9,8 @@ mod playing;
 mod program;
 mod replaying;
 mod results;
+mod reverting;
+mod rolling;
 mod task;
 mod top;
 

@@ -1,11 +1,14 @@
-//! What the tasks write: what is shown of worlds and logs in each form, and the line that counts a document's parts.
+//! What the tasks write: what is shown of worlds and logs, in each form, as sums or as plans, and the line that counts a document's parts.
 
 ghost use Rattle.std.specs.Prelude.{◌≡◌, ◌∷◌, ◌++◌, ◌<◌, ◌^◌, length, flat_map, sum_by, OnOk, IfOk, decimal};
 ghost use Rattle.st_grammar.specs.Sound.{IsSoundDoc};
 ghost use Rattle.st_report.specs.Lines.{histories};
 ghost use Rattle.st_report.specs.Sums.{sums_text};
+ghost use Rattle.st_replay.specs.Replaying.{app_names as app_names_lem};
+ghost use Rattle.st_top.specs.Rolling.{roll_text_of};
 ghost use Rattle.st_top.specs.Output.{journals_text, demo_text as demo_text_lem, shown, check_text as check_text_lem};
 
+use crate::rolling::roll_text;
 use crate::task::Showing;
 use st_doc::{Doc, Script, print_doc};
 use st_event::Log;
@@ -88,6 +91,15 @@ fn demo_text(alloc: Global, tree: FatTree, worlds: &[World]) -> Result<Text, All
     Ok(out)
 }
 
+/// The plans of an upgrade of a document's worlds to a firmware.
+fn rolls_text(alloc: Global, firmware: u32, doc: &Doc, worlds: &[World]) -> Result<Text, AllocError>
+    requires { IsSoundDoc doc.now }
+    ensures { IfOk result (λ text. text ≡ roll_text_of (histories worlds.now) (app_names_lem doc.now) firmware) }
+{
+    let names = app_names(alloc, doc)?;
+    roll_text(alloc, worlds, names.as_slice(), firmware)
+}
+
 /// What is shown of a document's worlds and of the logs of its applications.
 pub fn shown_text(
     alloc: Global,
@@ -102,6 +114,7 @@ pub fn shown_text(
     match showing {
         Showing::In(form) => form_text(alloc, form, doc, worlds, logs),
         Showing::Sums(tree) => demo_text(alloc, tree, worlds),
+        Showing::Roll(firmware) => rolls_text(alloc, firmware, doc, worlds),
     }
 }
 

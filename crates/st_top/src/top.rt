@@ -1,30 +1,30 @@
 //! The whole call: all that is to be written is decided first, and then it is written once.
 
-ghost use Rattle.std.specs.Prelude.{◌≡◌, ◌≢◌, ◌<◌, ◌-◌, ◌≤◌, ◌^◌, ◌⊎◌, false, length, map, string_bytes, None, IfOk, IfSome};
+ghost use Rattle.std.specs.Prelude.{◌≡◌, ◌≢◌, ◌<◌, ◌-◌, ◌≤◌, ◌^◌, ◌⊎◌, false, length, map, string_bytes, IfOk};
 ghost use Rattle.st_io.specs.declared.reading.TheConstants.{MAX_BYTES};
-ghost use Rattle.st_top.specs.Ways.{way_of, reads, is_read_on, is_run, tree_doc as tree_doc_lem};
-ghost use Rattle.st_top.specs.Answer.{EndsBy, EndsWith, IsUnread};
-ghost use Rattle.st_top.specs.Completeness.{CanBeDone, CanBeDoneBy, IsAfterReadFault, IsFaultless};
+ghost use Rattle.st_top.specs.Ways.{is_read_on, is_run, tree_doc as tree_doc_lem, way_of};
+ghost use Rattle.st_top.specs.Answer.{EndsWith, IsUnread};
+ghost use Rattle.st_top.specs.Completeness.{CanBeDone, IsAfterReadFault, IsFaultless};
 ghost use Rattle.st_top.specs.Ending.{IsEndOnDoc, IsEndOnBytes, IsCalledFor, WritesEnding};
 
 use crate::answer::Outcome;
 use crate::ending::{Ending, doc_ending, fault_ending, task_ending};
 use crate::playing::run_ending;
 use crate::replaying::replay_ending;
-use crate::task::{Reading, Showing, Task};
+use crate::task::{Reading, Task, Way, way_to};
 use st_crew::Gate;
 use st_gen::generate;
 use st_io::{ReadEnd, Sink, Source, read_all, write_all};
 use st_replay::Status;
-use st_words::{FatTree, Form, Job, read_words};
+use st_words::{FatTree, read_words};
 use std::alloc::{AllocError, Global};
 use std::sync::Wait;
 use std::thread::Threads;
 
 /// The ending of what is done, without threads, on bytes that were read to their end.
-fn bytes_ending(alloc: Global, reading: Reading, bytes: &[u8]) -> Result<Ending, AllocError>
+fn ending_alone(alloc: Global, reading: Reading, bytes: &[u8]) -> Result<Ending, AllocError>
     requires few { length bytes.now ≤ MAX_BYTES }
-    requires alone { is_run (reads reading) ≡ false }
+    requires alone { is_run (Way.Reads reading) ≡ false }
     ensures { IfOk result (IsEndOnBytes reading bytes.now) }
 {
     match reading {
@@ -34,42 +34,40 @@ fn bytes_ending(alloc: Global, reading: Reading, bytes: &[u8]) -> Result<Ending,
     }
 }
 
-/// Reads the source, and decides the ending of what is done on what it gives, without threads.
-fn source_ending<S: Source>(
+/// The ending of what is done on them, a run by threads too.
+fn ending_by_threads<R: Threads + Wait + Sync, G: Gate + Sync>(
+    rt: &R,
     alloc: Global,
     reading: Reading,
-    source: &mut S,
+    bytes: &[u8],
+    gate: &G,
 ) -> Result<Ending, AllocError>
-    requires { is_run (reads reading) ≡ false }
-    ensures comes { IfOk result (IsCalledFor (reads reading)
-        (record { left = S.left source.old; faults = S.faults source.old })
-        (record { left = S.left source.new; faults = S.faults source.new })) }
-    ensures later { S.faults source.old ≤ S.faults source.new }
+    requires { length bytes.now ≤ MAX_BYTES }
+    ensures { IfOk result (IsEndOnBytes reading bytes.now) }
 {
-    let input = read_all(alloc, source)?;
-    match input.end {
-        ReadEnd::End => bytes_ending(alloc, reading, input.bytes.as_slice()),
-        ReadEnd::Failed => fault_ending(alloc, Status::ReadFault),
-        ReadEnd::TooLong => fault_ending(alloc, Status::TooLong),
+    match reading {
+        Reading::Run(form) => run_ending(rt, alloc, form, bytes, gate),
+        Reading::Doc(_) | Reading::Journals(_) => ending_alone(alloc, reading, bytes),
     }
 }
 
-/// Reads the source, and decides the ending of a run by threads of what it gives.
-fn run_on<R: Threads + Wait + Sync, S: Source, G: Gate + Sync>(
-    rt: &R,
+/// Reads the source, and has the ending decided of what is done on what it gives.
+fn source_ending<S: Source, F: Fn(Reading, Vec<u8>) -> Result<Ending, AllocError>>(
     alloc: Global,
-    form: Form,
+    reading: Reading,
     source: &mut S,
-    gate: &G,
+    decide: &F,
 ) -> Result<Ending, AllocError>
-    ensures comes { IfOk result (IsCalledFor (reads (Reading.Run form))
+    requires can { (bytes : _) → length bytes.items ≤ MAX_BYTES → F.pre decide.now reading bytes }
+    requires gives { (bytes : _) (ending : _) → F.post decide.now reading bytes ending → IfOk ending (IsEndOnBytes reading bytes.items) }
+    ensures comes { IfOk result (IsCalledFor (Way.Reads reading)
         (record { left = S.left source.old; faults = S.faults source.old })
         (record { left = S.left source.new; faults = S.faults source.new })) }
     ensures later { S.faults source.old ≤ S.faults source.new }
 {
     let input = read_all(alloc, source)?;
     match input.end {
-        ReadEnd::End => run_ending(rt, alloc, form, input.bytes.as_slice(), gate),
+        ReadEnd::End => decide(reading, input.bytes),
         ReadEnd::Failed => fault_ending(alloc, Status::ReadFault),
         ReadEnd::TooLong => fault_ending(alloc, Status::TooLong),
     }
@@ -83,9 +81,25 @@ fn tree_ending(alloc: Global, task: Task, tree: FatTree) -> Result<Ending, Alloc
     doc_ending(alloc, task, &doc)
 }
 
-/// Reads what the words ask for, and decides the ending, without threads. Nothing is written yet.
-fn prepare<S: Source>(alloc: Global, words: &[String], source: &mut S) -> Result<Ending, AllocError>
-    requires { is_run (way_of (map string_bytes words.now)) ≡ false }
+/// What words ask for.
+fn way_asked(alloc: Global, words: &[String]) -> Result<Way, AllocError>
+    ensures { IfOk result (λ way. way ≡ way_of (map string_bytes words.now)) }
+{
+    match read_words(alloc, words)? {
+        Some(job) => Ok(way_to(job)),
+        None => Ok(Way::Nothing),
+    }
+}
+
+/// Reads what the words ask for, and has the ending decided. Nothing is written yet.
+fn prepare<S: Source, F: Fn(Reading, Vec<u8>) -> Result<Ending, AllocError>>(
+    alloc: Global,
+    words: &[String],
+    source: &mut S,
+    decide: &F,
+) -> Result<Ending, AllocError>
+    requires can { (reading : _) (bytes : _) → way_of (map string_bytes words.now) ≡ Way.Reads reading → length bytes.items ≤ MAX_BYTES → F.pre decide.now reading bytes }
+    requires gives { (reading : _) (bytes : _) (ending : _) → F.post decide.now reading bytes ending → IfOk ending (IsEndOnBytes reading bytes.items) }
     ensures comes { IfOk result (IsCalledFor (way_of (map string_bytes words.now))
         (record { left = S.left source.old; faults = S.faults source.old })
         (record { left = S.left source.new; faults = S.faults source.new })) }
@@ -94,17 +108,10 @@ fn prepare<S: Source>(alloc: Global, words: &[String], source: &mut S) -> Result
         (record { left = S.left source.old; faults = S.faults source.old })
         (record { left = S.left source.new; faults = S.faults source.new }) }
 {
-    match read_words(alloc, words)? {
-        Some(Job::Serial(form)) => {
-            let task = Task::Serial(Showing::In(form));
-            source_ending(alloc, Reading::Doc(task), source)
-        }
-        Some(Job::Check) => source_ending(alloc, Reading::Doc(Task::Count), source),
-        Some(Job::Replay(form)) => source_ending(alloc, Reading::Journals(form), source),
-        Some(Job::Gen(tree)) => tree_ending(alloc, Task::Print, tree),
-        Some(Job::Demo(tree)) => tree_ending(alloc, Task::Serial(Showing::Sums(tree)), tree),
-        Some(Job::Run(_)) => unreachable!(),
-        None => fault_ending(alloc, Status::Usage),
+    match way_asked(alloc, words)? {
+        Way::Nothing => fault_ending(alloc, Status::Usage),
+        Way::Reads(reading) => source_ending(alloc, reading, source, decide),
+        Way::Makes(task, tree) => tree_ending(alloc, task, tree),
     }
 }
 
@@ -123,9 +130,46 @@ fn write_ending<K: Sink>(ending: Ending, sink: &mut K) -> Outcome
     }
 }
 
-/// Carries out words that do not ask for `run`, as `statesman` does. No thread is started, and nobody is waited for but the source and
-/// the sink.
-pub fn statesman_alone<S: Source, K: Sink>(
+/// Carries out words: what they ask for is read, its ending is decided as is handed in, and then written.
+fn call<S: Source, K: Sink, F: Fn(Reading, Vec<u8>) -> Result<Ending, AllocError>>(
+    alloc: Global,
+    words: &[String],
+    source: &mut S,
+    sink: &mut K,
+    decide: &F,
+) -> Outcome
+    requires can { (reading : _) (bytes : _) → way_of (map string_bytes words.now) ≡ Way.Reads reading → length bytes.items ≤ MAX_BYTES → F.pre decide.now reading bytes }
+    requires gives { (reading : _) (bytes : _) (ending : _) → F.post decide.now reading bytes ending → IfOk ending (IsEndOnBytes reading bytes.items) }
+    ensures ends { EndsWith (map string_bytes words.now)
+        (record { left = S.left source.old; faults = S.faults source.old })
+        (record { left = S.left source.new; faults = S.faults source.new })
+        (record { held = K.held sink.old; faults = K.faults sink.old })
+        (record { held = K.held sink.new; faults = K.faults sink.new })
+        (record { journals = result.journals; logs = result.logs }) result.status }
+    ensures idle { is_read_on (way_of (map string_bytes words.now)) ≡ false → IsUnread
+        (record { left = S.left source.old; faults = S.faults source.old })
+        (record { left = S.left source.new; faults = S.faults source.new }) }
+    ensures complete { CanBeDone (map string_bytes words.now) (S.left source.old) →
+        IsFaultless (S.faults source.old) (S.faults source.new) →
+        IsFaultless (K.faults sink.old) (K.faults sink.new) →
+        (result.status ≡ Status.Ok) ⊎ (result.status ≡ Status.OutOfMemory) }
+    ensures source_later { S.faults source.old ≤ S.faults source.new }
+    ensures sink_later { K.faults sink.old ≤ K.faults sink.new }
+    ensures read_counted { S.faults source.old < S.faults source.new → IsAfterReadFault result.status }
+    ensures write_counted { K.faults sink.old < K.faults sink.new → result.status ≡ Status.WriteFault }
+    ensures read_told { S.faults source.new ≡ S.faults source.old → S.faults source.old < 2 ^ 64 - 1 → result.status ≢ Status.ReadFault }
+    ensures write_told { K.faults sink.new ≡ K.faults sink.old → K.faults sink.old < 2 ^ 64 - 1 → result.status ≢ Status.WriteFault }
+{
+    match prepare(alloc, words, source, decide) {
+        Ok(ending) => write_ending(ending, sink),
+        Err(_) => Outcome::out_of_memory(alloc),
+    }
+}
+
+/// Carries out words that do not ask for `run`, as `statesman` does. Nobody is waited for but the source and the sink: the runtime may
+/// start threads, and no means to wait is handed in. Today no thread is started, and the runtime is not used.
+pub fn statesman_alone<R: Threads + Sync, S: Source, K: Sink>(
+    _rt: &R,
     alloc: Global,
     words: &[String],
     source: &mut S,
@@ -162,58 +206,16 @@ pub fn statesman_alone<S: Source, K: Sink>(
     ensures read_told { S.faults source.new ≡ S.faults source.old → S.faults source.old < 2 ^ 64 - 1 → result.status ≢ Status.ReadFault }
     ensures write_told { K.faults sink.new ≡ K.faults sink.old → K.faults sink.old < 2 ^ 64 - 1 → result.status ≢ Status.WriteFault }
 {
-    match prepare(alloc, words, source) {
-        Ok(ending) => write_ending(ending, sink),
-        Err(_) => Outcome::out_of_memory(alloc),
-    }
-}
-
-/// Runs the scripts of the document that the source gives by threads, and writes what came of them in a form.
-fn run_call<R: Threads + Wait + Sync, S: Source, K: Sink, G: Gate + Sync>(
-    rt: &R,
-    alloc: Global,
-    form: Form,
-    source: &mut S,
-    sink: &mut K,
-    gate: &G,
-) -> Outcome
-    ensures ends { EndsBy (reads (Reading.Run form))
-        (record { left = S.left source.old; faults = S.faults source.old })
-        (record { left = S.left source.new; faults = S.faults source.new })
-        (record { held = K.held sink.old; faults = K.faults sink.old })
-        (record { held = K.held sink.new; faults = K.faults sink.new })
-        (record { journals = result.journals; logs = result.logs }) result.status }
-    ensures complete { CanBeDoneBy (reads (Reading.Run form)) (S.left source.old) →
-        IsFaultless (S.faults source.old) (S.faults source.new) →
-        IsFaultless (K.faults sink.old) (K.faults sink.new) →
-        (result.status ≡ Status.Ok) ⊎ (result.status ≡ Status.OutOfMemory) }
-    ensures source_later { S.faults source.old ≤ S.faults source.new }
-    ensures sink_later { K.faults sink.old ≤ K.faults sink.new }
-    ensures read_counted { S.faults source.old < S.faults source.new → IsAfterReadFault result.status }
-    ensures write_counted { K.faults sink.old < K.faults sink.new → result.status ≡ Status.WriteFault }
-    ensures read_told { S.faults source.new ≡ S.faults source.old → S.faults source.old < 2 ^ 64 - 1 → result.status ≢ Status.ReadFault }
-    ensures write_told { K.faults sink.new ≡ K.faults sink.old → K.faults sink.old < 2 ^ 64 - 1 → result.status ≢ Status.WriteFault }
-{
-    match run_on(rt, alloc, form, source, gate) {
-        Ok(ending) => write_ending(ending, sink),
-        Err(_) => Outcome::out_of_memory(alloc),
-    }
-}
-
-/// The form that is asked for by words that ask for `run`.
-fn run_asked(alloc: Global, words: &[String]) -> Result<Option<Form>, AllocError>
-    ensures none { IfOk result (λ asked. asked ≡ None → is_run (way_of (map string_bytes words.now)) ≡ false) }
-    ensures some { IfOk result (λ asked. IfSome asked (λ form. way_of (map string_bytes words.now) ≡ reads (Reading.Run form))) }
-{
-    match read_words(alloc, words)? {
-        Some(Job::Run(form)) => Ok(Some(form)),
-        _ => Ok(None),
-    }
+    let decide = |reading: Reading, bytes: Vec<u8>| -> Result<Ending, AllocError>
+        requires { is_run (Way.Reads reading) ≡ false × length bytes.items ≤ MAX_BYTES }
+        ensures { IfOk result (IsEndOnBytes reading bytes.items) }
+    { ending_alone(alloc, reading, bytes.as_slice()) };
+    call(alloc, words, source, sink, &decide)
 }
 
 /// The whole call that the program makes: the words are carried out on what the source gives, one text is written to the
 /// sink, and the journals that the groups kept are handed back. What is written is decided before the first write. `run` starts
-/// threads, calls the gate at the points of their work, and waits for them; every other command is carried out by
+/// threads, calls the gate at the points of their work, and waits for them; every other command is carried out as by
 /// `statesman_alone`.
 pub fn statesman<R: Threads + Wait + Sync, S: Source, K: Sink, G: Gate + Sync>(
     rt: &R,
@@ -253,9 +255,9 @@ pub fn statesman<R: Threads + Wait + Sync, S: Source, K: Sink, G: Gate + Sync>(
     ensures read_told { S.faults source.new ≡ S.faults source.old → S.faults source.old < 2 ^ 64 - 1 → result.status ≢ Status.ReadFault }
     ensures write_told { K.faults sink.new ≡ K.faults sink.old → K.faults sink.old < 2 ^ 64 - 1 → result.status ≢ Status.WriteFault }
 {
-    match run_asked(alloc, words) {
-        Ok(Some(form)) => run_call(rt, alloc, form, source, sink, gate),
-        Ok(None) => statesman_alone(alloc, words, source, sink),
-        Err(_) => Outcome::out_of_memory(alloc),
-    }
+    let decide = |reading: Reading, bytes: Vec<u8>| -> Result<Ending, AllocError>
+        requires { length bytes.items ≤ MAX_BYTES }
+        ensures { IfOk result (IsEndOnBytes reading bytes.items) }
+    { ending_by_threads(rt, alloc, reading, bytes.as_slice(), gate) };
+    call(alloc, words, source, sink, &decide)
 }

@@ -1,7 +1,7 @@
 use Rattle.std.proofs.Common.{◌∙◌, ap, length, arith}
-use Rattle.st_serial.specs.Serial.{Run, run_in}
-use Rattle.st_serial.proofs.Runs.{serial_many, serial_count}
-use Rattle.st_top.proofs.HandedBack.{of_scripts, ends_told}
+use Rattle.st_serial.specs.Serial.{Run, run_in, serial_end}
+use Rattle.st_serial.proofs.Runs.{serial_groups, serial_many, serial_count}
+use Rattle.st_top.proofs.HandedBack.{of_run, serial_told}
 use Rattle.st_serial.proofs.Worlds.{states_many}
 use Rattle.st_top.proofs.ending.serial_ending.Goals as goal
 
@@ -18,9 +18,8 @@ journals_of-requires c =
 pub returns : goal.returns
 returns c =
     let doc = c.args.doc.now in
-    let ran = run_in c.in_ok-worlds.field-0 in
     let journals = c.in_ok-journals_of.field-0 in
     let logs = c.in_ok-logs.logs in
-    ends_told c.args.showing doc (record { journals = journals; logs = logs }) c.in_ok-status.status c.in_ok-status.text c.requires
-    (of_scripts doc ran journals logs c.requires c.in_ok-worlds.ensures c.in_ok-journals_of.ensures.journals c.in_ok-journals_of.ensures.kept c.in_ok-logs.ensures)
+    serial_told c.args.showing doc (record { journals = journals; logs = logs }) c.in_ok-status.status c.in_ok-status.text c.requires
+    (of_run doc (serial_end doc) (run_in c.in_ok-worlds.field-0) journals logs (serial_groups doc c.requires) c.in_ok-worlds.ensures c.in_ok-journals_of.ensures.journals c.in_ok-journals_of.ensures.kept c.in_ok-logs.ensures)
     c.in_ok-status.ensures

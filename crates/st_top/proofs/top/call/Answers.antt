@@ -3,7 +3,7 @@ use Rattle.std.specs.Prelude.{string_bytes}
 use Rattle.st_top.specs.Answer.{SourceState, SinkState}
 use Rattle.st_top.specs.Ways.{way_of}
 use Rattle.st_top.proofs.Endings.{after_fault, call_well, read_fault, write_fault, written_ends}
-use Rattle.st_top.proofs.top.statesman_alone.Goals as goal
+use Rattle.st_top.proofs.top.call.Goals as goal
 
 pub returns-in-Ok-clause-ends : goal.returns-in-Ok-clause-ends
 returns-in-Ok-clause-ends g c =
