@@ -19,7 +19,8 @@ from browser import Browser
 MOST_STEPS = 400
 MOST_REFUSALS = 2000
 MOST_TOLD = 6
-FIELDS = ("untold", "known", "low", "high", "is")
+MOST_KNOWN = 40
+FIELDS = ("untold", "known", "low", "high", "is", "told", "health", "target", "seen", "stamp")
 
 # Whether a box lies outside of the picture, or upon another.
 OVERLAP = """() => {
@@ -154,6 +155,17 @@ class Group:
         """The entries up to a number in which an entity failed."""
         return [n for n, entry in enumerate(self.entries[:number - self.first], self.first + 1) if words(entry)[:2] == ["fail", self.names[entity]]]
 
+    def failure_told(self, entity, number):
+        """The entry of the failure that a report tells of which was made at an entry: the newest failure before it, also before the page."""
+        before = [cause["entry"] for cause in self.causes("failed", entity)]
+        return max((n for n in before + self.failures(entity, self.last) if n < number), default=None)
+
+    def causes(self, key, entity):
+        return [cause for cause in self.opening.get("causes", {}).get(key, []) if cause["entity"] == entity]
+
+    def whole(self, entity):
+        return 5 if entity < len(self.devices) else 1
+
     def about(self, entity):
         """The entries that are about an entity, or after which its state is another."""
         return {number for number, entry in enumerate(self.entries, self.first + 1)
@@ -164,6 +176,11 @@ def words(entry):
     return entry["line"].split(" ")
 
 
+def reasons(told, name):
+    """What stands in brackets behind a name."""
+    return told.partition(name + " (")[2].partition(")")[0]
+
+
 def is_late(state):
     return state["is"] != "up" and state["known"] in ("waiting", "blocked")
 
@@ -172,7 +189,7 @@ class Trial:
     """What was tried on a page."""
 
     def __init__(self, browser):
-        self.browser, self.bad, self.drawn = browser, 0, set()
+        self.browser, self.bad, self.drawn, self.apps = browser, 0, set(), []
 
     def want(self, name, test):
         print("%s %s" % ("ok  " if test else "BAD ", name))
@@ -191,6 +208,9 @@ class Trial:
         is_told = self.browser.value('!document.getElementById("notice").hidden')
         self.want("%s: what is left out is told" % group.name, is_told == (group.total != len(group.entries)))
         self.steps(group)
+        self.known(group)
+        if group.first:
+            self.begun(group)
         self.refusals(group)
         self.list(group)
         self.marks(group)
@@ -272,14 +292,56 @@ class Trial:
         return self.browser.called(COUNTS, [".halo.asked", ".band.asked", ".halo.pair", ".band.pair"]) == wanted
 
     def are_explained(self, group, refused, states, number):
-        """Whether each of what is gone has its reason: of what is known to have failed, the entry in which it did."""
+        """Whether each of what is gone has its reason: of what is known to have failed, the entry of the failure that its known report tells."""
         told, gone = self.browser.text("why"), refused["gone"][:MOST_TOLD]
-        is_good = all("%s (" % group.names[e] in told for e in gone) and (told != "") == (gone != [])
-        for e in gone:
-            failures, state = group.failures(e, number), states[e]
-            if failures and state["is"] == "failed" and state["known"] == "settled" and not state["untold"]:
-                is_good = is_good and "%s (failed, entry %d" % (group.names[e], failures[-1]) in told
-        return is_good
+        return all("%s (" % group.names[e] in told for e in gone) and (told != "") == (gone != []) and all(
+            self.failure_words(group, e, states[e]) in reasons(told, group.names[e]) for e in gone if self.is_known_failed(group, e, states[e]))
+
+    def begun(self, group):
+        """Of a page that begins behind entries: who set what keeps an entity from being counted on, and which entry failed it."""
+        browser = self.browser
+        browser.key("Home")
+        is_named = True
+        for entity, state in enumerate(group.opened()):
+            sets = {cause["var"]: cause for cause in group.causes("set", entity)}
+            barring = [k for k, value in enumerate(state["target"]) if value != state["seen"][k]]
+            off = [k for k in (0, 3) if state["target"][k:k + 1] == state["seen"][k:k + 1] == [0]]
+            failed = [cause["entry"] for cause in group.causes("failed", entity) if self.is_known_failed(group, entity, state) and cause["entry"] < state["told"]]
+            if state["known"] != "sure" and (barring + off or failed):
+                browser.value("choose(%d)" % entity)
+                told = browser.text("not")
+                wanted = [" by %s, version %d" % (self.apps[sets[k]["app"]], sets[k]["version"]) for k in barring + off if k in sets]
+                is_told = "causes" in group.opening or not off or not state["stamp"]
+                is_named = is_named and is_told and all(words in told for words in wanted + ["failed, entry %d" % entry for entry in failed])
+        browser.key("Escape")
+        self.want("%s: who set what the page begins with, and which entry failed it" % group.name, is_named)
+
+    def is_known_failed(self, group, entity, state):
+        return state["health"] is not None and state["health"] < group.whole(entity)
+
+    def failure_words(self, group, entity, state):
+        """How its failure is told of an entity that is known to have failed."""
+        failure = group.failure_told(entity, state["told"])
+        text = ", entry %d" % failure if failure else " at the opening" if state["told"] == 0 or group.first == 0 else " before this page"
+        return "failed" + text + (": health %d of %d" % (state["health"], group.whole(entity)) if state["health"] else "")
+
+    def known(self, group):
+        """Of each entity that is looked at, since which entry it is known so and with which health, and which failure that is."""
+        browser, states = self.browser, group.opened()
+        for _, _, states in group.gone_through():
+            pass
+        browser.key("End")
+        is_since = is_failure = True
+        for entity, state in enumerate(states[:MOST_KNOWN]):
+            browser.value("choose(%d)" % entity)
+            since = "entry %d" % state["told"] if state["told"] else "the opening"
+            health = ", by a report that hides its health" if state["health"] is None else ": health %d of %d" % (state["health"], group.whole(entity))
+            is_since = is_since and browser.text("since") == "Known since %s%s." % (since, health)
+            if state["known"] != "sure" and self.is_known_failed(group, entity, state):
+                is_failure = is_failure and self.failure_words(group, entity, state) in browser.text("not")
+        browser.key("Escape")
+        self.want("%s: since which entry each is known, and its health" % group.name, is_since)
+        self.want("%s: the failure that is known of each is named" % group.name, is_failure)
 
     def list(self, group):
         """The list of all entries, as it is filtered, and moved in by its keys."""
@@ -421,7 +483,7 @@ def main():
     trial = Trial(browser)
     browser.open(page.as_uri())
     run = json.loads(browser.text("run"))
-    groups = [Group(data) for data in run["groups"]]
+    groups, trial.apps = [Group(data) for data in run["groups"]], run["apps"]
     for place, group in enumerate(groups):
         trial.group(place, group)
     if asked.pictures:

@@ -18,7 +18,7 @@ from cases import case_text
 from comparisons import Reading
 from document import POWER
 from journal import (
-    Accepted, Blocked, Check, Decided, Deliver, Fail, Hear, IsLocked, LacksLevel, LacksPower, Lock, Queued, Send, Submit, Unlock,
+    Accepted, Blocked, Check, Decided, Deliver, Fail, Hear, IsLocked, LacksLevel, LacksPower, Lock, Queued, Report, Send, Submit, Unlock,
     event_text, reply_text,
 )
 from judging import altered
@@ -27,10 +27,23 @@ from promises import up_links
 from standing import carries, level_of
 
 GREATEST = {False: 5, True: 1}
+MOST_BEFORE = 60                        # half of the pages begin behind fewer entries than so many
 
 
 def number_of(group, entity):
     return entity.number + (len(group.devices) if entity.is_link else 0)
+
+
+def known_since(past, entity):
+    """The number of the entry by which the entity made the report that is kept of it; 0 where that is the opening's."""
+    makers = [number for number, entry in past.numbered(Report) if entry.event.entity == entity]
+    return ([0] + makers)[past.observed[entity].number]
+
+
+def known_health(past, entity):
+    """The entity's health when it made that report, where this does not hide it."""
+    seen = past.observed[entity]
+    return None if seen.is_busy or seen.values[POWER] == 0 else past.at(known_since(past, entity)).health(entity)
 
 
 def state(past, entity):
@@ -55,7 +68,8 @@ def state(past, entity):
     shown = {
         "is": carriage, "known": known, "untold": int(past.is_untold(entity)), "target": list(past.target[entity]),
         "seen": list(seen.values), "real": list(values), "level": seen.level, "works": works,
-        "stamp": past.stamp(entity), "fence": seen.fence, "low": past.holder(entity, "low"), "high": past.holder(entity, "high"),
+        "stamp": past.stamp(entity), "fence": seen.fence, "told": known_since(past, entity), "health": known_health(past, entity),
+        "low": past.holder(entity, "low"), "high": past.holder(entity, "high"),
     }
     if entity.is_link:
         shown["open"] = int(entity.number in up_links(past.group, actual))
@@ -182,6 +196,27 @@ def entry_picture(document, past, before, after, entry):
     return told
 
 
+def setters(past, entity, variable):
+    """The accepted proposals with a row on a variable, each as its version and its application, the oldest first."""
+    accepted = [proposal for proposal, verdict in zip(past.proposals, past.verdicts) if isinstance(verdict, Accepted)]
+    return [(version, application) for version, (application, rows) in enumerate(accepted, 1)
+            if any((row.entity, row.variable) == (entity, variable) for row in rows)]
+
+
+def causes(past):
+    """Who set what is not as at the opening, and which entry failed what has failed; empty where there is nothing of it."""
+    moved, failed = [], []
+    for entity in past.entities:
+        for variable, (value, opening) in enumerate(zip(past.target[entity], past.group.opening_values(entity))):
+            if value != opening:
+                version, application = setters(past, entity, variable)[-1]
+                moved.append({"entity": number_of(past.group, entity), "var": variable, "version": version, "app": application})
+        failures = past.failures(entity)
+        if failures and past.health(entity) < GREATEST[entity.is_link]:
+            failed.append({"entity": number_of(past.group, entity), "entry": failures[-1][0]})
+    return {key: told for key, told in (("set", moved), ("failed", failed)) if told}
+
+
 def group_picture(document, standing, first):
     group, pasts = standing.group, []
     past = Past(standing, 0, pasts)
@@ -199,6 +234,8 @@ def group_picture(document, standing, first):
         "network": {"lost": [i for i, holds in enumerate(shown["network"]) if not holds]},
         "sure": {"lost": [i for i, holds in enumerate(shown["sure"]) if not holds]},
     }
+    if causes(pasts[first]):
+        opening["causes"] = causes(pasts[first])
     entries = []
     for length in range(first, len(standing.entries)):
         after = snapshot(pasts[length + 1])
@@ -261,7 +298,7 @@ def main():
     asked = options.parse_args()
     differences = 0
     for seed, text, reading in cases(asked.first, asked.cases):
-        first = seed % 5 * (seed % 2)
+        first = seed * 7 % MOST_BEFORE * (seed % 2)
         wanted, given = picture(reading, first), replay_text(text, reading)
         if asked.write:
             folder = pathlib.Path(asked.write)

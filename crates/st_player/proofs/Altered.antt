@@ -76,6 +76,7 @@ stays_unaltered g past answer e accepts other = record {
   vals_is = refl;
   health_is = refl;
   observed_is = refl;
+  since_is = refl;
   stamp_is = stamp_stays g past answer e accepts other;
   holder_is = λ p. refl;
   failed_is = λ n. refl;

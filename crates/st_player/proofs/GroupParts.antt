@@ -8,9 +8,8 @@ use Rattle.serde_json.specs.View.{items_of}
 use Rattle.st_net.specs.Groups.{Group}
 use Rattle.st_event.specs.declared.journal.Entry.{Entry}
 use Rattle.st_player.specs.Json.{list_data, number_data}
-use Rattle.st_player.specs.Pictures.{after, first_of, group_data, opening_data, shown_entries, with_entries, with_parts}
+use Rattle.st_player.specs.Pictures.{after, begun_data, first_of, group_data, shown_entries, with_entries, with_parts}
 use Rattle.st_player.specs.PlayedBack.{at_opening, entries_in, first_in, list_in, listed, number_in, total_in}
-use Rattle.st_player.specs.Snapshots.{shown_of}
 
 -- a list of data, read back
 pub listed_back : (ds : List Data) → listed (items_of ds) ≡ ds
@@ -38,11 +37,11 @@ total_at apps from room g entries = refl
 pub total_told : (apps : List (List ℕ)) (from room : ℕ) (g : Group) (entries : List Entry) → total_in (group_data apps from room g entries) ≡ length entries
 total_told apps from room g entries = ap number_in (total_at apps from room g entries)
 
-opening_is : (apps : List (List ℕ)) (from room : ℕ) (g : Group) (entries : List Entry) → get (codes "opening") (group_data apps from room g entries) ≡ Some (opening_data (shown_of g (after from entries)))
+opening_is : (apps : List (List ℕ)) (from room : ℕ) (g : Group) (entries : List Entry) → get (codes "opening") (group_data apps from room g entries) ≡ Some (begun_data g (after from entries))
 unfolding group_data with_entries with_parts
 opening_is apps from room g entries = refl
 
-pub opening_told : (key : List ℕ) (apps : List (List ℕ)) (from room : ℕ) (g : Group) (entries : List Entry) → at_opening key (group_data apps from room g entries) ≡ get key (opening_data (shown_of g (after from entries)))
+pub opening_told : (key : List ℕ) (apps : List (List ℕ)) (from room : ℕ) (g : Group) (entries : List Entry) → at_opening key (group_data apps from room g entries) ≡ get key (begun_data g (after from entries))
 opening_told key apps from room g entries = ap (option_and_then (get key)) (opening_is apps from room g entries)
 
 -- the first that are told are those before the page

@@ -12,10 +12,9 @@ use Rattle.st_event.specs.declared.journal.Entry.{Entry}
 use Rattle.st_event.specs.History.{History}
 use Rattle.st_player.specs.Joined.{HasMembers, joined}
 use Rattle.st_player.specs.Json.{list_data, number_data}
-use Rattle.st_player.specs.Pictures.{after, device_data, entries_data, first_of, fitting, group_data, groups_data, picture, room_of, shown_entries, with_entries, with_parts}
+use Rattle.st_player.specs.Pictures.{after, begun_data, device_data, entries_data, first_of, fitting, group_data, groups_data, picture, room_of, shown_entries, with_entries, with_parts}
 use Rattle.st_player.specs.PictureTexts.{group_head, with_beginning, with_other_parts}
 use Rattle.st_player.specs.Shown.{is_shown}
-use Rattle.st_player.specs.Snapshots.{shown_of}
 use Rattle.st_player.proofs.JoinLemmas.{items_joined}
 use Rattle.st_player.proofs.SafeLemmas.{quoted_plain, shown_join}
 
@@ -37,7 +36,7 @@ list_text mid ds rest = ap (λ (s : List ℕ). mid ++ s) (sym (append_assoc (joi
 
 -- the members of a group that stand behind its entries
 abbrev pub group_rest : Group → ℕ → List Entry → Members
-group_rest g from entries = with_beginning (first_of from entries) (length entries) (shown_of g (after from entries)) (with_other_parts g no_members)
+group_rest g from entries = with_beginning (first_of from entries) (length entries) (begun_data g (after from entries)) (with_other_parts g no_members)
 
 pub rest_members : (g : Group) (from : ℕ) (entries : List Entry) → HasMembers (group_rest g from entries)
 unfolding with_beginning with_other_parts
@@ -45,12 +44,12 @@ rest_members g from entries = tt
 
 -- what is put of a group that went through its first entries
 pub rest_is : (g : Group) (from : ℕ) (entries : List Entry) (h : History) (front : List Entry) (first : ℕ) (parts ms : Members) → h ≡ record { group = g; past = reverse front } → front ≡ take from entries → first ≡ first_of from entries
-    → parts ≡ with_other_parts g no_members → ms ≡ with_beginning first (length entries) (shown_of h.group h.past) parts → ms ≡ group_rest g from entries
+    → parts ≡ with_other_parts g no_members → ms ≡ with_beginning first (length entries) (begun_data h.group h.past) parts → ms ≡ group_rest g from entries
 rest_is g from entries h front first parts ms h_is front_is first_is parts_is put =
     put
-    ∙ (ap (λ (k : History). with_beginning first (length entries) (shown_of k.group k.past) parts) h_is
-    ∙ (ap (λ (es : List Entry). with_beginning first (length entries) (shown_of g (reverse es)) parts) front_is
-    ∙ ap₂ (λ (n : ℕ) (ms : Members). with_beginning n (length entries) (shown_of g (after from entries)) ms) first_is parts_is))
+    ∙ (ap (λ (k : History). with_beginning first (length entries) (begun_data k.group k.past) parts) h_is
+    ∙ (ap (λ (es : List Entry). with_beginning first (length entries) (begun_data g (reverse es)) parts) front_is
+    ∙ ap₂ (λ (n : ℕ) (ms : Members). with_beginning n (length entries) (begun_data g (after from entries)) ms) first_is parts_is))
 
 -- and of the entries behind
 pub told_is : (g : Group) (apps : List (List ℕ)) (from room : ℕ) (entries : List Entry) (h : History) (front back : List Entry) → h ≡ record { group = g; past = reverse front } → front ≡ take from entries → back ≡ drop from entries

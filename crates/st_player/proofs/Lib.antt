@@ -1,12 +1,16 @@
 pub mod AboutLemmas
 pub mod Altered
 pub mod AskedLemmas
+pub mod CauseLaws
 pub mod ChangeLemmas
 pub mod CutLemmas
 pub mod FarCuts
 pub mod GroupParts
 pub mod GroupTexts
 pub mod JoinLemmas
+pub mod KnownLemmas
+pub mod KnownReports
+pub mod OriginLemmas
 pub mod PartLemmas
 pub mod PassLemmas
 pub mod PictureLemmas
@@ -24,6 +28,7 @@ pub mod ToldCuts
 pub mod ToldEntries
 pub mod Untouched
 mod WorkedCalls
+mod WorkedCauses
 mod WorkedCuts
 mod WorkedEntries
 mod WorkedFields

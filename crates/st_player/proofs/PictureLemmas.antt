@@ -1,10 +1,11 @@
 -- The parts of a picture, as loops make them.
-use Rattle.std.proofs.Common.{◌≡◌, ◌∙◌, ℕ, suc, ◌+◌, ◌<◌, ◌≤◌, true, false, Bool, List, [], ◌∷◌, ◌++◌, length, map, get_or, drop, refl, sym, ap, subst, arith, replicate}
-use Rattle.std.specs.Prelude.{None, ◌||◌, ◌==◌, not, if◌then◌else◌}
+use Rattle.std.proofs.Common.{◌≡◌, ◌∙◌, ℕ, suc, ◌+◌, ◌<◌, ◌≤◌, true, false, Bool, List, [], ◌∷◌, ◌++◌, length, map, get_or, take, drop, refl, sym, ap, subst, arith, replicate}
+use Rattle.std.specs.Prelude.{None, ◌||◌, ◌==◌, flat_map, not, if◌then◌else◌}
 use Rattle.std.specs.List.{list_any, position_or_len, range_with_len}
 use Rattle.std.proofs.lemmas.Bool.Decides.{nat_tests}
 use Rattle.std.proofs.lemmas.List.Sums.{position_or_len_is, prefix_len-le-length}
-use Rattle.std.proofs.lemmas.List.{get_or_default, drop_more, length-append, map-append}
+use Rattle.std.proofs.lemmas.List.{append-nil, get_or_default, drop_more, length-append, map-append, take_more}
+use Rattle.std.proofs.lemmas.List.Concat.{flat_map-append}
 use Rattle.std.proofs.lemmas.List.FromFn.{map-range_with_len_more}
 use Rattle.serde_json.specs.Data.{Data}
 use Rattle.serde_json.specs.View.{view}
@@ -19,6 +20,12 @@ use Rattle.st_player.specs.Pictures.{is_known, is_same_state, kind_in, kinds_of,
 pub part_next : (f : ℕ → Data) (list more : List Value) (json : Value) (i : ℕ) → map view list ≡ map f (range_with_len 0 i) → view json ≡ f i → more ≡ list ++ json ∷ [] → map view more ≡ map f (range_with_len 0 (i + 1))
 part_next f list more json i was is pushed =
     ap (map view) pushed ∙ (map-append view list (json ∷ []) ∙ (ap (λ ds. ds ++ view json ∷ []) was ∙ (ap (λ (d : Data). map f (range_with_len 0 i) ++ d ∷ []) is ∙ sym (map-range_with_len_more f 0 i i (omega arith)))))
+
+-- what a list of parts is, one entity further
+pub flat_more : {X : Type 0} (f : X → List Data) (xs : List X) (i : ℕ) (x : X) → i < length xs → x ≡ get_or xs i x → flat_map f (take i xs) ++ f x ≡ flat_map f (take (i + 1) xs)
+flat_more f xs i x low at =
+    sym (ap (flat_map f) (take_more xs i x low ∙ ap (λ (y : _). take i xs ++ y ∷ []) (sym at))
+    ∙ (flat_map-append f (take i xs) (x ∷ []) ∙ ap (λ (ds : List Data). flat_map f (take i xs) ++ ds) (append-nil (f x))))
 
 -- the first place that passes is within a list exactly where one passes
 pub place_low : {X : Type 0} (test : X → Bool) (xs : List X) → position_or_len test xs ≤ length xs
@@ -43,7 +50,7 @@ other_numbers m n a b apart first second = grind (arith, nat_tests)
 
 -- what a list of states has past its end
 abbrev pub no_state : State
-no_state = record { carriage = Busy; knowledge = Sure; untold = false; target = no_vals; seen = no_vals; real = no_vals; level = 0; works = 0; stamp = 0; fence = 0; low = None; high = None; is_open = None }
+no_state = record { carriage = Busy; knowledge = Sure; untold = false; target = no_vals; seen = no_vals; real = no_vals; level = 0; works = 0; stamp = 0; fence = 0; told = 0; health = None; low = None; high = None; is_open = None }
 
 -- a state that is the same, behind others that are not
 pub found_at : (kinds : List State) (s : State) (i : ℕ) → i < length kinds → is_same_state (get_or kinds i no_state) s ≡ true → ((k : ℕ) (d : State) → k < i → is_same_state (get_or kinds k d) s ≡ false) → i ≡ kind_in kinds s

@@ -14,12 +14,17 @@ use Rattle.st_event.specs.declared.event.Event.TheVariants.{Submit, Check, Lock,
 use Rattle.st_event.specs.declared.journal.Entry.{Entry}
 use Rattle.st_event.specs.declared.reply.Reply.{Reply}
 use Rattle.st_event.specs.History.{History, with_entry}
-use Rattle.st_event.specs.Legal.{Fits, IsNext}
+use Rattle.st_event.specs.Legal.{Fits, IsLegal, IsNext}
 use Rattle.st_event.specs.Moments.{number, is_report_of}
 use Rattle.st_event.specs.Replies.{reply}
+use Rattle.st_player.specs.declared.origins.Origin.{Origin}
 use Rattle.st_player.specs.declared.playback.Told.{Told}
 use Rattle.st_player.specs.Entries.{askers_after}
-use Rattle.st_player.specs.Inside.{AreTold, IsPlayback, last_fail, no_told, told_after, told_at, told_of}
+use Rattle.st_player.specs.Inside.{AreSince, AreTold, IsPlayback, all_since, last_fail, no_told, told_after, told_at, told_of}
+use Rattle.st_player.specs.Known.{makers_after}
+use Rattle.st_player.specs.Origins.{AreOrigins, origins_after}
+use Rattle.st_player.proofs.KnownLemmas.{since_next}
+use Rattle.st_player.proofs.OriginLemmas.{origins_next}
 
 -- no entity has made more reports than there are entries
 pub number_low : (past : List Entry) (e : Entity) → number past e ≤ length past
@@ -107,15 +112,21 @@ entered h new entry event given same next did is =
     is ∙ ap₂ (λ (e : Event) (r : Reply). with_entry h (record { event = e; reply = r })) same replied
 
 -- what is kept is kept behind the next entry too
-pub playback_next : (h new : History) (told now : List Told) (asked asked_now : List ℕ) (entry : Entry) → IsPlayback h told asked → Fits h.group entry.event → now ≡ told_after h.group entry.event told
-    → asked_now ≡ askers_after entry.event entry.reply (length h.past + 1) asked → new ≡ with_entry h entry → IsPlayback new now asked_now
-playback_next h new told now asked asked_now entry was fits told_is asked_is is =
+pub playback_next : (h new : History) (told now : List Told) (asked asked_now made made_now since since_now : List ℕ) (origins origins_now : List Origin) (entry : Entry) → IsPlayback h told asked made since origins → IsLegal h.group h.past → Fits h.group entry.event
+    → now ≡ told_after h.group entry.event told → asked_now ≡ askers_after entry.event entry.reply (length h.past + 1) asked → made_now ≡ makers_after entry.event (length h.past + 1) made → since_now ≡ all_since h.group h.past entry.event made since
+    → origins_now ≡ origins_after h.group h.past entry (length h.past + 1) origins → new ≡ with_entry h entry → IsPlayback new now asked_now made_now since_now origins_now
+playback_next h new told now asked asked_now made made_now since since_now origins origins_now entry was legal fits told_is asked_is made_is since_is origins_are is =
     let next = told_next h.group h.past told entry was.told_is fits in
-    let here : IsPlayback (with_entry h entry) now asked_now = record {
+    let known = since_next h.group h.past since entry made was.since_is was.made_is legal in
+    let came = origins_next h.group h.past origins entry was.origins_are legal fits in
+    let here : IsPlayback (with_entry h entry) now asked_now made_now since_now origins_now = record {
       told_is = subst (λ (one : List Told). AreTold h.group (entry ∷ h.past) one) (sym told_is) next;
       asked_is = asked_is ∙ ap (askers_after entry.event entry.reply (length h.past + 1)) was.asked_is;
+      made_is = made_is ∙ ap (makers_after entry.event (length h.past + 1)) was.made_is;
+      since_is = subst (λ (one : List ℕ). AreSince h.group (entry ∷ h.past) one) (sym since_is) known;
+      origins_are = subst (λ (one : List Origin). AreOrigins h.group (entry ∷ h.past) one) (sym origins_are) came;
     } in
-    subst (λ (k : History). IsPlayback k now asked_now) (sym is) here
+    subst (λ (k : History). IsPlayback k now asked_now made_now since_now origins_now) (sym is) here
 
 -- a list that was written back whole
 pub take_front : {X : Type 0} (n : ℕ) (xs ys : List X) → n ≡ length xs → take n (xs ++ ys) ≡ xs

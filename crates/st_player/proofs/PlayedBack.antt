@@ -18,11 +18,12 @@ use Rattle.st_net.specs.InOrder.{entities_of, place_in}
 use Rattle.st_net.proofs.EntityOrder.{device_at, entities_count, link_at}
 use Rattle.st_event.specs.declared.journal.Entry.{Entry}
 use Rattle.st_player.specs.declared.state.State.{State}
+use Rattle.st_player.specs.Causes.{causes_of}
 use Rattle.st_player.specs.Entries.{about, asked_of, entry_data, entry_words, line_of, told_data, turned_of}
 use Rattle.st_player.specs.Fields.{change_data, changes_from, fields_between, has_field, state_data}
 use Rattle.st_player.specs.Json.{list_data, number_data, numbers_data, put_list, put_some, put_where}
 use Rattle.st_player.specs.Laws.{LongestFits, NoEntryIsLost, StatesPlayBack}
-use Rattle.st_player.specs.Pictures.{after, bytes_of, entries_data, first_of, fitting, group_data, is_known, is_same_state, kind_in, kinds_of, kinds_on, kinds_with, lost_data, opening_data, shown_entries, size_of}
+use Rattle.st_player.specs.Pictures.{after, begun_data, bytes_of, entries_data, first_of, fitting, group_data, is_known, is_same_state, kind_in, kinds_of, kinds_on, kinds_with, lost_data, opening_data, shown_entries, size_of, with_shown}
 use Rattle.st_player.specs.PlayedBack.{at_place, entries_in, first_in, in_changes, in_set, is_number, last_told, told_by_entry, told_by_opening}
 use Rattle.st_player.specs.Refusals.{refused_of}
 use Rattle.st_player.specs.Snapshots.{Shown, shown_of, states_of}
@@ -342,10 +343,14 @@ item_at [] i d low = absurd (omega (arith, low))
 item_at (x ∷ ds) zero d low = refl
 item_at (x ∷ ds) (suc i) d low = item_at ds i d (omega (arith, low))
 
--- the states of an opening, and the places among them
-states_in : (shown : Shown) → get (codes "states") (opening_data shown) ≡ Some (list_data (map state_data (kinds_of shown.states)))
+-- the causes of an opening stand at a key of their own
+pub past_causes : (k : List ℕ) (shown : Shown) (causes : Option Data) → bytes_eq k (codes "causes") ≡ false → get k (opening_data shown causes) ≡ get_member k (with_shown shown)
 unfolding opening_data
-states_in shown =
+past_causes k shown causes other = apart_some k (codes "causes") causes (with_shown shown) other
+
+-- the states of an opening, and the places among them
+states_in : (shown : Shown) (causes : Option Data) → get (codes "states") (opening_data shown causes) ≡ Some (list_data (map state_data (kinds_of shown.states)))
+states_in shown causes =
     let places = numbers_data (map (kind_in (kinds_of shown.states)) shown.states) in
     let kinds = list_data (map state_data (kinds_of shown.states)) in
     let states = put (codes "states") kinds no_members in
@@ -354,16 +359,16 @@ states_in shown =
     let known = put (codes "sure") (lost_data shown.sure) network in
     let version = put (codes "version") (number_data shown.version) known in
     let key = codes "states" in
-    get_member-put_other key (codes "pending") (number_data shown.pending) version (not_same key (codes "pending") refl)
+    past_causes key shown causes refl
+    ∙ get_member-put_other key (codes "pending") (number_data shown.pending) version (not_same key (codes "pending") refl)
     ∙ (get_member-put_other key (codes "version") (number_data shown.version) known (not_same key (codes "version") refl)
     ∙ (get_member-put_other key (codes "sure") (lost_data shown.sure) network (not_same key (codes "sure") refl)
     ∙ (get_member-put_other key (codes "network") (lost_data shown.network) of (not_same key (codes "network") refl)
     ∙ (get_member-put_other key (codes "of") places states (not_same key (codes "of") refl)
     ∙ get_member-put key kinds no_members))))
 
-places_in : (shown : Shown) → get (codes "of") (opening_data shown) ≡ Some (numbers_data (map (kind_in (kinds_of shown.states)) shown.states))
-unfolding opening_data
-places_in shown =
+places_in : (shown : Shown) (causes : Option Data) → get (codes "of") (opening_data shown causes) ≡ Some (numbers_data (map (kind_in (kinds_of shown.states)) shown.states))
+places_in shown causes =
     let places = numbers_data (map (kind_in (kinds_of shown.states)) shown.states) in
     let states = put (codes "states") (list_data (map state_data (kinds_of shown.states))) no_members in
     let of = put (codes "of") places states in
@@ -371,7 +376,8 @@ places_in shown =
     let known = put (codes "sure") (lost_data shown.sure) network in
     let version = put (codes "version") (number_data shown.version) known in
     let key = codes "of" in
-    get_member-put_other key (codes "pending") (number_data shown.pending) version (not_same key (codes "pending") refl)
+    past_causes key shown causes refl
+    ∙ get_member-put_other key (codes "pending") (number_data shown.pending) version (not_same key (codes "pending") refl)
     ∙ (get_member-put_other key (codes "version") (number_data shown.version) known (not_same key (codes "version") refl)
     ∙ (get_member-put_other key (codes "sure") (lost_data shown.sure) network (not_same key (codes "sure") refl)
     ∙ (get_member-put_other key (codes "network") (lost_data shown.network) of (not_same key (codes "network") refl)
@@ -387,7 +393,7 @@ kind_is states i s low at =
 
 -- what an opening tells of an entity is its state
 state_opens : (k : List ℕ) (g : Group) (past : List Entry) (e : Entity) → IsEntityOf g e
-    → at_place k (get (codes "states") (opening_data (shown_of g past))) (option_and_then (at (place_in g e)) (get (codes "of") (opening_data (shown_of g past)))) ≡ get k (state_data (state_of g past e))
+    → at_place k (get (codes "states") (begun_data g past)) (option_and_then (at (place_in g e)) (get (codes "of") (begun_data g past))) ≡ get k (state_data (state_of g past e))
 unfolding shown_of
 state_opens k g past e here =
     let n = place_in g e in
@@ -403,7 +409,7 @@ state_opens k g past e here =
     let state : get_item (kind_in kinds s) (items_of (map state_data kinds)) ≡ Some (state_data s) =
     item_at (map state_data kinds) (kind_in kinds s) (state_data s) (omega (arith, kind.0, length-map kinds state_data))
     ∙ ap (λ (d : Data). Some d) (get_or-map state_data kinds (kind_in kinds s) s (state_data s) kind.0 ∙ ap state_data kind.1) in
-    ap₂ (λ (a b : Option Data). at_place k a (option_and_then (at n) b)) (states_in (shown_of g past)) (places_in (shown_of g past))
+    ap₂ (λ (a b : Option Data). at_place k a (option_and_then (at n) b)) (states_in (shown_of g past) (causes_of g past)) (places_in (shown_of g past) (causes_of g past))
     ∙ (ap (at_place k (Some (list_data (map state_data kinds)))) place
     ∙ ap (option_and_then (get k)) state)
 

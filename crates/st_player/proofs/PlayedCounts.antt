@@ -14,16 +14,17 @@ use Rattle.st_net.specs.Promises.{is_kept}
 use Rattle.st_event.specs.declared.journal.Entry.{Entry}
 use Rattle.st_event.specs.Observed.{actual, sure}
 use Rattle.st_event.specs.Proposals.{pending, version}
+use Rattle.st_player.specs.Causes.{causes_of}
 use Rattle.st_player.specs.Entries.{entry_data, entry_words, lost_from, told_data, turned_data, turned_of}
 use Rattle.st_player.specs.Fields.{changes_from}
 use Rattle.st_player.specs.Json.{list_data, number_data, numbers_data, put_list, put_some, put_where}
 use Rattle.st_player.specs.Laws.{CountsPlayBack, PromisesPlayBack}
-use Rattle.st_player.specs.Pictures.{after, entries_data, group_data, lost_data, opening_data, unkept, with_states}
+use Rattle.st_player.specs.Pictures.{after, begun_data, entries_data, group_data, lost_data, opening_data, unkept, with_states}
 use Rattle.st_player.specs.PlayedBack.{holds_after, holds_at_opening, is_among, is_back, is_listed, is_lost, is_number, last_at}
 use Rattle.st_player.specs.Snapshots.{Shown, held_of, shown_of}
 use Rattle.st_player.proofs.GroupParts.{opening_told}
 use Rattle.st_player.proofs.PartLemmas.{not_same}
-use Rattle.st_player.proofs.PlayedBack.{apart_list, apart_some, apart_where, back_more, equal_number, not_in_words, other_number, told_front, told_past}
+use Rattle.st_player.proofs.PlayedBack.{apart_list, apart_some, apart_where, back_more, equal_number, not_in_words, other_number, past_causes, told_front, told_past}
 
 -- what an entry puts, from the words on
 abbrev pub with_set : Shown → Shown → Members → Members
@@ -97,18 +98,20 @@ counts_told k count g apps past (entry ∷ entries) step =
 abbrev to_sure : Shown → Members
 to_sure shown = put (codes "sure") (lost_data shown.sure) (put (codes "network") (lost_data shown.network) (with_states shown.states no_members))
 
-opening_version : (g : Group) (past : List Entry) → get (codes "version") (opening_data (shown_of g past)) ≡ Some (number_data (version past))
-unfolding opening_data shown_of
+opening_version : (g : Group) (past : List Entry) → get (codes "version") (begun_data g past) ≡ Some (number_data (version past))
+unfolding shown_of
 opening_version g past =
     let shown = shown_of g past in
-    get_member-put_other (codes "version") (codes "pending") (number_data shown.pending) (put (codes "version") (number_data shown.version) (to_sure shown)) (not_same (codes "version") (codes "pending") refl)
+    past_causes (codes "version") shown (causes_of g past) refl
+    ∙ get_member-put_other (codes "version") (codes "pending") (number_data shown.pending) (put (codes "version") (number_data shown.version) (to_sure shown)) (not_same (codes "version") (codes "pending") refl)
     ∙ get_member-put (codes "version") (number_data shown.version) (to_sure shown)
 
-opening_pending : (g : Group) (past : List Entry) → get (codes "pending") (opening_data (shown_of g past)) ≡ Some (number_data (length (pending past)))
-unfolding opening_data shown_of
+opening_pending : (g : Group) (past : List Entry) → get (codes "pending") (begun_data g past) ≡ Some (number_data (length (pending past)))
+unfolding shown_of
 opening_pending g past =
     let shown = shown_of g past in
-    get_member-put (codes "pending") (number_data shown.pending) (put (codes "version") (number_data shown.version) (to_sure shown))
+    past_causes (codes "pending") shown (causes_of g past) refl
+    ∙ get_member-put (codes "pending") (number_data shown.pending) (put (codes "version") (number_data shown.version) (to_sure shown))
 
 pub counts_back : CountsPlayBack
 counts_back apps from room g entries m within =
@@ -270,38 +273,38 @@ unkept_at i held low =
     twice true = refl
     twice false = refl
 
-opening_network : (shown : Shown) → get (codes "network") (opening_data shown) ≡ Some (lost_data shown.network)
-unfolding opening_data
-opening_network shown =
+opening_network : (shown : Shown) (causes : Option Data) → get (codes "network") (opening_data shown causes) ≡ Some (lost_data shown.network)
+opening_network shown causes =
     let key = codes "network" in
     let states = with_states shown.states no_members in
     let network = put key (lost_data shown.network) states in
     let version = put (codes "version") (number_data shown.version) (to_sure shown) in
-    get_member-put_other key (codes "pending") (number_data shown.pending) version (not_same key (codes "pending") refl)
+    past_causes key shown causes refl
+    ∙ get_member-put_other key (codes "pending") (number_data shown.pending) version (not_same key (codes "pending") refl)
     ∙ (get_member-put_other key (codes "version") (number_data shown.version) (to_sure shown) (not_same key (codes "version") refl)
     ∙ (get_member-put_other key (codes "sure") (lost_data shown.sure) network (not_same key (codes "sure") refl)
     ∙ get_member-put key (lost_data shown.network) states))
 
-opening_sure : (shown : Shown) → get (codes "sure") (opening_data shown) ≡ Some (lost_data shown.sure)
-unfolding opening_data
-opening_sure shown =
+opening_sure : (shown : Shown) (causes : Option Data) → get (codes "sure") (opening_data shown causes) ≡ Some (lost_data shown.sure)
+opening_sure shown causes =
     let key = codes "sure" in
     let network = put (codes "network") (lost_data shown.network) (with_states shown.states no_members) in
     let version = put (codes "version") (number_data shown.version) (to_sure shown) in
-    get_member-put_other key (codes "pending") (number_data shown.pending) version (not_same key (codes "pending") refl)
+    past_causes key shown causes refl
+    ∙ get_member-put_other key (codes "pending") (number_data shown.pending) version (not_same key (codes "pending") refl)
     ∙ (get_member-put_other key (codes "version") (number_data shown.version) (to_sure shown) (not_same key (codes "version") refl)
     ∙ get_member-put key (lost_data shown.sure) network)
 
-network_opens : (g : Group) (past : List Entry) (i : ℕ) → i < length g.promises → not (is_lost i (get (codes "network") (opening_data (shown_of g past)))) ≡ is_kept g (actual g past) (promise_of g i)
+network_opens : (g : Group) (past : List Entry) (i : ℕ) → i < length g.promises → not (is_lost i (get (codes "network") (begun_data g past))) ≡ is_kept g (actual g past) (promise_of g i)
 unfolding shown_of
 network_opens g past i low =
-    ap (λ (o : Option Data). not (is_lost i o)) (opening_network (shown_of g past))
+    ap (λ (o : Option Data). not (is_lost i o)) (opening_network (shown_of g past) (causes_of g past))
     ∙ (unkept_at i (held_of g past actual) (omega (arith, low, held_long g past actual)) ∙ held_at g past actual i low)
 
-sure_opens : (g : Group) (past : List Entry) (i : ℕ) → i < length g.promises → not (is_lost i (get (codes "sure") (opening_data (shown_of g past)))) ≡ is_kept g (sure g past) (promise_of g i)
+sure_opens : (g : Group) (past : List Entry) (i : ℕ) → i < length g.promises → not (is_lost i (get (codes "sure") (begun_data g past))) ≡ is_kept g (sure g past) (promise_of g i)
 unfolding shown_of
 sure_opens g past i low =
-    ap (λ (o : Option Data). not (is_lost i o)) (opening_sure (shown_of g past))
+    ap (λ (o : Option Data). not (is_lost i o)) (opening_sure (shown_of g past) (causes_of g past))
     ∙ (unkept_at i (held_of g past sure) (omega (arith, low, held_long g past sure)) ∙ held_at g past sure i low)
 
 pub promises_back : PromisesPlayBack
@@ -310,7 +313,7 @@ promises_back apps from room g entries i m low within =
     let more = take m (drop from entries) in
     let front = told_front apps from room m g entries within in
     let whole = told_past apps from room m g entries in
-    let opens : (key : List ℕ) → holds_at_opening key i (group_data apps from room g entries) ≡ not (is_lost i (get key (opening_data (shown_of g past)))) =
+    let opens : (key : List ℕ) → holds_at_opening key i (group_data apps from room g entries) ≡ not (is_lost i (get key (begun_data g past))) =
     λ key. ap (λ (o : Option Data). not (is_lost i o)) (opening_told key apps from room g entries) in (
       ap₂ (holds_after (codes "network") i) front (opens (codes "network") ∙ network_opens g past i low)
           ∙ (held_told (codes "network") actual g apps past more i low (network_in g apps) ∙ ap (λ (es : List Entry). is_kept g (actual g es) (promise_of g i)) whole),

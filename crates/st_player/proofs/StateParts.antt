@@ -14,8 +14,8 @@ use Rattle.st_player.specs.declared.state.Carriage.TheVariants.{Busy, Up, Off, F
 use Rattle.st_player.specs.declared.state.Knowledge.{Knowledge}
 use Rattle.st_player.specs.declared.state.Knowledge.TheVariants.{Sure, Settled, Blocked, Waiting}
 use Rattle.st_player.specs.declared.state.State.{State}
-use Rattle.st_player.specs.Fields.{all_fields, carriage_word, change_data, fields_between, has_field, holder_data, is_same_carriage, is_same_flag, is_same_holder, is_same_knowledge, is_same_open, knowledge_word, put_open, state_data, vals_data, with_fields}
-use Rattle.st_player.specs.Json.{flag_data, number_data, put_where}
+use Rattle.st_player.specs.Fields.{all_fields, carriage_word, change_data, fields_between, has_field, holder_data, is_same_carriage, is_same_flag, is_same_health, is_same_holder, is_same_knowledge, is_same_open, knowledge_word, put_open, state_data, vals_data, with_fields}
+use Rattle.st_player.specs.Json.{flag_data, number_data, number_or_null, put_where}
 use Rattle.st_player.proofs.PartLemmas.{Part, laid_over, passed_by}
 
 -- fields that do not differ are the same
@@ -49,6 +49,12 @@ same_holder (Some a) (Some b) is = let n : a.0 ≡ b.0 = same_number a.0 b.0 is 
 same_holder None (Some b) is = cc
 same_holder (Some a) None is = cc
 
+same_health : (a b : Option ℕ) → is_same_health a b ≡ true → a ≡ b
+same_health None None is = refl
+same_health (Some a) (Some b) is = ap (λ (n : ℕ). Some n) (same_number a b is)
+same_health None (Some b) is = cc
+same_health (Some a) None is = cc
+
 same_open : (a b : Option Bool) → is_same_open a b ≡ true → a ≡ b
 same_open None None is = refl
 same_open (Some a) (Some b) is = ap (λ (x : Bool). Some x) (same_flag a b is)
@@ -77,7 +83,9 @@ same_state old new none =
     let k = neither f.works _ j.1 in
     let l = neither f.stamp _ k.1 in
     let m = neither f.fence _ l.1 in
-    let n = neither f.low _ m.1 in
+    let p = neither f.told _ m.1 in
+    let q = neither f.health _ p.1 in
+    let n = neither f.low _ q.1 in
     let o = neither f.high f.is_open n.1 in
     λ i. record {
       carriage = same_carriage old.carriage new.carriage (is_same _ a.0) i;
@@ -90,6 +98,8 @@ same_state old new none =
       works = same_number old.works new.works (is_same _ k.0) i;
       stamp = same_number old.stamp new.stamp (is_same _ l.0) i;
       fence = same_number old.fence new.fence (is_same _ m.0) i;
+      told = same_number old.told new.told (is_same _ p.0) i;
+      health = same_health old.health new.health (is_same _ q.0) i;
       low = same_holder old.low new.low (is_same _ n.0) i;
       high = same_holder old.high new.high (is_same _ o.0) i;
       is_open = same_open old.is_open new.is_open (is_same _ o.1) i;
@@ -119,13 +129,17 @@ self_holder : (a : Option AppId) → is_same_holder a a ≡ true
 self_holder None = refl
 self_holder (Some a) = self_number a.0
 
+self_health : (a : Option ℕ) → is_same_health a a ≡ true
+self_health None = refl
+self_health (Some a) = self_number a
+
 self_open : (a : Option Bool) → is_same_open a a ≡ true
 self_open None = refl
 self_open (Some a) = self_flag a
 
 -- a state does not differ from itself
 pub same_as_itself : (s : State) → not (has_field (fields_between s s)) ≡ true
-same_as_itself s = simp (self_carriage, self_knowledge, self_flag, self_number, self_holder, self_open)
+same_as_itself s = simp (self_carriage, self_knowledge, self_flag, self_number, self_health, self_holder, self_open)
 
 abbrev part : Bool → List ℕ → Data → Data → Part
 part told key old new = record { told = told; key = key; old = old; new = new }
@@ -138,7 +152,9 @@ open_part told _ _ ps = ps
 -- the parts of two states, the last that is put first
 abbrev parts : Fields → Option Bool → Option Bool → State → State → List Part
 parts f o p old new =
-    part f.high (codes "high") (holder_data old.high) (holder_data new.high)
+    part f.health (codes "health") (number_or_null old.health) (number_or_null new.health)
+    ∷ part f.told (codes "told") (number_data old.told) (number_data new.told)
+    ∷ part f.high (codes "high") (holder_data old.high) (holder_data new.high)
     ∷ part f.low (codes "low") (holder_data old.low) (holder_data new.low)
     ∷ part f.fence (codes "fence") (number_data old.fence) (number_data new.fence)
     ∷ part f.stamp (codes "stamp") (number_data old.stamp) (number_data new.stamp)
@@ -156,7 +172,9 @@ parts f o p old new =
 -- the members of a state whose `is_open` is this
 abbrev laid : Fields → Option Bool → State → Members → Members
 laid f o s ms =
-    put_where f.high (codes "high") (holder_data s.high)
+    put_where f.health (codes "health") (number_or_null s.health)
+    (put_where f.told (codes "told") (number_data s.told)
+    (put_where f.high (codes "high") (holder_data s.high)
     (put_where f.low (codes "low") (holder_data s.low)
     (put_where f.fence (codes "fence") (number_data s.fence)
     (put_where f.stamp (codes "stamp") (number_data s.stamp)
@@ -168,7 +186,7 @@ laid f o s ms =
     (put_open f.is_open o
     (put_where f.untold (codes "untold") (flag_data s.untold)
     (put_where f.knowledge (codes "known") (string (knowledge_word s.knowledge))
-    (put_where f.carriage (codes "is") (string (carriage_word s.carriage)) ms))))))))))))
+    (put_where f.carriage (codes "is") (string (carriage_word s.carriage)) ms))))))))))))))
 
 laid_is : (f : Fields) (s : State) (ms : Members) → with_fields f s ms ≡ laid f s.is_open s ms
 unfolding with_fields
@@ -182,30 +200,36 @@ over : (k : List ℕ) (n : ℕ) (o p : Option Bool) (old new : State) → bytes_
     → option_or (get_member k (laid (fields_between old new) p new (put (codes "entity") (number_data n) no_members))) (get_member k (laid all_fields o old no_members)) ≡ get_member k (laid all_fields p new no_members)
 over k n None None old new other alike opens =
     laid_over k (codes "entity") (number_data n) (parts (fields_between old new) None None old new) other refl (
-      λ is. ap holder_data (same_holder old.high new.high (is_same _ is)),
+      λ is. ap number_or_null (same_health old.health new.health (is_same _ is)),
       (
-        λ is. ap holder_data (same_holder old.low new.low (is_same _ is)),
+        λ is. ap number_data (same_number old.told new.told (is_same _ is)),
         (
-          λ is. ap number_data (same_number old.fence new.fence (is_same _ is)),
+          λ is. ap holder_data (same_holder old.high new.high (is_same _ is)),
           (
-            λ is. ap number_data (same_number old.stamp new.stamp (is_same _ is)),
+            λ is. ap holder_data (same_holder old.low new.low (is_same _ is)),
             (
-              λ is. ap number_data (same_number old.works new.works (is_same _ is)),
+              λ is. ap number_data (same_number old.fence new.fence (is_same _ is)),
               (
-                λ is. ap number_data (same_number old.level new.level (is_same _ is)),
+                λ is. ap number_data (same_number old.stamp new.stamp (is_same _ is)),
                 (
-                  λ is. ap (vals_data None) (same_vals old.real new.real (is_same _ is)),
+                  λ is. ap number_data (same_number old.works new.works (is_same _ is)),
                   (
-                    λ is. ap (vals_data None) (same_vals old.seen new.seen (is_same _ is)),
+                    λ is. ap number_data (same_number old.level new.level (is_same _ is)),
                     (
-                      λ is. ap (vals_data None) (same_vals old.target new.target (is_same _ is)),
+                      λ is. ap (vals_data None) (same_vals old.real new.real (is_same _ is)),
                       (
-                        λ is. ap flag_data (same_flag old.untold new.untold (is_same _ is)),
+                        λ is. ap (vals_data None) (same_vals old.seen new.seen (is_same _ is)),
                         (
-                          λ is. ap (λ (w : Knowledge). string (knowledge_word w)) (same_knowledge old.knowledge new.knowledge (is_same _ is)),
+                          λ is. ap (vals_data None) (same_vals old.target new.target (is_same _ is)),
                           (
-                            λ is. ap (λ (w : Carriage). string (carriage_word w)) (same_carriage old.carriage new.carriage (is_same _ is)),
-                            tt,
+                            λ is. ap flag_data (same_flag old.untold new.untold (is_same _ is)),
+                            (
+                              λ is. ap (λ (w : Knowledge). string (knowledge_word w)) (same_knowledge old.knowledge new.knowledge (is_same _ is)),
+                              (
+                                λ is. ap (λ (w : Carriage). string (carriage_word w)) (same_carriage old.carriage new.carriage (is_same _ is)),
+                                tt,
+                              ),
+                            ),
                           ),
                         ),
                       ),
@@ -220,32 +244,38 @@ over k n None None old new other alike opens =
     )
 over k n (Some a) (Some b) old new other alike opens =
     laid_over k (codes "entity") (number_data n) (parts (fields_between old new) (Some a) (Some b) old new) other refl (
-      λ is. ap holder_data (same_holder old.high new.high (is_same _ is)),
+      λ is. ap number_or_null (same_health old.health new.health (is_same _ is)),
       (
-        λ is. ap holder_data (same_holder old.low new.low (is_same _ is)),
+        λ is. ap number_data (same_number old.told new.told (is_same _ is)),
         (
-          λ is. ap number_data (same_number old.fence new.fence (is_same _ is)),
+          λ is. ap holder_data (same_holder old.high new.high (is_same _ is)),
           (
-            λ is. ap number_data (same_number old.stamp new.stamp (is_same _ is)),
+            λ is. ap holder_data (same_holder old.low new.low (is_same _ is)),
             (
-              λ is. ap number_data (same_number old.works new.works (is_same _ is)),
+              λ is. ap number_data (same_number old.fence new.fence (is_same _ is)),
               (
-                λ is. ap number_data (same_number old.level new.level (is_same _ is)),
+                λ is. ap number_data (same_number old.stamp new.stamp (is_same _ is)),
                 (
-                  λ is. ap (vals_data (Some a)) (same_vals old.real new.real (is_same _ is)),
+                  λ is. ap number_data (same_number old.works new.works (is_same _ is)),
                   (
-                    λ is. ap (vals_data (Some a)) (same_vals old.seen new.seen (is_same _ is)),
+                    λ is. ap number_data (same_number old.level new.level (is_same _ is)),
                     (
-                      λ is. ap (vals_data (Some a)) (same_vals old.target new.target (is_same _ is)),
+                      λ is. ap (vals_data (Some a)) (same_vals old.real new.real (is_same _ is)),
                       (
-                        λ is. ap flag_data (same_inside a b (opens is)),
+                        λ is. ap (vals_data (Some a)) (same_vals old.seen new.seen (is_same _ is)),
                         (
-                          λ is. ap flag_data (same_flag old.untold new.untold (is_same _ is)),
+                          λ is. ap (vals_data (Some a)) (same_vals old.target new.target (is_same _ is)),
                           (
-                            λ is. ap (λ (w : Knowledge). string (knowledge_word w)) (same_knowledge old.knowledge new.knowledge (is_same _ is)),
+                            λ is. ap flag_data (same_inside a b (opens is)),
                             (
-                              λ is. ap (λ (w : Carriage). string (carriage_word w)) (same_carriage old.carriage new.carriage (is_same _ is)),
-                              tt,
+                              λ is. ap flag_data (same_flag old.untold new.untold (is_same _ is)),
+                              (
+                                λ is. ap (λ (w : Knowledge). string (knowledge_word w)) (same_knowledge old.knowledge new.knowledge (is_same _ is)),
+                                (
+                                  λ is. ap (λ (w : Carriage). string (carriage_word w)) (same_carriage old.carriage new.carriage (is_same _ is)),
+                                  tt,
+                                ),
+                              ),
                             ),
                           ),
                         ),

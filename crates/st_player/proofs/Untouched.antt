@@ -42,6 +42,7 @@ use Rattle.st_player.specs.declared.state.State.{State}
 use Rattle.st_player.specs.declared.touched.Touched.{Touched}
 use Rattle.st_player.specs.declared.touched.Touched.TheVariants.{Nothing, Near}
 use Rattle.st_player.specs.Entries.{is_entity}
+use Rattle.st_player.specs.Known.{health_told, known_since, since_after}
 use Rattle.st_player.specs.States.{greatest, is_blocked, open_of, state_of}
 use Rattle.st_player.specs.Touched.{IsTouchIn, LeavesPromisesIn, Touches, may_move, may_show, moved_by}
 
@@ -54,6 +55,7 @@ pub record Stays (g : Group) (past : List Entry) (entry : Entry) (e : Entity) : 
   pub vals_is : vals g past e ≡ vals g (entry ∷ past) e
   pub health_is : health g past e ≡ health g (entry ∷ past) e
   pub observed_is : observed g past e ≡ observed g (entry ∷ past) e
+  pub since_is : known_since g past e ≡ known_since g (entry ∷ past) e
   pub stamp_is : stamp g past e ≡ stamp g (entry ∷ past) e
   pub holder_is : (p : Prio) → holder past e p ≡ holder (entry ∷ past) e p
   pub failed_is : (n : ℕ) → failed_since past e n ≡ failed_since (entry ∷ past) e n
@@ -79,6 +81,10 @@ not_its_command (Some c) e other = rw other refl
 not_its_report : (o : Option Report) (e : Entity) (kept : Report) → is_entity (option_map (λ r. r.entity) o) e ≡ false → kept ≡ later_report e o kept
 not_its_report None e kept other = refl
 not_its_report (Some r) e kept other = rw other refl
+
+not_its_maker : (o : Option Report) (e : Entity) (kept maker before : ℕ) → is_entity (option_map (λ r. r.entity) o) e ≡ false → before ≡ since_after e o kept maker before
+not_its_maker None e kept maker before other = refl
+not_its_maker (Some r) e kept maker before other = rw other refl
 
 not_renewed : (o : Option Report) (e : Entity) (stamped : ℕ) (goal : Vals) → is_entity (option_map (λ r. r.entity) o) e ≡ false → renews o e stamped goal ≡ false
 not_renewed None e stamped goal other = refl
@@ -107,6 +113,7 @@ stays_at g past (Submit app rows) answer e none other = record {
   vals_is = refl;
   health_is = refl;
   observed_is = refl;
+  since_is = refl;
   stamp_is = silent g past (Submit app rows) answer e (quiet_stamp g past (Submit app rows) answer none refl);
   holder_is = λ p. refl;
   failed_is = λ n. refl;
@@ -117,6 +124,7 @@ stays_at g past Check answer e none other = record {
   vals_is = refl;
   health_is = refl;
   observed_is = refl;
+  since_is = refl;
   stamp_is = silent g past Check answer e (quiet_stamp g past Check answer none refl);
   holder_is = λ p. refl;
   failed_is = λ n. refl;
@@ -127,6 +135,7 @@ stays_at g past (Lock app at prio) answer e none other = record {
   vals_is = refl;
   health_is = refl;
   observed_is = refl;
+  since_is = refl;
   stamp_is = silent g past (Lock app at prio) answer e (quiet_stamp g past (Lock app at prio) answer none refl);
   holder_is = λ p. not_its_lock (is_granted answer) (holder past) at prio (Some app) e p other;
   failed_is = λ n. refl;
@@ -137,6 +146,7 @@ stays_at g past (Unlock app at prio) answer e none other = record {
   vals_is = refl;
   health_is = refl;
   observed_is = refl;
+  since_is = refl;
   stamp_is = silent g past (Unlock app at prio) answer e (quiet_stamp g past (Unlock app at prio) answer none refl);
   holder_is = λ p. not_its_release (is_released answer) (is_held_by app (holder past at prio)) (holder past) at prio e p other;
   failed_is = λ n. refl;
@@ -147,6 +157,7 @@ stays_at g past (Send at) answer e none other = record {
   vals_is = refl;
   health_is = refl;
   observed_is = refl;
+  since_is = refl;
   stamp_is = silent g past (Send at) answer e (quiet_stamp g past (Send at) answer none refl);
   holder_is = λ p. refl;
   failed_is = λ n. refl;
@@ -157,6 +168,7 @@ stays_at g past (Deliver n) answer e none other = record {
   vals_is = refl;
   health_is = refl;
   observed_is = refl;
+  since_is = refl;
   stamp_is = silent g past (Deliver n) answer e (quiet_stamp g past (Deliver n) answer none refl);
   holder_is = λ p. refl;
   failed_is = λ n. refl;
@@ -167,6 +179,7 @@ stays_at g past (Finish at) answer e none other = record {
   vals_is = rw other refl;
   health_is = refl;
   observed_is = refl;
+  since_is = refl;
   stamp_is = silent g past (Finish at) answer e (quiet_stamp g past (Finish at) answer none refl);
   holder_is = λ p. refl;
   failed_is = λ n. refl;
@@ -177,6 +190,7 @@ stays_at g past (make_report at) answer e none other = record {
   vals_is = refl;
   health_is = refl;
   observed_is = refl;
+  since_is = refl;
   stamp_is = silent g past (make_report at) answer e (quiet_stamp g past (make_report at) answer none refl);
   holder_is = λ p. refl;
   failed_is = λ n. refl;
@@ -187,6 +201,7 @@ stays_at g past (Hear n) answer e none other = record {
   vals_is = refl;
   health_is = refl;
   observed_is = not_its_report (nth (reports g past) n) e (observed g past e) other;
+  since_is = not_its_maker (nth (reports g past) n) e _ _ (known_since g past e) other;
   stamp_is = rw (and_other (is_taken answer) _ (not_renewed (nth (reports g past) n) e (stamp g past e) (vals_in g (target g past) e) other)) refl;
   holder_is = λ p. refl;
   failed_is = λ n. refl;
@@ -197,6 +212,7 @@ stays_at g past (Fail at new level) answer e none other = record {
   vals_is = rw other refl;
   health_is = rw other refl;
   observed_is = refl;
+  since_is = refl;
   stamp_is = silent g past (Fail at new level) answer e (quiet_stamp g past (Fail at new level) answer none refl);
   holder_is = λ p. refl;
   failed_is = λ n. rw other refl;
@@ -271,8 +287,8 @@ open_stays g past entry (Link k) s ends =
     λ i. Some (here i && from i && to i)
 
 -- a state by what it is made of
-abbrev state_from : Entity → Bool → Vals → ℕ → Report → ℕ → Vals → Bool → Bool → Option AppId → Option AppId → Option Bool → State
-state_from e b v h r s t barred failed low high opened = record {
+abbrev state_from : Entity → Bool → Vals → ℕ → Report → ℕ → ℕ → Vals → Bool → Bool → Option AppId → Option AppId → Option Bool → State
+state_from e b v h r since s t barred failed low high opened = record {
   carriage =
       if b then Busy
       else (if not b && carries e v (level_of e v h b) then Up
@@ -292,13 +308,15 @@ state_from e b v h r s t barred failed low high opened = record {
   works = level_of e v h b;
   stamp = s;
   fence = r.fence;
+  told = since;
+  health = health_told r;
   low = low;
   high = high;
   is_open = opened;
 }
 
 state_is : (g : Group) (past : List Entry) (e : Entity) → state_of g past e
-    ≡ state_from e (busy g past e) (vals g past e) (health g past e) (observed g past e) (stamp g past e) (vals_in g (target g past) e) (is_blocked (reply g past (Send e))) (failed_since past e (observed g past e).number) (holder past e Low) (holder past e High) (open_of g past e)
+    ≡ state_from e (busy g past e) (vals g past e) (health g past e) (observed g past e) (known_since g past e) (stamp g past e) (vals_in g (target g past) e) (is_blocked (reply g past (Send e))) (failed_since past e (observed g past e).number) (holder past e Low) (holder past e High) (open_of g past e)
 unfolding state_of
 state_is g past e = refl
 
@@ -308,9 +326,9 @@ state_stays g past entry e s ends =
     let failed : failed_since past e (observed g past e).number ≡ failed_since (entry ∷ past) e (observed g (entry ∷ past) e).number =
     s.failed_is (observed g past e).number ∙ ap (λ (r : Report). failed_since (entry ∷ past) e r.number) s.observed_is in
     let opened = open_stays g past entry e s ends in
-    let same : state_from e (busy g past e) (vals g past e) (health g past e) (observed g past e) (stamp g past e) (vals_in g (target g past) e) (is_blocked (reply g past (Send e))) (failed_since past e (observed g past e).number) (holder past e Low) (holder past e High) (open_of g past e)
-    ≡ state_from e (busy g (entry ∷ past) e) (vals g (entry ∷ past) e) (health g (entry ∷ past) e) (observed g (entry ∷ past) e) (stamp g (entry ∷ past) e) (vals_in g (target g (entry ∷ past)) e) (is_blocked (reply g (entry ∷ past) (Send e))) (failed_since (entry ∷ past) e (observed g (entry ∷ past) e).number) (holder (entry ∷ past) e Low) (holder (entry ∷ past) e High) (open_of g (entry ∷ past) e) =
-    λ i. state_from e (s.busy_is i) (s.vals_is i) (s.health_is i) (s.observed_is i) (s.stamp_is i) (s.goal_is i) (barred i) (failed i) (s.holder_is Low i) (s.holder_is High i) (opened i) in
+    let same : state_from e (busy g past e) (vals g past e) (health g past e) (observed g past e) (known_since g past e) (stamp g past e) (vals_in g (target g past) e) (is_blocked (reply g past (Send e))) (failed_since past e (observed g past e).number) (holder past e Low) (holder past e High) (open_of g past e)
+    ≡ state_from e (busy g (entry ∷ past) e) (vals g (entry ∷ past) e) (health g (entry ∷ past) e) (observed g (entry ∷ past) e) (known_since g (entry ∷ past) e) (stamp g (entry ∷ past) e) (vals_in g (target g (entry ∷ past)) e) (is_blocked (reply g (entry ∷ past) (Send e))) (failed_since (entry ∷ past) e (observed g (entry ∷ past) e).number) (holder (entry ∷ past) e Low) (holder (entry ∷ past) e High) (open_of g (entry ∷ past) e) =
+    λ i. state_from e (s.busy_is i) (s.vals_is i) (s.health_is i) (s.observed_is i) (s.since_is i) (s.stamp_is i) (s.goal_is i) (barred i) (failed i) (s.holder_is Low i) (s.holder_is High i) (opened i) in
     state_is g past e ∙ (same ∙ sym (state_is g (entry ∷ past) e))
 
 neither : (a b : Bool) → (a || b) ≡ false → (a ≡ false) × (b ≡ false)

@@ -1,5 +1,5 @@
 -- Worked examples: what a picture has of a group, of its states and of its journal.
-use Rattle.std.proofs.Common.{◌≡◌, ℕ, true, false, Bool, List, [], ◌∷◌, None, refl, codes}
+use Rattle.std.proofs.Common.{◌≡◌, ℕ, true, false, Bool, List, [], ◌∷◌, Some, None, refl, codes}
 use Rattle.serde_json.specs.Data.{array, item, no_items, no_members, null, object, put, string}
 use Rattle.st_net.specs.declared.topo.DeviceOpening.{DeviceOpening}
 use Rattle.st_net.specs.declared.topo.LinkOpening.{LinkOpening}
@@ -57,6 +57,8 @@ stamped n = record {
   works = 5;
   stamp = n;
   fence = 0;
+  told = 0;
+  health = Some 5;
   low = None;
   high = None;
   is_open = None;

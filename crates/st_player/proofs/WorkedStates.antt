@@ -1,6 +1,6 @@
 -- Worked examples: what is shown of entities after some journals. The groups are two ToRs, each linked to two switches, with one promise
 -- between them; each journal has the replies that its events call for.
-use Rattle.std.proofs.Common.{◌≡◌, true, false, Bool, List, [], ◌∷◌, Some, refl}
+use Rattle.std.proofs.Common.{◌≡◌, ℕ, true, false, Bool, List, [], ◌∷◌, ◌++◌, Option, Some, None, refl}
 use Rattle.st_net.specs.declared.entity.Entity.{Entity}
 use Rattle.st_net.specs.declared.entity.Entity.TheVariants.{Link}
 use Rattle.st_net.specs.declared.entity.Prio.TheVariants.{High}
@@ -13,7 +13,7 @@ use Rattle.st_player.specs.declared.state.Carriage.TheVariants as in_net
 use Rattle.st_player.specs.declared.state.Knowledge.{Knowledge}
 use Rattle.st_player.specs.declared.state.Knowledge.TheVariants as known
 use Rattle.st_player.specs.States.{state_of}
-use Rattle.st_player.proofs.WorkedGroup.{a2, q, run, usual}
+use Rattle.st_player.proofs.WorkedGroup.{a1, a2, l4, q, run, usual}
 
 abbrev drained : Vals
 drained = record { v0 = 1; v1 = 1; v2 = 1; v3 = 0 }
@@ -105,3 +105,64 @@ still_open = refl
 locked : (state_of q (run q (Lock (record { 0 = 1 }) a2 High ∷ [])) a2).high ≡ Some (record { 0 = 1 })
 unfolding state_of
 locked = refl
+
+-- since which entry it is known: since the opening while no report is heard, and then since the entry that made the report, and not the one
+-- that heard it
+abbrev since : List Event → ℕ
+since events = (state_of q (run q events) a2).told
+
+since_opening : since [] ≡ 0
+unfolding state_of
+since_opening = refl
+
+not_heard : since (Report a2 ∷ []) ≡ 0
+unfolding state_of
+not_heard = refl
+
+of_another : since (Report a1 ∷ Hear 1 ∷ []) ≡ 0
+unfolding state_of
+of_another = refl
+
+since_report : since (Fail a2 usual 0 ∷ Report a2 ∷ Hear 1 ∷ []) ≡ 2
+unfolding state_of
+since_report = refl
+
+-- the failure stands behind the report that is kept, and is not told by it
+since_before : since (Report a2 ∷ Fail a2 usual 0 ∷ Hear 1 ∷ []) ≡ 1
+unfolding state_of
+since_before = refl
+
+-- an older report that is heard later is passed over
+since_newer : since (Report a2 ∷ Report a2 ∷ Hear 2 ∷ Hear 1 ∷ []) ≡ 2
+unfolding state_of
+since_newer = refl
+
+-- the health that its report tells
+abbrev known_health : List Event → Entity → Option ℕ
+known_health events e = (state_of q (run q events) e).health
+
+health_at_opening : known_health [] a2 ≡ Some 5
+unfolding state_of
+health_at_opening = refl
+
+health_in_part : known_health (Fail a2 usual 3 ∷ Report a2 ∷ Hear 1 ∷ []) a2 ≡ Some 3
+unfolding state_of
+health_in_part = refl
+
+health_of_link : known_health (Fail l4 usual 0 ∷ Report l4 ∷ Hear 1 ∷ []) l4 ≡ Some 0
+unfolding state_of
+health_of_link = refl
+
+-- a failure that no report has told leaves it
+health_untold : known_health (Report a2 ∷ Fail a2 usual 3 ∷ Hear 1 ∷ []) a2 ≡ Some 5
+unfolding state_of
+health_untold = refl
+
+-- without power, and while a command is in work, a report hides it
+health_without_power : known_health (Fail a2 off 5 ∷ Report a2 ∷ Hear 1 ∷ []) a2 ≡ None
+unfolding state_of
+health_without_power = refl
+
+health_at_work : known_health (change ++ Report a2 ∷ Hear 1 ∷ []) a2 ≡ None
+unfolding state_of
+health_at_work = refl

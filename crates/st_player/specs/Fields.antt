@@ -49,6 +49,11 @@ is_same_holder None None = true
 is_same_holder (Some a) (Some b) = a.0 == b.0
 is_same_holder _ _ = false
 
+abbrev pub is_same_health : Option ℕ → Option ℕ → Bool
+is_same_health None None = true
+is_same_health (Some a) (Some b) = a == b
+is_same_health _ _ = false
+
 abbrev pub is_same_open : Option Bool → Option Bool → Bool
 is_same_open None None = true
 is_same_open (Some a) (Some b) = is_same_flag a b
@@ -67,6 +72,8 @@ all_fields = record {
   works = true;
   stamp = true;
   fence = true;
+  told = true;
+  health = true;
   low = true;
   high = true;
   is_open = true;
@@ -85,6 +92,8 @@ fields_between old new = record {
   works = not (old.works == new.works);
   stamp = not (old.stamp == new.stamp);
   fence = not (old.fence == new.fence);
+  told = not (old.told == new.told);
+  health = not (is_same_health old.health new.health);
   low = not (is_same_holder old.low new.low);
   high = not (is_same_holder old.high new.high);
   is_open = not (is_same_open old.is_open new.is_open);
@@ -93,7 +102,7 @@ fields_between old new = record {
 -- whether there is one
 abbrev pub has_field : Fields → Bool
 has_field f = f.carriage || (f.knowledge || (f.untold || (f.target || (f.seen || (f.real || (f.level || (f.works
-    || (f.stamp || (f.fence || (f.low || (f.high || f.is_open)))))))))))
+    || (f.stamp || (f.fence || (f.told || (f.health || (f.low || (f.high || f.is_open)))))))))))))
 
 -- an entity's values: two of a link, four of a device
 abbrev pub vals_data : Option Bool → Vals → Data
@@ -129,9 +138,14 @@ abbrev pub with_holders : Fields → State → Members → Members
 with_holders f s ms = put_where f.high (codes "high") (holder_data s.high)
     (put_where f.low (codes "low") (holder_data s.low) ms)
 
+-- since which entry it is known so, and with which health
+abbrev pub with_known : Fields → State → Members → Members
+with_known f s ms = put_where f.health (codes "health") (number_or_null s.health)
+    (put_where f.told (codes "told") (number_data s.told) ms)
+
 -- members with these fields of a state more
 unfoldable pub with_fields : Fields → State → Members → Members
-with_fields f s ms = with_holders f s (with_numbers f s (with_values f s (with_standing f s ms)))
+with_fields f s ms = with_known f s (with_holders f s (with_numbers f s (with_values f s (with_standing f s ms))))
 
 -- a whole state
 abbrev pub state_data : State → Data

@@ -1,18 +1,24 @@
 -- Of no concern to callers: what is kept of a journal beside its world.
-use Rattle.std.specs.Prelude.{◌≡◌, ℕ, ◌+◌, ◌==◌, nat_lt, nat_le, Bool, false, List, [], ◌∷◌, Option, Some, None, length, slice_index_or, slice_set, if◌then◌else◌}
+use Rattle.std.specs.Prelude.{◌≡◌, ℕ, ◌+◌, ◌==◌, nat_lt, nat_le, Bool, false, List, [], ◌∷◌, Option, Some, None, length, slice_index_or, slice_set, if◌then◌else◌, unwrap_or}
 use Rattle.st_net.specs.declared.entity.Entity.{Entity}
+use Rattle.st_net.specs.declared.message.Report.{Report as report_lem}
 use Rattle.st_net.specs.Agents.{Agent, is_at_work, is_agent_up, agent_level}
 use Rattle.st_net.specs.Groups.{Group, IsEntityOf}
 use Rattle.st_net.specs.InOrder.{entity_count, item_in, place_in}
+use Rattle.st_net.specs.Numbered.{nth}
 use Rattle.st_event.specs.declared.event.Event.{Event}
 use Rattle.st_event.specs.declared.event.Event.TheVariants.{Submit, Check, Lock, Unlock, Send, Deliver, Finish, Report, Hear, Fail}
 use Rattle.st_event.specs.declared.journal.Entry.{Entry}
 use Rattle.st_event.specs.History.{History}
-use Rattle.st_event.specs.Moments.{is_fail_of, number}
+use Rattle.st_event.specs.Moments.{is_fail_of, number, reports}
+use Rattle.st_event.specs.Observed.{observed}
+use Rattle.st_player.specs.declared.origins.Origin.{Origin}
 use Rattle.st_player.specs.declared.playback.Told.{Told}
 use Rattle.st_player.specs.declared.state.Carriage.{Carriage}
 use Rattle.st_player.specs.declared.state.Carriage.TheVariants.{Busy, Up, Off, Failed, Drained}
 use Rattle.st_player.specs.Entries.{askers}
+use Rattle.st_player.specs.Known.{known_since, makers}
+use Rattle.st_player.specs.Origins.{AreOrigins}
 use Rattle.st_player.specs.States.{greatest}
 
 -- how an entity is in the network, by its agent
@@ -62,7 +68,32 @@ told_after g (Deliver n) told = told
 told_after g (Finish e) told = told
 told_after g (Hear n) told = told
 
+-- the entries by which the reports that are kept were made, in the order of entities
+pub record AreSince (g : Group) (past : List Entry) (since : List ℕ) : Type 0 where
+  pub count : length since ≡ entity_count g
+  pub each : (e : Entity) → IsEntityOf g e → item_in g since (λ e. 0) e ≡ known_since g past e
+
+-- after a report of this maker is heard, and after an event
+abbrev pub heard_since : Group → List Entry → Option report_lem → ℕ → List ℕ → List ℕ
+heard_since g past None maker since = since
+heard_since g past (Some r) maker since = if nat_lt (observed g past r.entity).number r.number then slice_set since (place_in g r.entity) maker else since
+
+abbrev pub all_since : Group → List Entry → Event → List ℕ → List ℕ → List ℕ
+all_since g past (Hear n) made since = heard_since g past (nth (reports g past) n) (unwrap_or (nth made n) 0) since
+all_since g past (Submit app rows) made since = since
+all_since g past Check made since = since
+all_since g past (Lock app e prio) made since = since
+all_since g past (Unlock app e prio) made since = since
+all_since g past (Send e) made since = since
+all_since g past (Deliver n) made since = since
+all_since g past (Finish e) made since = since
+all_since g past (Report e) made since = since
+all_since g past (Fail e vals health) made since = since
+
 -- what is kept beside a world is that of its journal
-pub record IsPlayback (h : History) (told : List Told) (asked : List ℕ) : Type 0 where
+pub record IsPlayback (h : History) (told : List Told) (asked made since : List ℕ) (origins : List Origin) : Type 0 where
   pub told_is : AreTold h.group h.past told
   pub asked_is : asked ≡ askers h.past
+  pub made_is : made ≡ makers h.past
+  pub since_is : AreSince h.group h.past since
+  pub origins_are : AreOrigins h.group h.past origins

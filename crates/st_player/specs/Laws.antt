@@ -1,10 +1,12 @@
 -- Laws of pages. Each is the contract of a function of `laws` that does nothing.
-use Rattle.std.specs.Prelude.{Some, ◌≡◌, ◌<◌, ◌≤◌, ◌+◌, ◌++◌, ◌∷◌, [], ℕ, List, codes, length, take, drop, reverse}
+use Rattle.std.specs.Prelude.{Some, None, ◌≡◌, ◌<◌, ◌≤◌, ◌+◌, ◌++◌, ◌∷◌, [], ℕ, List, codes, length, take, drop, reverse}
 use Rattle.serde_json.specs.Data.{Data}
 use Rattle.serde_json.specs.Find.{get}
 use Rattle.st_net.specs.declared.entity.Entity.{Entity}
+use Rattle.st_net.specs.declared.entity.Var.{Var}
 use Rattle.st_net.specs.declared.promise.Broken.{Broken}
-use Rattle.st_net.specs.Groups.{Group, IsEntityOf, IsSound, promise_of}
+use Rattle.st_net.specs.Entities.{value_of}
+use Rattle.st_net.specs.Groups.{Group, IsEntityOf, IsSound, opening_of, promise_of}
 use Rattle.st_net.specs.InOrder.{place_in}
 use Rattle.st_net.specs.Numbered.{nth}
 use Rattle.st_net.specs.Promises.{is_kept}
@@ -14,11 +16,17 @@ use Rattle.st_event.specs.declared.reply.Cause.TheVariants.{Broken as broken_cau
 use Rattle.st_event.specs.declared.reply.Receipt.{Receipt}
 use Rattle.st_event.specs.declared.reply.Reply.TheVariants.{Decided, Queued}
 use Rattle.st_event.specs.Legal.{IsLegal}
-use Rattle.st_event.specs.Observed.{actual, sure, sure_after}
-use Rattle.st_event.specs.Proposals.{first_rows, pending, version}
+use Rattle.st_event.specs.Moments.{health}
+use Rattle.st_event.specs.Observed.{actual, observed, sure, sure_after}
+use Rattle.st_event.specs.Proposals.{first_rows, pending, target, version}
+use Rattle.st_event.specs.Versions.{value_at}
+use Rattle.st_player.specs.declared.origins.Failure.{Failure}
+use Rattle.st_player.specs.declared.origins.Setter.{Setter}
+use Rattle.st_player.specs.Causes.{failure_of, setter_of, var_place}
 use Rattle.st_player.specs.Entries.{entry_data}
 use Rattle.st_player.specs.Fields.{state_data}
 use Rattle.st_player.specs.Json.{number_data}
+use Rattle.st_player.specs.Known.{IsKnownBy, before_entry}
 use Rattle.st_player.specs.Pictures.{after, bytes_of, entries_data, group_data}
 use Rattle.st_player.specs.PlayedBack.{at_opening, entries_in, first_in, holds_after, holds_at_opening, last_at, last_told, number_in, told_by_opening, total_in}
 use Rattle.st_player.specs.Refusals.{refusal_of}
@@ -87,3 +95,24 @@ pub record GaveTicket (past : List Entry) (n ticket : ℕ) : Type 0 where
 abbrev pub AskedGaveTicket : Type 0
 AskedGaveTicket = (g : Group) (apps : List (List ℕ)) (past : List Entry) (entry : Entry) (receipt : Receipt) → IsLegal g (entry ∷ past) → entry.event ≡ Check → entry.reply ≡ Decided receipt
     → GaveTicket past (number_in (get (codes "asked") (entry_data g apps past entry))) receipt.ticket
+
+-- The entry that a state tells is the one by which the report was made that is kept of the entity; where none made it, it is the opening's, and 0
+-- is told.
+abbrev pub ReportsAreTold : Type 0
+ReportsAreTold = (g : Group) (past : List Entry) (e : Entity) → IsKnownBy g past e (state_of g past e).told (observed g past e)
+
+-- A health that a state tells is that of the entity when this report was made.
+abbrev pub HealthIsTold : Type 0
+HealthIsTold = (g : Group) (past : List Entry) (e : Entity) (h : ℕ) → (state_of g past e).health ≡ Some h → h ≡ health g (before_entry (state_of g past e).told past) e
+
+-- Where a page tells who set a variable, the value at the version that is told is that of the target.
+abbrev pub SettersSet : Type 0
+SettersSet = (g : Group) (past : List Entry) (e : Entity) (v : Var) (setter : Setter) → setter_of past e (var_place v) ≡ Some setter → (setter.version ≤ version past) × (value_at g past setter.version e v ≡ target g past e v)
+
+-- A variable that nobody set is as at the opening.
+abbrev pub UnsetAreOpening : Type 0
+UnsetAreOpening = (g : Group) (past : List Entry) (e : Entity) (v : Var) → setter_of past e (var_place v) ≡ None → target g past e v ≡ value_of e (opening_of g e) v
+
+-- The failure that is told of an entity left it the health that it has.
+abbrev pub FailuresLeftHealth : Type 0
+FailuresLeftHealth = (g : Group) (past : List Entry) (e : Entity) (failure : Failure) → failure_of past e ≡ Some failure → health g past e ≡ failure.health

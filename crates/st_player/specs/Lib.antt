@@ -1,11 +1,14 @@
 pub mod Calls
+pub mod Causes
 pub mod Cuts
 pub mod Entries
 pub mod Fields
 pub mod Inside
 pub mod Joined
 pub mod Json
+pub mod Known
 pub mod Laws
+pub mod Origins
 pub mod PictureTexts
 pub mod Pictures
 pub mod PlayedBack

@@ -1,12 +1,11 @@
 -- Of no concern to callers: how the text of a group is made of what stands before its entries, of these, and of what stands behind them.
 use Rattle.std.specs.Prelude.{ℕ, List, ◌++◌, codes, length, map}
 use Rattle.std.specs.List.{range_with_len}
-use Rattle.serde_json.specs.Data.{string, Members, put}
+use Rattle.serde_json.specs.Data.{Data, string, Members, put}
 use Rattle.serde_json.specs.Written.{compact_text}
 use Rattle.st_net.specs.Groups.{Group}
 use Rattle.st_player.specs.Json.{list_data, number_data}
-use Rattle.st_player.specs.Pictures.{device_data, link_data, opening_data, promise_data}
-use Rattle.st_player.specs.Snapshots.{Shown}
+use Rattle.st_player.specs.Pictures.{device_data, link_data, promise_data}
 
 -- the parts but the devices
 unfoldable pub with_other_parts : Group → Members → Members
@@ -15,8 +14,8 @@ with_other_parts g ms = put (codes "promises") (list_data (map (promise_data g) 
     (put (codes "name") (string g.name) ms))
 
 -- how many entries stand before the page, how many there are, and how the group stands behind the first
-unfoldable pub with_beginning : ℕ → ℕ → Shown → Members → Members
-with_beginning first total shown ms = put (codes "opening") (opening_data shown)
+unfoldable pub with_beginning : ℕ → ℕ → Data → Members → Members
+with_beginning first total opening ms = put (codes "opening") opening
     (put (codes "total") (number_data total)
     (put (codes "first") (number_data first) ms))
 

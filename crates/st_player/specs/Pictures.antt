@@ -1,5 +1,5 @@
 -- The picture of a document's groups with their journals, as one value of JSON.
-use Rattle.std.specs.Prelude.{ℕ, ◌+◌, ◌-◌, ◌/◌, nat_le, max, min, Bool, true, not, List, [], ◌∷◌, ◌++◌, codes, length, map, drop, take, reverse, if◌then◌else◌, slice_index_or}
+use Rattle.std.specs.Prelude.{ℕ, ◌+◌, ◌-◌, ◌/◌, nat_le, max, min, Bool, true, not, List, [], ◌∷◌, ◌++◌, codes, length, map, drop, take, reverse, Option, if◌then◌else◌, slice_index_or}
 use Rattle.std.specs.List.{list_any, range_with_len, position_or_len, sum_by}
 use Rattle.serde_json.specs.Data.{Data, string, object, Members, no_members, put}
 use Rattle.serde_json.specs.Written.{compact_text}
@@ -9,9 +9,10 @@ use Rattle.st_event.specs.declared.journal.Entry.{Entry}
 use Rattle.st_event.specs.Observed.{actual}
 use Rattle.st_player.specs.declared.state.State.{State}
 use Rattle.st_player.specs.declared.pictures.TheConstants.{MOST_BYTES}
+use Rattle.st_player.specs.Causes.{causes_of}
 use Rattle.st_player.specs.Entries.{entry_data, lost_from}
 use Rattle.st_player.specs.Fields.{fields_between, has_field, state_data}
-use Rattle.st_player.specs.Json.{number_data, numbers_data, list_data, flag_data, put_where}
+use Rattle.st_player.specs.Json.{number_data, numbers_data, list_data, flag_data, put_some, put_where}
 use Rattle.st_player.specs.Snapshots.{Shown, shown_of}
 
 -- a device, a link and a promise of a group, by its number
@@ -63,13 +64,19 @@ abbrev pub with_states : List State → Members → Members
 with_states states ms = put (codes "of") (numbers_data (map (kind_in (kinds_of states)) states))
     (put (codes "states") (list_data (map state_data (kinds_of states))) ms)
 
--- how a group stands where its page begins
-unfoldable pub opening_data : Shown → Data
-opening_data shown = object (put (codes "pending") (number_data shown.pending)
+-- how a group stands where its page begins, and who set what differs from its opening
+abbrev pub with_shown : Shown → Members
+with_shown shown = put (codes "pending") (number_data shown.pending)
     (put (codes "version") (number_data shown.version)
     (put (codes "sure") (lost_data shown.sure)
     (put (codes "network") (lost_data shown.network)
-    (with_states shown.states no_members)))))
+    (with_states shown.states no_members))))
+
+unfoldable pub opening_data : Shown → Option Data → Data
+opening_data shown causes = object (put_some (codes "causes") causes (with_shown shown))
+
+abbrev pub begun_data : Group → List Entry → Data
+begun_data g past = opening_data (shown_of g past) (causes_of g past)
 
 -- these entries behind a journal, the oldest first
 abbrev pub entries_data : Group → List (List ℕ) → List Entry → List Entry → List Data
@@ -109,7 +116,7 @@ with_parts g ms = put (codes "promises") (list_data (map (promise_data g) (range
 
 unfoldable pub with_entries : Group → List (List ℕ) → ℕ → ℕ → List Entry → Members → Members
 with_entries g apps from room entries ms = put (codes "entries") (list_data (shown_entries g apps from room entries))
-    (put (codes "opening") (opening_data (shown_of g (after from entries)))
+    (put (codes "opening") (begun_data g (after from entries))
     (put (codes "total") (number_data (length entries))
     (put (codes "first") (number_data (first_of from entries)) ms)))
 

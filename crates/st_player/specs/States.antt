@@ -21,6 +21,7 @@ use Rattle.st_player.specs.declared.state.Carriage.TheVariants.{Busy, Up, Off, F
 use Rattle.st_player.specs.declared.state.Knowledge.{Knowledge}
 use Rattle.st_player.specs.declared.state.Knowledge.TheVariants.{Sure, Settled, Blocked as is_blocked_lem, Waiting}
 use Rattle.st_player.specs.declared.state.State.{State}
+use Rattle.st_player.specs.Known.{health_told, known_since}
 
 -- the level of an entity all of which works
 abbrev pub greatest : Entity → ℕ
@@ -69,6 +70,8 @@ state_of g past e = record {
   works = works_of g past e;
   stamp = stamp g past e;
   fence = (observed g past e).fence;
+  told = known_since g past e;
+  health = health_told (observed g past e);
   low = holder past e Low;
   high = holder past e High;
   is_open = open_of g past e;

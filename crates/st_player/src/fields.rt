@@ -5,7 +5,7 @@ ghost use Rattle.serde_json.specs.Data.{no_members, put as put_lem};
 ghost use Rattle.serde_json.specs.View.{view, members_view};
 ghost use Rattle.st_entry.specs.Plain.{is_plain};
 ghost use Rattle.st_player.specs.Json.{put_where};
-ghost use Rattle.st_player.specs.Fields.{all_fields, fields_between, has_field, is_same_flag as is_same_flag_lem, is_same_holder as is_same_holder_lem, is_same_open as is_same_open_lem, vals_data, holder_data, put_open as put_open_lem, with_standing, with_values, with_numbers, with_holders, with_fields, state_data, change_data};
+ghost use Rattle.st_player.specs.Fields.{all_fields, fields_between, has_field, is_same_flag as is_same_flag_lem, is_same_health as is_same_health_lem, is_same_holder as is_same_holder_lem, is_same_open as is_same_open_lem, vals_data, holder_data, put_open as put_open_lem, with_standing, with_values, with_numbers, with_holders, with_known, with_fields, state_data, change_data};
 
 use crate::safe_json::{Json, JsonObject};
 use crate::state::State;
@@ -25,6 +25,8 @@ pub(crate) struct Fields {
     works: bool,
     stamp: bool,
     fence: bool,
+    told: bool,
+    health: bool,
     low: bool,
     high: bool,
     is_open: bool,
@@ -44,6 +46,17 @@ fn is_same_holder(a: Option<AppId>, b: Option<AppId>) -> bool
     match (a, b) {
         (None, None) => true,
         (Some(a), Some(b)) => a.0 == b.0,
+        _ => false,
+    }
+}
+
+/// Whether two reports tell one health, or both tell none.
+fn is_same_health(a: Option<u32>, b: Option<u32>) -> bool
+    ensures { result ≡ is_same_health_lem a b }
+{
+    match (a, b) {
+        (None, None) => true,
+        (Some(a), Some(b)) => a == b,
         _ => false,
     }
 }
@@ -75,6 +88,8 @@ impl Fields {
             works: true,
             stamp: true,
             fence: true,
+            told: true,
+            health: true,
             low: true,
             high: true,
             is_open: true,
@@ -96,6 +111,8 @@ impl Fields {
             works: old.works != new.works,
             stamp: old.stamp != new.stamp,
             fence: old.fence != new.fence,
+            told: old.told != new.told,
+            health: !is_same_health(old.health, new.health),
             low: !is_same_holder(old.low, new.low),
             high: !is_same_holder(old.high, new.high),
             is_open: !is_same_open(old.is_open, new.is_open),
@@ -116,6 +133,8 @@ impl Fields {
             || self.works
             || self.stamp
             || self.fence
+            || self.told
+            || self.health
             || self.low
             || self.high
             || self.is_open
@@ -196,6 +215,14 @@ fn put_holders(object: &mut JsonObject, fields: Fields, state: &State) -> Result
     object.put_where(fields.high, "high", holder_json(state.high))
 }
 
+/// Puts since which entry it is known so, and with which health.
+fn put_known(object: &mut JsonObject, fields: Fields, state: &State) -> Result<(), AllocError>
+    ensures { OnOk result (members_view object.new ≡ with_known fields state.now (members_view object.old)) }
+{
+    object.put_where(fields.told, "told", Json::number(u64::from(state.told)))?;
+    object.put_where(fields.health, "health", Json::number_or_null(state.health))
+}
+
 /// Puts these fields of a state.
 fn put_fields(object: &mut JsonObject, fields: Fields, state: &State) -> Result<(), AllocError>
     ensures { OnOk result (members_view object.new ≡ with_fields fields state.now (members_view object.old)) }
@@ -203,7 +230,8 @@ fn put_fields(object: &mut JsonObject, fields: Fields, state: &State) -> Result<
     put_standing(object, fields, state)?;
     put_values(object, fields, state)?;
     put_numbers(object, fields, state)?;
-    put_holders(object, fields, state)
+    put_holders(object, fields, state)?;
+    put_known(object, fields, state)
 }
 
 /// A whole state.

@@ -2,7 +2,7 @@
 
 ghost use Rattle.std.specs.Prelude.{◌≡◌, ◌*◌, ◌≤◌, ℕ};
 ghost use Rattle.st_player.specs.declared.pictures.TheConstants.{MOST_BYTES};
-ghost use Rattle.st_player.specs.Laws.{AskedGaveTicket, CountsPlayBack, LongestFits, NoEntryIsLost, PromisesPlayBack, RefusalsTellCuts, StatesPlayBack};
+ghost use Rattle.st_player.specs.Laws.{AskedGaveTicket, CountsPlayBack, FailuresLeftHealth, HealthIsTold, LongestFits, NoEntryIsLost, PromisesPlayBack, RefusalsTellCuts, ReportsAreTold, SettersSet, StatesPlayBack, UnsetAreOpening};
 ghost use Rattle.st_player.specs.Pictures.{room_of};
 
 /// What the opening and the entries behind it tell is how the group stands after them: the state of each entity, the version and what
@@ -38,4 +38,19 @@ pub fn refusals_tell_cuts()
 /// The entry that is told as asked gave the ticket that is decided.
 pub fn asked_gave_ticket()
     ensures { AskedGaveTicket }
+{}
+
+/// The entry that a state tells as the one since which an entity is known so made the report that is kept of it, and a health that it tells
+/// is the entity's then.
+pub fn reports_are_told()
+    ensures made { ReportsAreTold }
+    ensures health { HealthIsTold }
+{}
+
+/// Of what a page opens with: the version that is told of a variable gives it the value of the target, and a variable that no version is told of
+/// has the opening's; the failure that is told of an entity left the health that it has.
+pub fn causes_hold()
+    ensures set { SettersSet }
+    ensures unset { UnsetAreOpening }
+    ensures failed { FailuresLeftHealth }
 {}

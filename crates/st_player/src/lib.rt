@@ -3,6 +3,7 @@
 #![tactic(auto)]
 
 mod calling;
+mod causes;
 mod changes;
 mod courses;
 mod cuts;
@@ -12,6 +13,7 @@ mod head;
 mod joining;
 pub mod laws;
 mod openings;
+mod origins;
 mod parts;
 mod pictures;
 mod playback;

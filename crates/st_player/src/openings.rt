@@ -1,13 +1,13 @@
 //! How a group stands where its page begins: the state of each entity, the promises that do not hold, the version, and how many proposals
-//! wait.
+//! wait; and who set what differs from the opening.
 
-ghost use Rattle.std.specs.Prelude.{◌≡◌, ◌<◌, ◌^◌, IfOk, OnOk, length, map, true};
+ghost use Rattle.std.specs.Prelude.{◌≡◌, ◌<◌, ◌^◌, IfOk, OnOk, length, map, option_map, true};
 ghost use Rattle.serde_json.specs.View.{view, members_view};
 ghost use Rattle.st_player.specs.Fields.{state_data};
-ghost use Rattle.st_player.specs.Pictures.{is_same_state as is_same_state_lem, kind_in as kind_in_lem, kinds_of as kinds_of_lem, lost_data, opening_data, with_states};
-ghost use Rattle.st_player.specs.Snapshots.{shown_of};
+ghost use Rattle.st_player.specs.Pictures.{begun_data, is_same_state as is_same_state_lem, kind_in as kind_in_lem, kinds_of as kinds_of_lem, lost_data, opening_data, with_states};
 ghost use Rattle.st_player.specs.Steps.{shown_in, IsSnapshot};
 
+use crate::causes::causes_json;
 use crate::entries::lost;
 use crate::fields::{Fields, state_json};
 use crate::playback::Playback;
@@ -93,11 +93,11 @@ fn put_states(object: &mut JsonObject, alloc: Global, states: &[State]) -> Resul
 }
 
 /// How a group stands where its page begins.
-fn opening_json(alloc: Global, shown: &Snapshot) -> Result<Json, AllocError>
+fn opening_json(alloc: Global, shown: &Snapshot, causes: Option<Json>) -> Result<Json, AllocError>
     requires few { length shown.now.states.items < 2 ^ 32 }
     requires few_in_network { length shown.now.network.kept.items < 2 ^ 32 }
     requires few_sure { length shown.now.sure.kept.items < 2 ^ 32 }
-    ensures { IfOk result (λ json. view json ≡ opening_data (shown_in shown.now)) }
+    ensures { IfOk result (λ json. view json ≡ opening_data (shown_in shown.now) (option_map view causes)) }
 {
     let mut object = JsonObject::new(alloc);
     put_states(&mut object, alloc, shown.states.as_slice())?;
@@ -105,6 +105,7 @@ fn opening_json(alloc: Global, shown: &Snapshot) -> Result<Json, AllocError>
     object.put("sure", lost_json(alloc, shown.sure.kept.as_slice())?)?;
     object.put_number("version", u64::from(shown.version))?;
     object.put_number("pending", u64::from(shown.pending))?;
+    object.put_some("causes", causes)?;
     Ok(Json::object(object))
 }
 
@@ -115,9 +116,10 @@ pub(crate) fn tell_opening(
     shown: &Snapshot,
 ) -> Result<Json, AllocError>
     requires { IsSnapshot playback.now shown.now }
-    ensures { IfOk result (λ told. view told ≡ opening_data (shown_of playback.now.group playback.now.past)) }
+    ensures { IfOk result (λ told. view told ≡ begun_data playback.now.group playback.now.past) }
 {
     playback.world().is_legal();
-    let told = opening_json(alloc, shown)?;
+    let causes = causes_json(alloc, playback)?;
+    let told = opening_json(alloc, shown, causes)?;
     Ok(told)
 }

@@ -8,10 +8,9 @@ ghost use Rattle.st_net.specs.Groups.{are_names};
 ghost use Rattle.st_event.specs.Legal.{IsLegal};
 ghost use Rattle.st_replay.specs.Replaying.{AreLegal};
 ghost use Rattle.st_player.specs.Joined.{joined};
-ghost use Rattle.st_player.specs.Pictures.{group_data, groups_data, picture as picture_lem, room_of};
+ghost use Rattle.st_player.specs.Pictures.{begun_data, group_data, groups_data, picture as picture_lem, room_of};
 ghost use Rattle.st_player.specs.PictureTexts.{group_head, with_beginning, with_other_parts};
 ghost use Rattle.st_player.specs.Shown.{is_shown};
-ghost use Rattle.st_player.specs.Snapshots.{shown_of};
 ghost use Rattle.st_player.specs.Steps.{IsSnapshot};
 
 use crate::courses::{Moment, at_opening, played, write_entries};
@@ -43,7 +42,7 @@ fn put_beginning(
     total: usize,
 ) -> Result<(), AllocError>
     requires { IsSnapshot begun.now.playback begun.now.shown }
-    ensures { OnOk result (members_view object.new ≡ with_beginning first total (shown_of begun.now.playback.group begun.now.playback.past) (members_view object.old)) }
+    ensures { OnOk result (members_view object.new ≡ with_beginning first total (begun_data begun.now.playback.group begun.now.playback.past) (members_view object.old)) }
 {
     let opening = tell_opening(alloc, &begun.playback, &begun.shown)?;
     object.put_number("first", first as u64)?;

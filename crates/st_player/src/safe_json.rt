@@ -176,7 +176,7 @@ impl JsonList {
     }
 
     /// Whether there is no value.
-    fn is_empty(&self) -> bool
+    pub(crate) fn is_empty(&self) -> bool
         ensures empty { result ≡ true → self.now ≡ [] }
         ensures filled { result ≡ false → (self.now ≡ [] → ⊥) }
     {

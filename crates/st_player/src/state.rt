@@ -10,6 +10,7 @@ ghost use Rattle.st_event.specs.Proposals.{target as target_lem};
 ghost use Rattle.st_net.specs.Merge.{vals_in};
 ghost use Rattle.st_player.specs.Fields.{carriage_word, knowledge_word, is_same_carriage, is_same_knowledge};
 ghost use Rattle.st_player.specs.Inside.{carriage_in, last_fail, is_since as is_since_lem};
+ghost use Rattle.st_player.specs.Known.{health_told as health_told_lem, known_since};
 ghost use Rattle.st_player.specs.States.{greatest as greatest_lem, knowledge_of as knowledge_of_lem, open_of as open_of_lem, state_of as state_of_lem};
 
 use st_agent::Agent;
@@ -45,8 +46,9 @@ pub(crate) enum Knowledge {
     Waiting,
 }
 
-/// What is shown of an entity. `level` and `fence` are those of the report that is kept, `works` is the level in the network; `is_open` is
-/// said of a link alone.
+/// What is shown of an entity. `level` and `fence` are those of the report that is kept, `told` is the entry by which that was made, 0 where it
+/// is the opening's, and `health` the health that it tells, where it hides none. `works` is the level in the network; `is_open` is said of a
+/// link alone.
 #[derive(Clone, Copy)]
 pub(crate) struct State {
     pub(crate) carriage: Carriage,
@@ -59,6 +61,8 @@ pub(crate) struct State {
     pub(crate) works: u32,
     pub(crate) stamp: u32,
     pub(crate) fence: u32,
+    pub(crate) told: u32,
+    pub(crate) health: Option<u32>,
     pub(crate) low: Option<AppId>,
     pub(crate) high: Option<AppId>,
     pub(crate) is_open: Option<bool>,
@@ -121,7 +125,7 @@ impl Knowledge {
 }
 
 /// The level of an entity all of which works.
-fn greatest(entity: Entity) -> u32
+pub(crate) fn greatest(entity: Entity) -> u32
     ensures { result ≡ greatest_lem entity }
 {
     match entity {
@@ -149,7 +153,7 @@ fn carriage_by(entity: Entity, agent: &Agent) -> Carriage
 }
 
 /// The report of an entity that is kept.
-fn observed_of(world: &World, entity: Entity) -> Report
+pub(crate) fn observed_of(world: &World, entity: Entity) -> Report
     requires { IsEntityOf world.now.history.group entity }
     ensures { result ≡ observed_lem world.now.history.group world.now.history.past entity }
 {
@@ -159,7 +163,7 @@ fn observed_of(world: &World, entity: Entity) -> Report
 }
 
 /// The values that an entity is to have.
-fn target_of(world: &World, entity: Entity) -> Vals
+pub(crate) fn target_of(world: &World, entity: Entity) -> Vals
     requires { IsEntityOf world.now.history.group entity }
     ensures { result ≡ vals_in world.now.history.group (target_lem world.now.history.group world.now.history.past) entity }
 {
@@ -228,10 +232,22 @@ fn is_since(failed: Option<u32>, number: u32) -> bool
     }
 }
 
-/// What is shown of an entity, which last failed behind so many reports of its own.
-pub(crate) fn state_of(world: &World, failed: Option<u32>, entity: Entity) -> State
+/// The health that a report tells: none where it is of a busy entity, or of one without power.
+fn health_told(report: Report) -> Option<u32>
+    ensures { result ≡ health_told_lem report }
+{
+    if report.busy || report.vals.v0 == 0 {
+        None
+    } else {
+        Some(report.level)
+    }
+}
+
+/// What is shown of an entity, which last failed behind so many reports of its own, and whose report that is kept was made by this entry.
+pub(crate) fn state_of(world: &World, failed: Option<u32>, since: u32, entity: Entity) -> State
     requires entity { IsEntityOf world.now.history.group entity }
     requires failed { failed ≡ last_fail world.now.history.past entity }
+    requires since { since ≡ known_since world.now.history.group world.now.history.past entity }
     ensures { result ≡ state_of_lem world.now.history.group world.now.history.past entity }
 {
     let agent = world.agent(entity);
@@ -248,6 +264,8 @@ pub(crate) fn state_of(world: &World, failed: Option<u32>, entity: Entity) -> St
         works: agent.level(),
         stamp: stamp_of(world, entity),
         fence: seen.fence,
+        told: since,
+        health: health_told(seen),
         low: locks.holder(entity, Prio::Low),
         high: locks.holder(entity, Prio::High),
         is_open: open_of(world, entity),

@@ -71,7 +71,7 @@ pub(crate) fn shows_near(topo: &GroupTopo, at: Entity, entity: Entity) -> bool
 }
 
 /// Whether an entry accepts a proposal.
-fn accepts(entry: &Entry) -> bool
+pub(crate) fn accepts(entry: &Entry) -> bool
     ensures { result ≡ is_acceptance entry.now.event entry.now.reply }
 {
     match (&entry.event, &entry.reply) {

@@ -35,6 +35,10 @@ function unfold(group) {
   group.receipts = [];
   group.failures = group.names.map(() => []);            // of each entity its fail entries, as { at, health, was, set }
   group.orders = group.names.map(() => []);              // and the accepted proposals that changed or renewed its target, as { at, app, rows, version }
+  const { set = [], failed = [] } = opening.causes || {};   // what lies before the page has no entry here to go to
+  group.failedBefore = group.names.map((_, e) => failed.filter(cause => cause.entity === e).map(cause => ({ at: cause.entry, isBefore: true })));
+  for (const { entity, var: k, version, app } of set) group.orders[entity].push({ at: first, isBefore: true, app: run.apps[app], version,
+    rows: [`${group.names[entity]}.${WORDS[kindOf(group, entity)][k]}=${opening.states[opening.of[entity]].target[k]}`] });
   const health = opening.of.map((kind, e) => opening.states[kind].is === "failed" ? opening.states[kind].works : WHOLE[kindOf(group, e)]);
   entries.forEach((entry, i) => {
     const at = first + i + 1;

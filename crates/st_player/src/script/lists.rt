@@ -37,6 +37,11 @@ function tellBar(more, refused) {                        // what else is known o
     p.append(".");
   } else if (state.known !== "sure") tellWhys(p, [e], at);
 }
+function tellSince(parent, e, s) {                       // by which entry its known report was made, and the health that this tells
+  parent.append("Known since ");
+  refer(parent, s.told ? `entry ${s.told}` : "the opening", s.told > group.first ? s.told : null);
+  parent.append(s.health === null ? ", by a report that hides its health." : `: health ${s.health} of ${whole(e)}.`);
+}
 function showSaid(entry) {
   $("head").textContent = at === group.first ? `Before entry ${at + 1}` : `Entry ${at} of ${group.total}`;
   $("sentence").textContent = sentenceOf(at);
@@ -126,7 +131,8 @@ function showEntity() {
   if (chosen === null) return;
   const s = valueAt(group.entities[chosen], at), link = group.links[chosen - group.devices.length];
   html(panel, "p", { style: "margin:6px 0" }, (link ? `Link ${link.ends.map(d => group.names[d]).join(" \u2013 ")}, capacity ${link.capacity}: ` : group.devices[chosen].tor ? "ToR: " : "Switch: ") + stateWords(s).join("; ") + ".");
-  if (s.known !== "sure") tellWhys(html(panel, "p", { className: "hint" }, "Not counted on: "), [chosen], at);
+  if (s.known !== "sure") tellWhys(html(panel, "p", { className: "hint", id: "not" }, "Not counted on: "), [chosen], at);
+  tellSince(html(panel, "p", { className: "hint", id: "since" }), chosen, s);
   const table = html(panel, "table"), head = html(table, "tr");
   for (const t of ["", "target", "known", "really"]) html(head, "th", { scope: "col" }, t);
   wordsOf(chosen).forEach((word, k) => { const tr = html(table, "tr"); html(tr, "td", {}, word); html(tr, "td", {}, s.target[k]);

@@ -21,10 +21,10 @@ function causeWords(words) {                             // words after "refused
 }
 const was = row => row.replace("=", " = ");
 function failWords(e, n, words) {                        // an entity changes of itself: by its health, and by values that are not what they were
-  const { health, was: before, real } = group.failures[e].find(f => f.at === n), whole = WHOLE[kindOf(group, e)], name = group.names[e];
+  const { health, was: before, real } = group.failures[e].find(f => f.at === n), best = whole(e), name = group.names[e];
   const sets = words.slice(3).map(was).filter((_, k) => +words[3 + k].split("=")[1] !== real[k]);
-  const head = health === before ? `${name} changes of itself${health < whole ? ", and is failed as before" : ""}`
-    : health === 0 ? `${name} fails` : health === whole ? `${name} works again` : health < before ? `${name} fails in part: health ${health} of ${whole}` : `${name} works better: health ${health} of ${whole}`;
+  const head = health === before ? `${name} changes of itself${health < best ? ", and is failed as before" : ""}`
+    : health === 0 ? `${name} fails` : health === best ? `${name} works again` : health < before ? `${name} fails in part: health ${health} of ${best}` : `${name} works better: health ${health} of ${best}`;
   return `${head}${sets.length ? `; now ${sets.join(", ")}` : ""}. No report has told it yet.`;
 }
 const SAY = {
@@ -54,8 +54,11 @@ function sentenceOf(n) {
   const colon = entry.words.indexOf(":");
   return SAY[entry.kind](entry.words.slice(0, colon), entry.words.slice(colon + 1), entry.on ? group.names[entry.on[0]] : "", askedBy(entry), entry, n);
 }
+const whole = e => WHOLE[kindOf(group, e)];
+const isKnownFailed = (e, state) => state.health !== null && state.health < whole(e);
 function stateWords(state) {
   const words = [IS[state.is], KNOWN[state.known]];
+  if (state.health > 0 && state.health < WHOLE.device && !("open" in state)) words.push(`known health ${state.health} of ${WHOLE.device}`);
   if (state.untold) words.push("changed since its report");
   for (const prio of ["high", "low"]) if (state[prio] !== null) words.push(`${prio} lock: ${run.apps[state[prio]]}`);
   return words;
@@ -70,15 +73,19 @@ function orderOf(e, n, k) {                              // the newest accepted 
   const row = `${group.names[e]}.${wordsOf(e)[k]}=${valueAt(group.entities[e], n).target[k]}`;
   return lastOf(group.orders[e].filter(order => order.rows.includes(row)), n);
 }
+function failureTold(e, n) {                             // the failure that its known report tells of: the newest before the entry that made that
+  const { told } = valueAt(group.entities[e], n), f = [...group.failedBefore[e], ...group.failures[e]].findLast(one => one.at < told);
+  return [f ? `failed, entry ${f.at}` : told === 0 || group.first === 0 ? "failed at the opening" : "failed before this page", f];
+}
 const byWords = order => order ? `${order.app ? " by " + order.app : ""}, version ${order.version}` : "";
 function whyNot(e, n) {
   const state = valueAt(group.entities[e], n), words = wordsOf(e), whys = [];
-  const told = state.level < WHOLE[kindOf(group, e)], off = state.seen[0] === 0, drained = words[3] && state.seen[3] === 0;
-  const order = k => orderOf(e, n, k), put = (text, entry) => whys.push([text, entry ? entry.at : null]);
+  const off = state.seen[0] === 0, drained = words[3] && state.seen[3] === 0;
+  const order = k => orderOf(e, n, k), put = (text, entry) => whys.push([text, entry && !entry.isBefore ? entry.at : null]);
   if (state.known === "blocked") put("blocked", null);
-  if (told && !off) {
-    const f = lastOf(group.failures[e].filter(one => one.health < WHOLE[kindOf(group, e)]), n);
-    put(f ? `failed, entry ${f.at}` : group.first ? "failed before this page" : "failed at the opening", f);
+  if (isKnownFailed(e, state)) {
+    const [text, f] = failureTold(e, n);
+    put(state.health ? `${text}: health ${state.health} of ${whole(e)}` : text, f);
   }
   state.target.forEach((value, k) => {
     if (value === state.seen[k]) return;

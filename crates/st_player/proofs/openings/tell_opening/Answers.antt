@@ -1,4 +1,4 @@
-use Rattle.std.proofs.Common.{◌∙◌, ap, subst, arith}
+use Rattle.std.proofs.Common.{◌∙◌, ap₂, subst, arith}
 use Rattle.st_net.specs.Groups.{IsSound}
 use Rattle.st_event.specs.History.{History}
 use Rattle.st_player.specs.Pictures.{opening_data}
@@ -17,4 +17,4 @@ opening_json-requires c =
     }
 
 pub returns : goal.returns
-returns c = c.in_ok-told.ensures ∙ ap opening_data (shown_is c.args.playback.now c.args.shown.now c.requires)
+returns c = c.in_ok-told.ensures ∙ ap₂ opening_data (shown_is c.args.playback.now c.args.shown.now c.requires) c.in_ok-causes.ensures

@@ -6,6 +6,7 @@ use Rattle.st_net.specs.Agents.{agent_level}
 use Rattle.st_agent.specs.State.{AgentState}
 use Rattle.st_locks.specs.LockRows.{LockRows, holder_in}
 use Rattle.st_player.specs.Inside.{carriage_in, is_since, last_fail}
+use Rattle.st_player.specs.Known.{health_told}
 use Rattle.st_player.specs.States.{state_of}
 use Rattle.st_player.proofs.StateLemmas.{carriage_is, works_is, untold_is}
 use Rattle.st_player.proofs.state.state_of.Goals as goal
@@ -33,6 +34,8 @@ returns c =
       works = works i;
       stamp = c.stamp_of.ensures i;
       fence = (seen i).fence;
+      told = c.requires.since i;
+      health = (c.health_told.ensures ∙ ap health_told seen) i;
       low = (c.holder.ensures ∙ ap (λ (l : LockRows). holder_in l e Low) c.locks-locks.ensures.locks ∙ ap (λ (t : Standing). t.holder e Low) c.control.ensures.standing) i;
       high = (c.holder-2.ensures ∙ ap (λ (l : LockRows). holder_in l e High) c.locks-locks.ensures.locks ∙ ap (λ (t : Standing). t.holder e High) c.control.ensures.standing) i;
       is_open = c.open_of.ensures i;
