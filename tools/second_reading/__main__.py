@@ -1,8 +1,9 @@
 """Compares the program with a second reading of the documents: `python3 tools/second_reading --cases 2000`.
 
-Case S is made from the seed S alone: every third has one line broken. `serial`, `check` and `replay` have one right ending. What
-`run` makes of a document is judged, and replayed as it is and altered. The exit status is 0 where all agree, 1 where a case
-differs, 2 where nothing could be tried. `--show S` prints a case with what the second reading makes of it, and runs nothing.
+Case S is made from the seed S alone: every third has one line broken. `serial`, `check`, `replay`, `roll` and `revert` have one right
+ending; for the last two each fifth case has a wide document too. What `run` makes of a document is judged, and replayed as it is and
+altered. The command `words` tries words that are mostly bad. The exit status is 0 where all agree, 1 where a case differs, 2 where
+nothing could be tried. `--show S` prints a case with what the second reading makes of it, and runs nothing.
 """
 
 import argparse
@@ -16,15 +17,18 @@ from collections import Counter
 
 sys.dont_write_bytecode = True
 
-from cases import case_text, crowd_text  # noqa: E402
-from comparisons import COMPARISONS, Reading, difference, difference_at  # noqa: E402
-from edges import edge_documents  # noqa: E402
+from asking import difference_of_words, words_for  # noqa: E402
+from cases import case_text, crowd_text, has_wide, wide_text  # noqa: E402
+from comparisons import COMPARISONS, Reading, difference, difference_at, wanted_of_words  # noqa: E402
+from edges import NETWORK, edge_documents, text_of  # noqa: E402
 from generated import generated_rows  # noqa: E402
 from journal import Decided, entry_line  # noqa: E402
 from looking_back import first_difference  # noqa: E402
+from plan_edges import WORD_EDGES, large_plan_edges, plan_edges  # noqa: E402
 from smaller import smaller  # noqa: E402
 from trying_replays import replay_difference  # noqa: E402
 from trying_runs import is_order_free, run_difference  # noqa: E402
+from words import job_of  # noqa: E402
 
 # A text with more bytes is not printed.
 MOST_SHOWN = 20000
@@ -36,7 +40,7 @@ PROGRAM_PATH = os.path.join(REPOSITORY, "tools", "program_path.sh")
 def main():
     options = read_options()
     if options.show is not None:
-        show(case_text(options.show))
+        show(case_text(options.show), "seed %d" % options.show)
         return 0
     if options.program is None:
         options.program = subprocess.run([PROGRAM_PATH, "statesman_cli"], stdout=subprocess.PIPE, check=True).stdout.decode().strip()
@@ -72,7 +76,7 @@ def read_options():
     parser.add_argument("--seconds", type=float, default=60, help="after so many seconds no new case begins (60)")
     parser.add_argument("--processes", type=int, default=os.cpu_count() or 1, metavar="N",
                         help="try N cases at a time (as many as there are processors)")
-    parser.add_argument("--edges", action="store_true", help="also the documents at limits, and gen and demo")
+    parser.add_argument("--edges", action="store_true", help="also the documents at limits, words at limits, and gen and demo")
     parser.add_argument("--commands", default=",".join(TRIES), help="which commands, of %s (all)" % ",".join(TRIES))
     parser.add_argument("--look-back", type=int, default=0, metavar="N",
                         help="of each N-th case also look back over the journals, as the definitions do")
@@ -82,8 +86,8 @@ def read_options():
     return parser.parse_args()
 
 
-def show(text):
-    """Prints a text with what the second reading makes of it."""
+def show(text, name):
+    """Prints a text of a name with what the second reading makes of it."""
     print(text.decode("latin-1"))
     reading = Reading(text)
     if reading.run is not None:
@@ -91,8 +95,8 @@ def show(text):
             print("journal of %s" % standing.group.name)
             for number, entry in enumerate(standing.entries, 1):
                 print(entry_line(reading.document, standing.group, number, entry))
-    for comparison in COMPARISONS:
-        print("%s: status %d\n%s" % ((" ".join(comparison.words),) + reading.wanted(comparison)))
+    for words in (*COMPARISONS, *(words_for(command, name, reading) for command in ("roll", "revert"))):
+        print("%s: status %d\n%s" % ((" ".join(words),) + wanted_of_words(words, reading)))
 
 
 def try_serial(program, text, reading, _, __):
@@ -106,7 +110,13 @@ def try_replay(program, _, reading, seed, count):
     return replay_difference(program, reading.document, [standing.entries for standing in reading.run.standings], seed, count)
 
 
-TRIES = {"serial": try_serial, "replay": try_replay, "run": run_difference}
+def try_words(command):
+    return lambda program, text, reading, name, count: difference_of_words(program, words_for(command, name, reading), text, reading, count)
+
+
+WIDE_TRIES = ["roll", "revert"]
+BY_WORDS = WIDE_TRIES + ["words"]
+TRIES = {"serial": try_serial, "replay": try_replay, "run": run_difference, **{command: try_words(command) for command in BY_WORDS}}
 
 
 class Trial:
@@ -114,6 +124,7 @@ class Trial:
 
     def __init__(self, options, share=0):
         self.options = options
+        self.commands = options.commands.split(",")
         self.share = share
         self.begin = time.monotonic()
         self.met = Counter()
@@ -147,6 +158,9 @@ class Trial:
                 break
             looks_back = self.options.look_back and seed % self.options.look_back == 0
             self.try_one("seed %d" % seed, case_text(seed), looks_back)
+            wide_commands = [command for command in WIDE_TRIES if command in self.commands]
+            if wide_commands and has_wide(seed):
+                self.try_one("wide %d" % seed, wide_text(seed), False, wide_commands)
             self.last = seed
         for seed in self.seeds(self.options.crowds):
             if self.is_over():
@@ -162,16 +176,25 @@ class Trial:
             for name, text in edge_documents():
                 self.try_one("edge %r" % name, text, False)
             for words, wanted in generated_rows():
-                self.try_words(words, wanted)
+                self.met[words[0]] += 1
+                self.tell_words("", words, difference_at(self.options.program, words, b"", wanted))
+            self.try_plan_edges()
 
-    def try_words(self, words, wanted):
-        """Words that read nothing."""
+    def try_plan_edges(self):
+        """Words on texts that are made for them."""
+        for name, text, lists in (*plan_edges(), *large_plan_edges(), ("words", text_of(*NETWORK), WORD_EDGES)):
+            reading = Reading(text)
+            for words in lists:
+                job = job_of(words)
+                if ("words" if job is None else job.command) in self.commands:
+                    self.tell_words("edge %r: " % name, words, difference_of_words(self.options.program, words, text, reading, self.met))
+
+    def tell_words(self, name, words, found):
+        """Counts words that were tried, and tells where they differ."""
         self.tried += 1
-        self.met[words[0]] += 1
-        found = difference_at(self.options.program, words, b"", wanted)
         if found is not None:
             self.differing += 1
-            print("== %s differs" % " ".join(words))
+            print("== %s%s differs" % (name, " ".join(words)))
             self.tell_endings(found)
 
     def is_over(self):
@@ -183,13 +206,13 @@ class Trial:
         self.count(reading)
         if looks_back and reading.run is not None:
             self.look_back(name, reading)
-        for command in commands or self.options.commands.split(","):
+        for command in self.commands if commands is None else commands:
             is_free = command == "run" and is_order_free(reading)
             for _ in range(self.options.again if is_free else 1):
                 found = TRIES[command](self.options.program, text, reading, name, self.met)
                 if found is not None:
                     self.differing += 1
-                    self.tell_difference(name, text, found, TRIES[command])
+                    self.tell_difference(name, text, found, command)
                     break
 
     def look_back(self, name, reading):
@@ -216,11 +239,13 @@ class Trial:
             for seen in log:
                 self.met["read" if len(seen) == 5 else "readat" if seen.value is not None else "readat none"] += 1
 
-    def tell_difference(self, name, text, found, try_command):
+    def tell_difference(self, name, text, found, command):
         print("== %s differs; made small:" % name)
 
         def tried(rest):
-            return try_command(self.options.program, rest, Reading(rest), name, None)
+            if command in BY_WORDS:
+                return difference_of_words(self.options.program, found.words, rest)
+            return TRIES[command](self.options.program, rest, Reading(rest), name, None)
 
         small = smaller(text, lambda rest: tried(rest) is not None, 30)
         found = tried(small) or found

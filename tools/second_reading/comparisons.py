@@ -1,6 +1,6 @@
 """What is compared: for each command of the program, the text and the exit status that the second reading calls for.
 
-What has one right ending is a row of `COMPARISONS`. What threads make of a document has many, and is judged (`trying_runs.py`);
+What has one right ending is a row of `ENDINGS`. What threads make of a document has many, and is judged (`trying_runs.py`);
 journals are altered first (`trying_replays.py`).
 """
 
@@ -8,23 +8,19 @@ import subprocess
 from typing import NamedTuple
 
 from journal_reading import read_replay
+from planning import roll_text
 from reading import MOST_BYTES, Fault, read_document
 from replaying import Replay
 from report import (
-    OK, TOO_LONG_TEXT, check_text, fault_text, illegal_text, report_json, report_lines, serial_json, serial_replay, serial_text,
-    text_of_lines,
+    OK, TOO_LONG_TEXT, USAGE_TEXT, check_text, fault_text, illegal_text, report_json, report_lines, serial_json, serial_replay,
+    serial_text, text_of_lines,
 )
+from reverting import revert_text
 from printing import replay_form
 from scripts import ScriptRun
+from words import job_of
 
 SECONDS_OF_A_RUN = 300
-
-
-class Comparison(NamedTuple):
-    """The words of a command, and what the reading of a text makes of it: the status and the text."""
-
-    words: tuple
-    wanted: object
 
 
 class Reading:
@@ -43,10 +39,6 @@ class Reading:
         else:
             self.run = ScriptRun(self.document)
 
-    def wanted(self, comparison):
-        """The status and the text that the program should end with."""
-        return comparison.wanted(self)
-
     def of_document(self, text_of):
         """What `text_of` makes of a document and its run, or why there are none."""
         if self.is_too_long:
@@ -54,10 +46,6 @@ class Reading:
         if self.fault is not None:
             return fault_text(self.fault)
         return text_of(self.document, self.run)
-
-
-def of_document(text_of):
-    return lambda reading: reading.of_document(text_of)
 
 
 def replay_wanted(text, form):
@@ -78,13 +66,31 @@ def replay_wanted(text, form):
     return OK, report_json(lines) if form == "json" else text_of_lines(lines)
 
 
-COMPARISONS = (
-    Comparison(("serial",), of_document(lambda document, run: serial_text(run))),
-    Comparison(("serial", "--form=json"), of_document(lambda document, run: serial_json(run))),
-    Comparison(("serial", "--form", "replay"), of_document(lambda document, run: serial_replay(run))),
-    Comparison(("check",), of_document(lambda document, run: check_text(document))),
-    Comparison(("replay",), lambda reading: replay_wanted(reading.text, "text")),
-)
+# Of each command that reads something and has one right ending, what it should end with, by its options.
+ENDINGS = {
+    "serial": lambda reading, options: reading.of_document(lambda _, run: SERIAL_FORMS[options["form"]](run)),
+    "check": lambda reading, _: reading.of_document(lambda document, _: check_text(document)),
+    "replay": lambda reading, options: replay_wanted(reading.text, options["form"]),
+    "roll": lambda reading, options: reading.of_document(lambda _, run: roll_text(run, options["to"])),
+    "revert": lambda reading, options: reading.of_document(lambda _, run: revert_text(run, options["to"])),
+}
+
+SERIAL_FORMS = {"text": serial_text, "json": serial_json, "replay": serial_replay}
+
+# The words with which each text is compared, beside those with a number, which are made for it (`asking.py`).
+COMPARISONS = (("serial",), ("serial", "--form=json"), ("serial", "--form", "replay"), ("check",), ("replay",))
+
+
+def has_one_ending(words):
+    """Whether `wanted_of_words` has the ending of a call of these words."""
+    job = job_of(words)
+    return job is None or job.command in ENDINGS
+
+
+def wanted_of_words(words, reading):
+    """The status and the text of a call of any words that have one right ending, and that read something."""
+    job = job_of(words)
+    return USAGE_TEXT if job is None else ENDINGS[job.command](reading, job.options)
 
 
 class Difference(NamedTuple):
@@ -118,8 +124,8 @@ def difference_at(program, words, text, wanted):
 def difference(program, text, reading=None):
     """The first command whose ending is not the one that the second reading calls for, or None."""
     reading = reading or Reading(text)
-    for comparison in COMPARISONS:
-        found = difference_at(program, comparison.words, text, reading.wanted(comparison))
+    for words in COMPARISONS:
+        found = difference_at(program, words, text, wanted_of_words(words, reading))
         if found is not None:
             return found
     return None

@@ -225,22 +225,25 @@ def verdict_text(group, applications, verdict):
     """What stands behind a receipt's ticket and application: `accepted N` or `refused CAUSE`."""
     if isinstance(verdict, Accepted):
         return "accepted %d" % verdict.version
+    return "refused " + cause_text(group, applications, verdict)
+
+
+def cause_text(group, applications, verdict):
+    """The cause of a refusal."""
     if isinstance(verdict, LacksLevel):
-        cause = "level %s of %s has %d needs %d" % (
+        return "level %s of %s has %d needs %d" % (
             group.assignment(verdict.row), group.name_of(verdict.entity), verdict.has, verdict.needs)
-    elif isinstance(verdict, LacksPower):
-        cause = "off %s" % group.assignment(verdict.row)
-    elif isinstance(verdict, IsLocked):
-        cause = "locked %s %s %s" % (
+    if isinstance(verdict, LacksPower):
+        return "off %s" % group.assignment(verdict.row)
+    if isinstance(verdict, IsLocked):
+        return "locked %s %s %s" % (
             group.name_of(verdict.entity), applications[verdict.holder].name, verdict.priority)
-    else:
-        broken = verdict.broken
-        promise = group.promises[broken.promise]
-        cause = "broken %s %s %s need %d has %d side %s" % (
-            group.devices[promise.first].name, group.devices[promise.second].name,
-            "cutoff" if broken.is_cut_off else "short", broken.need, broken.has,
-            " ".join(group.devices[device].name for device in broken.side))
-    return "refused " + cause
+    broken = verdict.broken
+    promise = group.promises[broken.promise]
+    return "broken %s %s %s need %d has %d side %s" % (
+        group.devices[promise.first].name, group.devices[promise.second].name,
+        "cutoff" if broken.is_cut_off else "short", broken.need, broken.has,
+        " ".join(group.devices[device].name for device in broken.side))
 
 
 def lock_reply_text(applications, reply):

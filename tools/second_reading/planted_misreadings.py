@@ -2,7 +2,8 @@
 the right one is printed: `python3 tools/second_reading/planted_misreadings.py --cases 2000`. No program is needed.
 
 A misreading is a file, a text that stands in it once, and another text. One in what judges runs is told where `check_carried_out.py`
-fails on it. The exit status is 1 where nothing tells one.
+fails on it, and one in what a page shows where a picture of `picture.py` is another. A copy that ends with an exception tells nothing.
+The exit status is 1 where nothing tells one. Those of `roll` and `revert` stand in `planted_plans.py`.
 """
 
 import argparse
@@ -17,8 +18,10 @@ from contextlib import contextmanager
 sys.dont_write_bytecode = True
 
 from endings import small_edges  # noqa: E402
+from planted_plans import PLAN_MISREADINGS  # noqa: E402
 
 HERE = os.path.dirname(os.path.abspath(__file__))
+FEW_PICTURES = 40
 
 MISREADINGS = (
     ("standing.py", "command.stamp > fence else", "command.stamp >= fence else", "a command begins again at the same stamp"),
@@ -67,7 +70,8 @@ MISREADINGS = (
     ("reading.py", "{promise.first, promise.second} == {first, second}", "(promise.first, promise.second) == (first, second)",
      "a pair may be promised in the other order"),
     ("reading.py", "if (entity, variable) in was_set:", "if False:", "a variable may be set twice"),
-    ("reading.py", "word is None or word.decode() not in VARIABLES[entity.is_link]", "word is None", "a variable of another kind of entity"),
+    ("reading.py", "            raise Fault(\"value\")\n        return VARIABLES[entity.is_link]",
+     "            return 0\n        return VARIABLES[entity.is_link]", "a variable of another kind of entity is its power"),
     ("printing.py", "if value != 1:", "if True:", "an opening value of 1 is printed too"),
     ("printing.py", "if group.opening_health(entity) != entity.greatest_health():", "if entity in group.healths:",
      "a health that is the greatest is printed too"),
@@ -83,7 +87,7 @@ MISREADINGS = (
     ("replaying.py", "            return number\n        standing.enter(event)", "            return number + 1\n        standing.enter(event)",
      "the entry behind the illegal one is named"),
     ("journal.py", "type(self) is type(other) and", "", "replies are compared by their numbers alone"),
-)
+) + PLAN_MISREADINGS
 
 # Planted in what judges runs, which `check_carried_out.py` has to tell.
 MISJUDGEMENTS = (
@@ -126,6 +130,21 @@ MISJUDGEMENTS = (
     ("judging_reports.py", "        return Held(holder)\n", "        return Granted()\n", "a lock is granted twice"),
 )
 
+# Planted in what a page of the player shows, which the picture of a case has to tell.
+MISPICTURED = (
+    ("picture.py", "([0] + makers)[past.observed[entity].number]", "([0] + makers)[-1]", "an entity is known since its newest report, though none heard it"),
+    ("picture.py", "return ([0] + makers)[past.observed[entity].number]",
+     "return max((number for number, entry in past.numbered(Hear) if type(entry.reply).__name__ == \"Taken\""
+     " and past.reports[entry.event.number - 1].entity == entity), default=0)",
+     "an entity is known since the entry that heard its report"),
+    ("picture.py", "None if seen.is_busy or seen.values[POWER] == 0 else", "None if seen.is_busy else", "a report of an entity without power tells its health"),
+    ("picture.py", "past.at(known_since(past, entity)).health(entity)", "past.health(entity)", "the health that is told is the one that the entity has now"),
+    ("picture.py", "setters(past, entity, variable)[-1]", "setters(past, entity, variable)[0]", "the first proposal that set a variable is named"),
+    ("picture.py", "[proposal for proposal, verdict in zip(past.proposals, past.verdicts) if isinstance(verdict, Accepted)]", "past.proposals",
+     "a refused proposal has a version"),
+    ("picture.py", "failures and past.health(entity) < GREATEST[entity.is_link]", "failures", "a failure that was mended is named"),
+)
+
 
 def main():
     parser = argparse.ArgumentParser(prog="planted_misreadings", description=__doc__)
@@ -141,6 +160,15 @@ def main():
             is_told = is_misjudgement_told(file, old, new)
             untold, count = untold + (not is_told), count + 1
             print("%s: %s" % (what, "told" if is_told else "not told"), flush=True)
+    with tempfile.TemporaryDirectory() as folder:
+        tried = [misreading for misreading in MISPICTURED if options.only in misreading[3]]
+        if tried:
+            write_pictures(HERE, folder)
+        for file, old, new, what in tried:
+            if time.monotonic() < end:
+                seed = first_picture(file, old, new, folder)
+                untold, count = untold + (seed is None), count + 1
+                print("%s: %s" % (what, "no picture" if seed is None else "the picture of seed %d" % seed), flush=True)
     print("%d planted, %d that nothing tells" % (count, untold))
     return 1 if untold else 0
 
@@ -168,6 +196,23 @@ def is_misjudgement_told(file, old, new):
     return done.returncode != 0
 
 
+def write_pictures(folder, pictures):
+    subprocess.run([sys.executable, os.path.join(folder, "picture.py"), "--write", pictures, "--cases", str(FEW_PICTURES)], check=True)
+
+
+def first_picture(file, old, new, right):
+    """The least seed whose picture the copy with the misreading writes otherwise."""
+    with planted(file, old, new) as copy, tempfile.TemporaryDirectory() as folder:
+        write_pictures(copy, folder)
+        names = [name for name in os.listdir(right) if name.endswith(".json") and not is_same_file(os.path.join(right, name), os.path.join(folder, name))]
+    return min((int(name[len("case"):-len(".json")]) for name in names), default=None)
+
+
+def is_same_file(first, second):
+    with open(first) as one, open(second) as other:
+        return one.read() == other.read()
+
+
 def place_text(edges, place):
     if place is None:
         return "no case"
@@ -187,8 +232,10 @@ def first_place(file, old, new, cases, right, ahead):
             for place in range(cases):
                 if place == len(right):
                     right.append(ahead.stdout.readline())
-                if reader.stdout.readline() != right[place]:
-                    return place
+                line = reader.stdout.readline()
+                if line != right[place]:
+                    # A copy that ends with an exception tells nothing.
+                    return place if line else None
         finally:
             reader.kill()
             reader.wait()

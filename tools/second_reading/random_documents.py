@@ -19,6 +19,11 @@ def crowded_document(random):
     return CrowdMaker(random).lines()
 
 
+def wide_document(random):
+    """The lines of a document whose groups may have more devices, and whose scripts more rows, than one proposal has."""
+    return WideMaker(random).lines()
+
+
 class Net:
     """The names of a group that is being made."""
 
@@ -64,7 +69,7 @@ class DocumentMaker:
             lines.append("app " + app)
             if nets:
                 lines += self.command_lines(nets)
-        if self.chance(0.5):
+        if apps and self.chance(0.5):
             for _ in range(self.random.randint(1, 4)):
                 lines.append("order " + " ".join(self.pick(apps) for _ in range(self.random.randint(1, 9))))
         return self.dressed(lines) if self.chance(0.25) else lines
@@ -299,3 +304,53 @@ class CrowdMaker(DocumentMaker):
     def failing(self, net):
         name = self.pick(net.devices() + net.links)
         return [self.fail(net, name)] + ["poll %s %s" % (net.name, name)] * self.random.randint(0, 2)
+
+
+class WideMaker(DocumentMaker):
+    """Further switches, most of them beside all promises, so that many may change at once; firmware is what most rows are of."""
+
+    def applications(self):
+        return ["up", "te", "mitigate-1"][:self.pick((0, 1, 1, 2, 2, 3))]
+
+    def group_lines(self, net):
+        lines = super().group_lines(net)
+        further = ["w%d" % number for number in range(1, 1 + self.pick((0, 6, 14, 15, 16, 17, 18, 24, 33)))]
+        declared = net.devices()
+        for name in further:
+            lines.append("device %s switch" % name)
+            if declared and self.chance(0.1):
+                net.links.append("l%d" % (len(net.links) + 1))
+                lines.append("link %s %s %s %d" % (net.links[-1], self.pick(declared), name, self.pick(CAPACITIES)))
+            if self.chance(0.15):
+                lines.append("open %s.firmware=%d" % (name, self.random.randint(1, 3)))
+            if self.has_open_values and self.chance(0.06):
+                lines.append("open %s.power=0" % name)
+            if self.has_healths and self.chance(0.08):
+                lines.append("health %s %d" % (name, self.random.randint(0, 4)))
+        net.switches += further
+        return lines
+
+    def command_lines(self, nets):
+        return [self.command(self.pick(nets)) for _ in range(self.random.randint(0, 20))]
+
+    def command(self, net):
+        if not net.devices():
+            return "await %s" % net.name
+        word = self.random.choices(("propose", "await", "settle", "lock", "other"), (10, 3, 5, 2, 2))[0]
+        if word == "propose":
+            return self.propose(net)
+        if word == "await":
+            return "await %s" % net.name
+        if word == "settle":
+            return "settle %s %d" % (net.name, self.pick((1, 1, 2)))
+        if word == "lock":
+            return "lock %s %s %s" % (net.name, self.pick(net.devices()), self.pick(("low", "low", "high")))
+        return super().command(net)
+
+    def propose(self, net):
+        """Up to 16 rows, of one variable for each device or of several."""
+        variables = self.pick((("firmware",), ("firmware",), ("firmware", "config"), ("firmware", "config", "power", "routing")))
+        names = [name for name in net.switches if name.startswith("w")] if self.chance(0.6) else []
+        pairs = [(name, variable) for name in names or net.devices() for variable in variables]
+        some = self.random.sample(pairs, min(len(pairs), self.pick((1, 2, 4, 8, 14, 15, 16, 16))))
+        return "propose %s %s" % (net.name, " ".join("%s.%s=%d" % (*pair, self.value(pair[1])) for pair in some))

@@ -7,8 +7,9 @@ from journal import Lock, Old, Stale, Unlock, lock_reply_text, verdict_text
 from printing import replay_form
 from scripts import Seen
 
-OK, TOO_LONG, BAD_INPUT, JOURNAL_FULL, ILLEGAL = 0, 4, 5, 6, 7
+OK, USAGE, TOO_LONG, BAD_INPUT, JOURNAL_FULL, ILLEGAL = 0, 2, 4, 5, 6, 7
 
+USAGE_TEXT = USAGE, "fault usage\n"
 TOO_LONG_TEXT = TOO_LONG, "fault long\n"
 
 

@@ -4,6 +4,7 @@ The names are those of docs/DEFINITIONS.md. There a definition looks back over a
 looks back, and is compared with this.
 """
 
+import copy
 from dataclasses import dataclass
 from typing import NamedTuple
 
@@ -96,6 +97,14 @@ class Standing:
             for entity, agent in self.agents.items()
         }
         self.actual_at_opening = self.actual()
+
+    def copied(self):
+        """A copy that goes on by itself as long as it enters nothing that moves an agent."""
+        other = copy.copy(self)
+        for name, value in vars(self).items():
+            if isinstance(value, (list, dict)):
+                setattr(other, name, value.copy())
+        return other
 
     # What a journal says, at its end.
 
