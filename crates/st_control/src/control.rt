@@ -390,7 +390,8 @@ impl Control {
     /// What is to be decided of the oldest proposal as entry number `entry`, by how the checker stands now. What was judged away from it
     /// spares flows, and changes no verdict. Nothing changes but the count of runs.
     fn judge_oldest(&mut self, entry: u32, judged: Option<&Judged>) -> Result<Decision, AllocError>
-        requires { 0 < length self.old.store.pending }
+        requires waits { 0 < length self.old.store.pending }
+        requires version { self.old.store.version + 1 < 2 ^ 32 }
         ensures due { IfOk result (IsDue self.new) }
         ensures ticket { IfOk result (λ decision. decision.receipt.ticket ≡ length self.old.store.decided + 1) }
         ensures entry { IfOk result (λ decision. decision.receipt.entry ≡ entry) }
@@ -417,6 +418,7 @@ impl Control {
     fn decide(&mut self, decision: &Decision) -> Result<(), AllocError>
         requires due { IsDue self.old decision.now }
         requires latest { IsLatest self.old.store }
+        requires version { self.old.store.version + 1 < 2 ^ 32 }
         ensures ok { OnOk result (Moves self.old self.new decision.now.receipt.entry check_event (decided_reply decision.now.receipt)) }
         ensures err { OnErr result (self.new ≡ self.old) }
         ensures runs { self.new.flows_run ≡ self.old.flows_run }
@@ -443,7 +445,8 @@ impl Control {
 
     /// Judges and decides the oldest proposal that waits, as entry number `entry`. At `Err` nothing has changed but the count of runs.
     fn decide_oldest(&mut self, entry: u32, judged: Option<&Judged>) -> Result<Receipt, AllocError>
-        requires { 0 < length self.old.store.pending }
+        requires waits { 0 < length self.old.store.pending }
+        requires version { self.old.store.version + 1 < 2 ^ 32 }
         ensures ok { IfOk result (λ receipt. Moves self.old self.new entry check_event (decided_reply receipt)) }
         ensures ticket { IfOk result (λ receipt. receipt.ticket ≡ length self.old.store.decided + 1) }
         ensures err { OnErr result (IsSameButRuns self.old self.new) }
@@ -460,7 +463,8 @@ impl Control {
         entry: u32,
         judged: Option<&Judged>,
     ) -> Result<Twice<Receipt>, AllocError>
-        requires { 0 < length self.old.store.pending }
+        requires waits { 0 < length self.old.store.pending }
+        requires version { self.old.store.version + 1 < 2 ^ 32 }
         ensures ok { IfOk result (λ receipts. Moves self.old self.new entry check_event (decided_reply receipts.told)) }
         ensures ticket { IfOk result (λ receipts. receipts.told.ticket ≡ length self.old.store.decided + 1) }
         ensures kept { IfOk result (λ receipts. receipts.kept ≡ receipts.told) }
@@ -479,6 +483,7 @@ impl Control {
 
     /// Decides the oldest proposal that waits, as entry number `entry`. At `Err` nothing has changed but the count of runs.
     pub fn check(&mut self, entry: u32) -> Result<Check, AllocError>
+        requires version { self.old.store.version + 1 < 2 ^ 32 }
         ensures ok { IfOk result (λ check. Moves self.old self.new entry check_event (reply_of_check check)) }
         ensures err { OnErr result (IsSameButRuns self.old self.new) }
         ensures runs { self.old.flows_run ≤ self.new.flows_run }
@@ -492,6 +497,7 @@ impl Control {
     /// Does what `check` does, and gives the answer twice: one to hand out and one to enter in a journal. The second is copied before the
     /// proposal is decided, since a copy can be refused memory. At `Err` nothing has changed but the count of runs.
     pub fn check_twice(&mut self, entry: u32) -> Result<Twice<Check>, AllocError>
+        requires version { self.old.store.version + 1 < 2 ^ 32 }
         ensures ok { IfOk result (λ checks. Moves self.old self.new entry check_event (reply_of_check checks.told)) }
         ensures kept { IfOk result (λ checks. checks.kept ≡ checks.told) }
         ensures err { OnErr result (IsSameButRuns self.old self.new) }

@@ -11,7 +11,7 @@ use Rattle.st_event.specs.Moments.{reports}
 use Rattle.st_net.specs.Reports.{opening_report}
 use Rattle.st_event.specs.Legal.{IsLegal, AtEach}
 use Rattle.st_event.specs.Facts.{AgentsAgree}
-use Rattle.st_event.proofs.Made.{IsMade, Makes, report_now, makes_last, numbered_made, numbered_sent}
+use Rattle.st_event.proofs.Made.{IsMade, Makes, report_now, makes_last, names_none, numbered_made, numbered_sent}
 use Rattle.st_event.proofs.Stamps.{sent_past, fence_small}
 use Rattle.st_event.proofs.Shown.{made_is_true}
 use Rattle.st_event.proofs.Later.{made_later, makes_next}
@@ -30,10 +30,7 @@ numbered_last g past event before n r (inl is) old = old is
 numbered_last g past event before n r (inr makes) old = record { some = let next = makes_next g past event r makes in omega (arith, next) }
 
 numbered : (g : Group) (past : List Entry) (n : ℕ) (r : Report) → nth (reports g past) n ≡ Some r → IsNumbered r
-numbered g [] n r is = absurd (nothing n r is)
-  where
-    nothing : (n : ℕ) (r : Report) → nth [] n ≡ Some r → ⊥
-    nothing n r is = grind arith
+numbered g [] n r is = absurd (names_none n r is)
 numbered g (entry ∷ past) n r is = numbered_last g past entry.event (reports g past) n r (makes_last entry.event (report_now g past) (reports g past) n r is) (numbered g past n r)
 
 pub agents_agree : (g : Group) (past : List Entry) → IsLegal g past → AgentsAgree g past

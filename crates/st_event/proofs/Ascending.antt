@@ -10,7 +10,7 @@ use Rattle.st_event.specs.declared.journal.Entry.{Entry}
 use Rattle.st_net.specs.Groups.{Group}
 use Rattle.st_net.specs.Numbered.{nth}
 use Rattle.st_event.specs.Moments.{reports_after, reports, number}
-use Rattle.st_event.proofs.Made.{report_now, numbered_made}
+use Rattle.st_event.proofs.Made.{report_now, numbered_made, names_none}
 use Rattle.st_event.proofs.Shown.{made_is_true}
 
 -- item k, counted from 0, is one of the list, or the one more at its end
@@ -80,10 +80,7 @@ event_ascends g past (make_report e) old = record {
 event_ascends g past _ old = old
 
 reports_ascend_at : (g : Group) (past : List Entry) → Ascends (reports g past)
-reports_ascend_at g [] = record { ascends = λ m n o r first second own less. absurd (nothing m o first) }
-  where
-    nothing : (n : ℕ) (r : Report) → nth [] n ≡ Some r → ⊥
-    nothing n r is = grind arith
+reports_ascend_at g [] = record { ascends = λ m n o r first second own less. absurd (names_none m o first) }
 reports_ascend_at g (entry ∷ past) = event_ascends g past entry.event (reports_ascend_at g past)
 
 pub reports_ascend : (g : Group) (past : List Entry) (m n : ℕ) (o r : Report) → nth (reports g past) m ≡ Some o → nth (reports g past) n ≡ Some r → o.entity ≡ r.entity → m < n → o.number < r.number

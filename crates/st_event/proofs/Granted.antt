@@ -1,6 +1,7 @@
 -- Who holds a lock is who was granted it last.
 use Rattle.std.proofs.Common.{◌≡◌, ℕ, List, [], ◌∷◌, Option, Some, None, refl, ap, ◌∙◌, subst, inl, inr, arith}
 use Rattle.std.specs.Prelude.{Bool, true, false, ◌==◌, ◌&&◌, if◌then◌else◌, ◌↔◌}
+use Rattle.std.proofs.Math.Bool.{and-false}
 use Rattle.st_net.specs.declared.entity.AppId.{AppId}
 use Rattle.st_net.specs.declared.entity.Entity.{Entity}
 use Rattle.st_net.specs.declared.entity.Prio.{Prio}
@@ -56,19 +57,11 @@ not_own past by app at e prio q true same free is =
     let there : holder past at prio ≡ Some app = same_lock past at e prio q same ∙ is in
     let other : (app.0 == by.0) ≡ false = subst (λ (o : Option AppId). is_held_by by o ≡ false) there free in
     rw (turned_about app.0 by.0 false other) refl
-not_own past by app at e prio q false same free is = and_false (by.0 == app.0)
-  where
-    and_false : (b : Bool) → (b && false) ≡ false
-    and_false true = refl
-    and_false false = refl
+not_own past by app at e prio q false same free is = and-false (by.0 == app.0)
 
 unlock_freed : (past : List Entry) (by app : AppId) (at e : Entity) (prio q : Prio) (answer : Reply) (same : Bool) → is_released answer ≡ true → (is_same_entity at e && is_same_prio prio q) ≡ same → (if same then None else holder past e q) ≡ Some app → (holder past e q ≡ Some app → IsLastGrant past e q app) → IsLastGrant (entry_of (Unlock by at prio) answer ∷ past) e q app
 unlock_freed past by app at e prio q answer true released same is before = cc
-unlock_freed past by app at e prio q answer false released same is before = inr (record { no_grant = refl; no_release = rw (released, same) (and_false (by.0 == app.0)) }, before is)
-  where
-    and_false : (b : Bool) → (b && false) ≡ false
-    and_false true = refl
-    and_false false = refl
+unlock_freed past by app at e prio q answer false released same is before = inr (record { no_grant = refl; no_release = rw (released, same) (and-false (by.0 == app.0)) }, before is)
 
 unlock_held : (past : List Entry) (by app : AppId) (at e : Entity) (prio q : Prio) (answer : Reply) (held : Bool) → is_released answer ≡ true → is_held_by by (holder past at prio) ≡ held → (if held then holder_set (holder past) at prio None else holder past) e q ≡ Some app → (holder past e q ≡ Some app → IsLastGrant past e q app) → IsLastGrant (entry_of (Unlock by at prio) answer ∷ past) e q app
 unlock_held past by app at e prio q answer true released held is before = unlock_freed past by app at e prio q answer (is_same_entity at e && is_same_prio prio q) released refl is before

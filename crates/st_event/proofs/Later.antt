@@ -1,6 +1,7 @@
 -- A later report of an entity has no lower fence; where it has the same one and the entity did not fail in between, it shows the same.
 use Rattle.std.proofs.Common.{◌≡◌, ℕ, ◌+◌, ◌<◌, ◌≤◌, List, [], ◌∷◌, refl, ap, sym, ◌∙◌, subst, inl, inr, arith}
-use Rattle.std.specs.Prelude.{Bool, true, false, ◌&&◌, ◌||◌, nat_le, nat_lt}
+use Rattle.std.specs.Prelude.{Bool, true, false, ◌&&◌, nat_le, nat_lt}
+use Rattle.std.proofs.lemmas.Bool.{or_from}
 use Rattle.st_net.specs.declared.entity.Entity.{Entity}
 use Rattle.st_net.specs.declared.message.Report.{Report}
 use Rattle.st_event.specs.declared.event.Event.{Event}
@@ -18,9 +19,6 @@ use Rattle.st_event.proofs.Shown.{made_is_true, number_grows}
 late_enough : (p q r : Bool) → (p && q && r) ≡ false → r ≡ true → (p && q) ≡ false
 late_enough p q r none is = not_both (p && q) r none is
 
-or_false : (p q : Bool) → p ≡ false → q ≡ false → (p || q) ≡ false
-or_false p q x y = rw (x, y) refl
-
 -- what did not fail before a number that is not reached yet did not fail since
 unfailed_since : (past : List Entry) (e : Entity) (from to : ℕ) → number past e < to → failed_between past e from to ≡ false → failed_since past e from ≡ false
 unfailed_since [] e from to more none = refl
@@ -28,7 +26,7 @@ unfailed_since (entry ∷ past) e from to more none =
     let grows = number_grows past entry e in
     let before : number past e < to = omega (arith, grows, more) in
     let parts = neither (is_fail_of e entry.event && nat_le from (number past e) && nat_lt (number past e) to) (failed_between past e from to) none in
-    or_false (is_fail_of e entry.event && nat_le from (number past e)) (failed_since past e from) (late_enough (is_fail_of e entry.event) (nat_le from (number past e)) (nat_lt (number past e) to) parts.0 (less (number past e) to before)) (unfailed_since past e from to before parts.1)
+    or_from (is_fail_of e entry.event && nat_le from (number past e)) (failed_since past e from) (late_enough (is_fail_of e entry.event) (nat_le from (number past e)) (nat_lt (number past e) to) parts.0 (less (number past e) to before)) (unfailed_since past e from to before parts.1)
 
 -- the report is one of the entity, with its next number, and shows the state of the agent
 now_after : (g : Group) (past : List Entry) (entry : Entry) (o : Report) (e : Entity) → o.entity ≡ e → IsTrueOf g past o → IsLaterThan (entry ∷ past) o (report_now g past e)

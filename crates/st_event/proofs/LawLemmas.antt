@@ -22,6 +22,7 @@ use Rattle.st_event.specs.Observed.{observed}
 use Rattle.st_event.specs.Replies.{reply, check_reply, receipt_of}
 use Rattle.st_event.specs.Legal.{IsLegal, IsNext}
 use Rattle.st_event.specs.Laws.{MovesAccepted, OverlaysAccepted, IsGreatestHeard, IsGreatestTold, WasBegunBy}
+use Rattle.st_net.proofs.Tests.{less_is}
 use Rattle.st_event.proofs.Made.{observed_own, told_sent}
 use Rattle.st_event.proofs.Stamps.{fence_grows}
 use Rattle.st_event.proofs.Targets.{IsAccepted, IsOrderly, acceptance, accepted_same, accepted_next, legal_orderly, overlays_are_accepted}
@@ -53,9 +54,6 @@ overlays_accepted g past legal = let same = overlays_are_accepted g past legal i
 
 -- the queue
 
-less_than : (m n : ℕ) → nat_lt m n ≡ true → m + 1 ≤ n
-less_than m n is = grind (arith, nat_tests)
-
 one_more : (ps : List Proposal) (p : Proposal) (n : ℕ) → n ≤ length ps → length (drop n (ps ++ p ∷ [])) ≡ length (drop n ps) + 1
 one_more ps p n few = let all = length-drop n ps in let more = length-drop n (ps ++ p ∷ []) in let ends : length (ps ++ p ∷ []) ≡ length ps + 1 = rw length-append refl in omega (arith, all, more, ends)
 
@@ -65,7 +63,7 @@ one_less ps n = let all = length-drop n ps in let less = length-drop (n + 1) ps 
 few_submitted : (g : Group) (past : List Entry) (app : AppId) (rows : List Row) (answer : Reply) (b : Bool) → nat_lt (length (pending past)) MAX_PENDING ≡ b → answer ≡ (if b then Queued (length (proposals past) + 1) else Full (length (pending past))) → IsOrderly past → length (pending past) ≤ MAX_PENDING → length (pending (entry_of (Submit app rows) answer ∷ past)) ≤ MAX_PENDING
 few_submitted g past app rows answer true room is orderly few =
     let more = one_more (proposals past) (record { app = app; rows = rows }) (length (verdicts past)) orderly.few in
-    let less = less_than (length (pending past)) MAX_PENDING room in
+    let less = less_is (length (pending past)) MAX_PENDING room in
     rw is (omega (arith, more, less))
 few_submitted g past app rows answer false room is orderly few = rw is few
 

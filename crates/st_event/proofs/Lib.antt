@@ -26,6 +26,7 @@ pub mod Ascending
 pub mod Unnamed
 pub mod Versions
 pub mod Accepting
+pub mod Ranges
 pub mod Prefixes
 pub mod Begun
 pub mod Undecided

@@ -20,6 +20,10 @@ use Rattle.st_net.specs.Reports.{opening_report, later_report}
 use Rattle.st_event.specs.Observed.{observed}
 use Rattle.st_net.proofs.Tests.{nth_last, both, same_entity}
 
+-- no number is one of an empty list
+pub names_none : {M : Type 0} (n : ℕ) (x : M) → nth [] n ≡ Some x → ⊥
+names_none n x is = grind arith
+
 -- what an agent would report
 abbrev pub report_now : Group → List Entry → Entity → Report
 report_now g past e = report_by e (number past e + 1) (fence g past e) (busy g past e) (vals g past e) (health g past e)
@@ -44,10 +48,7 @@ made_from g past entry n r (inr makes) before = inr makes
 
 -- a report with a number was made
 pub numbered_made : (g : Group) (past : List Entry) (n : ℕ) (r : Report) → nth (reports g past) n ≡ Some r → IsMade g past r
-numbered_made g [] n r is = absurd (nothing n r is)
-  where
-    nothing : (n : ℕ) (r : Report) → nth [] n ≡ Some r → ⊥
-    nothing n r is = grind arith
+numbered_made g [] n r is = absurd (names_none n r is)
 numbered_made g (entry ∷ past) n r is = made_from g past entry n r (makes_last entry.event (report_now g past) (reports g past) n r is) (numbered_made g past n r)
 
 heard_made_at : (g : Group) (past : List Entry) (event : Event) (r : Report) → heard event (nth (reports g past)) ≡ Some r → IsMade g past r
@@ -91,7 +92,7 @@ abbrev pub IsSent : Group → List Entry → Command → Type 0
 IsSent g [] c = ⊥
 IsSent g (entry ∷ past) c = IsSent g past c ⊎ Sends entry.event (command_now g past) c
 
-sends_last : (event : Event) (reply : Reply) (now : Entity → Command) (before : List Command) (n : ℕ) (c : Command) → nth (commands_after event reply now before) n ≡ Some c → (nth before n ≡ Some c) ⊎ Sends event now c
+pub sends_last : (event : Event) (reply : Reply) (now : Entity → Command) (before : List Command) (n : ℕ) (c : Command) → nth (commands_after event reply now before) n ≡ Some c → (nth before n ≡ Some c) ⊎ Sends event now c
 sends_last (Send e) (Sent k) now before n c is = nth_last before (now e) c n is
 sends_last (Send e) _ now before n c is = inl is
 sends_last _ reply now before n c is = inl is
@@ -101,10 +102,7 @@ sent_from g past entry n c (inl is) before = inl (before is)
 sent_from g past entry n c (inr sends) before = inr sends
 
 pub numbered_sent : (g : Group) (past : List Entry) (n : ℕ) (c : Command) → nth (commands g past) n ≡ Some c → IsSent g past c
-numbered_sent g [] n c is = absurd (nothing n c is)
-  where
-    nothing : (n : ℕ) (c : Command) → nth [] n ≡ Some c → ⊥
-    nothing n c is = grind arith
+numbered_sent g [] n c is = absurd (names_none n c is)
 numbered_sent g (entry ∷ past) n c is = sent_from g past entry n c (sends_last entry.event entry.reply (command_now g past) (commands g past) n c is) (numbered_sent g past n c)
 
 -- a command that is delivered was sent, to this entity

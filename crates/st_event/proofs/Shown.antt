@@ -32,10 +32,6 @@ not_begun : (o : Option Command) (f : ℕ) → fence_after o f ≡ f → begins 
 not_begun None f same = refl
 not_begun (Some c) f same = grind (arith, nat_tests)
 
-and_false : (b : Bool) → (b && false) ≡ false
-and_false true = refl
-and_false false = refl
-
 finish_idle : (b : Bool) (work vals : Vals) → (if b && false then work else vals) ≡ vals
 finish_idle true work vals = refl
 finish_idle false work vals = refl

@@ -1,5 +1,5 @@
--- An entry moves the target only where it accepts a proposal, and then by that proposal's rows; and in a legal journal the
--- overlays are the accepted proposals.
+-- An entry moves the target only where it makes a version, and then by what it overlays: an acceptance by its proposal's rows. In a legal
+-- journal the overlays are the accepted proposals.
 use Rattle.std.proofs.Common.{◌≡◌, ◌+◌, ◌≤◌, List, [], ◌∷◌, ◌++◌, length, drop, Option, Some, None, refl, ap, sym, ◌∙◌, arith, length-append, length-drop}
 use Rattle.std.specs.Prelude.{Bool, true, false}
 use Rattle.st_net.specs.declared.entity.Row.{Row}
@@ -13,7 +13,7 @@ use Rattle.st_event.specs.declared.journal.Entry.{Entry}
 use Rattle.st_event.specs.declared.event.Proposal.{Proposal}
 use Rattle.st_net.specs.Groups.{Group}
 use Rattle.st_net.specs.Merge.{merge_of, target_with}
-use Rattle.st_event.specs.Proposals.{is_accepted, is_accepting, is_acceptance, proposals, verdicts, pending, accepted, first_rows, overlay_in, with_overlay, overlays, target}
+use Rattle.st_event.specs.Proposals.{is_accepted, is_accepting, is_acceptance, makes_version, proposals, verdicts, pending, accepted, first_rows, overlay_in, with_overlay, overlays, target}
 use Rattle.st_event.specs.Overlaid.{overlaid_by}
 use Rattle.st_event.specs.Replies.{reply, check_reply, receipt_of}
 use Rattle.st_event.specs.Legal.{IsLegal, IsNext}
@@ -80,9 +80,9 @@ acceptance g past _ answer is accepts = cc
 pub accepted_next : (past : List Entry) (receipt : Receipt) (p : Proposal) (rest : List Proposal) → pending past ≡ p ∷ rest → is_accepted receipt.verdict ≡ true → accepted (record { event = Check; reply = Decided receipt } ∷ past) ≡ accepted past ++ p.rows ∷ []
 accepted_next past receipt p rest first accepts = rw (accepted_among-verdict (proposals past) (verdicts past) receipt.verdict p rest first, accepts) refl
 
--- what an entry overlays, by whether it accepts
+-- what an entry overlays, by whether it makes a version, and by whether it accepts
 
-pub overlay_none : (event : Event) (answer : Reply) (first : List Row) → is_acceptance event answer ≡ false → overlay_in event answer first ≡ None
+pub overlay_none : (event : Event) (answer : Reply) (first : List Row) → makes_version event answer ≡ false → overlay_in event answer first ≡ None
 overlay_none Check answer first none = rw none refl
 overlay_none _ answer first none = refl
 
@@ -90,7 +90,7 @@ pub overlay_some : (event : Event) (answer : Reply) (first : List Row) → is_ac
 overlay_some Check answer first accepts = rw accepts refl
 overlay_some _ answer first accepts = cc
 
-pub overlays_same : (past : List Entry) (entry : Entry) → is_acceptance entry.event entry.reply ≡ false → overlays (entry ∷ past) ≡ overlays past
+pub overlays_same : (past : List Entry) (entry : Entry) → makes_version entry.event entry.reply ≡ false → overlays (entry ∷ past) ≡ overlays past
 overlays_same past entry none = ap (λ (o : Option (List Row)). with_overlay o (overlays past)) (overlay_none entry.event entry.reply (first_rows (pending past)) none)
 
 pub overlays_next : (past : List Entry) (entry : Entry) → is_acceptance entry.event entry.reply ≡ true → overlays (entry ∷ past) ≡ overlays past ++ first_rows (pending past) ∷ []
@@ -111,8 +111,8 @@ target_accepted g past entry accepts =
     target_overlaid g past entry
     ∙ ap (λ (o : Option (List Row)). overlaid_by o (target g past)) (overlay_some entry.event entry.reply (first_rows (pending past)) accepts)
 
--- an entry that accepts nothing leaves the target
-pub target_same : (g : Group) (past : List Entry) (entry : Entry) → is_acceptance entry.event entry.reply ≡ false → target g (entry ∷ past) ≡ target g past
+-- an entry that makes no version leaves the target
+pub target_same : (g : Group) (past : List Entry) (entry : Entry) → makes_version entry.event entry.reply ≡ false → target g (entry ∷ past) ≡ target g past
 target_same g past entry none =
     target_overlaid g past entry
     ∙ ap (λ (o : Option (List Row)). overlaid_by o (target g past)) (overlay_none entry.event entry.reply (first_rows (pending past)) none)

@@ -1,6 +1,7 @@
 -- An entity's whole turn settles it, where it did not fail.
 use Rattle.std.proofs.Common.{◌≡◌, ℕ, ◌+◌, ◌≤◌, List, ◌∷◌, length, Some, refl, ap, sym, ◌∙◌, arith}
-use Rattle.std.specs.Prelude.{Bool, true, false, ◌&&◌, ◌==◌, max, nat_lt}
+use Rattle.std.specs.Prelude.{true, false, ◌==◌, max, nat_lt}
+use Rattle.std.proofs.Math.Bool.{and-false}
 use Rattle.st_net.specs.declared.entity.Entity.{Entity}
 use Rattle.st_net.specs.declared.entity.Vals.{Vals}
 use Rattle.st_net.specs.declared.entity.Var.{Var}
@@ -27,10 +28,6 @@ use Rattle.st_event.proofs.Targets.{target_same}
 use Rattle.st_event.proofs.Standings.{quiet_stamp}
 use Rattle.st_event.proofs.History.{target_of_stamp, agents_in_step}
 use Rattle.st_event.proofs.Promises.{entry_of}
-
-and_false : (b : Bool) → (b && false) ≡ false
-and_false true = refl
-and_false false = refl
 
 settled_made : (r : Report) (stamp : ℕ) (goal : Vals) → r.busy ≡ false → r.fence ≡ stamp → r.vals ≡ goal → is_settled_by r stamp goal ≡ true
 settled_made r stamp goal idle fences values =
@@ -59,8 +56,8 @@ report_settles g past e k made answer legal idle fences unspoiled names =
     let newer : nat_lt (observed g past e).number (number past e + 1) ≡ true = less (observed g past e).number (number past e + 1) (omega (arith, low)) in
     let now : observed g (entry_of (Hear k) answer ∷ middle) e ≡ report_now g past e = rw (names, same_self e, newer) refl in
     let same : is_same_vals (vals g past e) (vals_in g (target g middle) e) ≡ true = rw (values, middle_goal) (same_vals_self (vals_in g (target g past) e)) in
-    let unrenewed : renews (Some (report_now g past e)) e (stamp g middle e) (vals_in g (target g middle) e) ≡ false = rw same (and_false _) in
-    let stamps : stamp g (entry_of (Hear k) answer ∷ middle) e ≡ stamp g past e = rw (names, unrenewed, and_false (is_taken answer)) middle_stamp in
+    let unrenewed : renews (Some (report_now g past e)) e (stamp g middle e) (vals_in g (target g middle) e) ≡ false = rw same (and-false _) in
+    let stamps : stamp g (entry_of (Hear k) answer ∷ middle) e ≡ stamp g past e = rw (names, unrenewed, and-false (is_taken answer)) middle_stamp in
     rw (now, stamps, goals) (settled_made (report_now g past e) (stamp g past e) (vals_in g (target g past) e) idle fences values)
 
 full_fence : (f s : ℕ) → f ≤ s → max f s ≡ s
@@ -73,7 +70,7 @@ turn_settles g past e n k a b c made answer legal unspoiled sent reported =
     let one = entry_of (Send e) a ∷ past in
     let two = entry_of (Deliver n) b ∷ one in
     let three = entry_of (Finish e) c ∷ two in
-    let idle : busy g three e ≡ false = rw (same_self e) (and_false (busy g two e)) in
+    let idle : busy g three e ≡ false = rw (same_self e) (and-false (busy g two e)) in
     let low = fence_small g past e in
     let begun : fence g three e ≡ stamp g past e = rw (sent, same_self e) (full_fence (fence g past e) (stamp g past e) low) in
     let stamps : stamp g three ≡ stamp g past = quiet_stamp g two (Finish e) c refl refl ∙ quiet_stamp g one (Deliver n) b refl refl ∙ quiet_stamp g past (Send e) a refl refl in

@@ -1,5 +1,6 @@
--- Which events and replies hold no list, and which events are checks.
-use Rattle.std.specs.Prelude.{Bool, true, false}
+-- Which events and replies hold no list, and which events are checks, or requests of an application.
+use Rattle.std.specs.Prelude.{◌==◌, Bool, true, false}
+use Rattle.st_net.specs.declared.entity.AppId.{AppId}
 use Rattle.st_event.specs.declared.event.Event.{Event}
 use Rattle.st_event.specs.declared.event.Event.TheVariants.{Submit, Check, Lock, Unlock, Send, Deliver, Finish, Report, Hear, Fail}
 use Rattle.st_event.specs.declared.reply.Reply.{Reply}
@@ -42,13 +43,12 @@ is_without_side Changed = true
 
 -- whether an event decides a proposal that waits
 abbrev pub is_check : Event → Bool
-is_check (Submit app rows) = false
 is_check Check = true
-is_check (Lock app entity prio) = false
-is_check (Unlock app entity prio) = false
-is_check (Send entity) = false
-is_check (Deliver n) = false
-is_check (Finish entity) = false
-is_check (Report entity) = false
-is_check (Hear n) = false
-is_check (Fail entity vals health) = false
+is_check _ = false
+
+-- whether an event is a request that names an application
+abbrev pub is_request_of : AppId → Event → Bool
+is_request_of app (Submit by rows) = by.0 == app.0
+is_request_of app (Lock by entity prio) = by.0 == app.0
+is_request_of app (Unlock by entity prio) = by.0 == app.0
+is_request_of app _ = false

@@ -4,7 +4,7 @@ use Rattle.st_net.specs.declared.entity.AppId.{AppId}
 use Rattle.st_net.specs.declared.entity.Entity.{Entity}
 use Rattle.st_net.specs.declared.entity.Prio.{Prio}
 use Rattle.st_event.specs.declared.event.Event.{Event}
-use Rattle.st_event.specs.declared.event.Event.TheVariants.{Submit, Check, Lock, Unlock, Send, Deliver, Finish, Report, Hear, Fail}
+use Rattle.st_event.specs.declared.event.Event.TheVariants.{Lock, Unlock}
 use Rattle.st_event.specs.declared.reply.Reply.{Reply}
 use Rattle.st_event.specs.declared.journal.Entry.{Entry}
 use Rattle.st_net.specs.Entities.{is_same_entity}
@@ -14,41 +14,17 @@ use Rattle.st_event.specs.Locks.{is_granted, is_released}
 -- whether an event with this reply grants the lock, to whomever
 abbrev pub grants : Entity → Prio → Event → Reply → Bool
 grants e q (Lock app at prio) reply = is_granted reply && (is_same_entity at e && is_same_prio prio q)
-grants e q (Submit app rows) reply = false
-grants e q Check reply = false
-grants e q (Unlock app at prio) reply = false
-grants e q (Send at) reply = false
-grants e q (Deliver n) reply = false
-grants e q (Finish at) reply = false
-grants e q (Report at) reply = false
-grants e q (Hear n) reply = false
-grants e q (Fail at vals health) reply = false
+grants e q _ reply = false
 
 -- whether it is asked by this application
 abbrev pub is_asked_by : AppId → Event → Bool
 is_asked_by app (Lock by at prio) = by.0 == app.0
-is_asked_by app (Submit by rows) = false
-is_asked_by app Check = false
-is_asked_by app (Unlock by at prio) = false
-is_asked_by app (Send at) = false
-is_asked_by app (Deliver n) = false
-is_asked_by app (Finish at) = false
-is_asked_by app (Report at) = false
-is_asked_by app (Hear n) = false
-is_asked_by app (Fail at vals health) = false
+is_asked_by app _ = false
 
 -- whether an event with this reply is the application's release of the lock
 abbrev pub releases : AppId → Entity → Prio → Event → Reply → Bool
 releases app e q (Unlock by at prio) reply = is_released reply && (by.0 == app.0 && (is_same_entity at e && is_same_prio prio q))
-releases app e q (Submit by rows) reply = false
-releases app e q Check reply = false
-releases app e q (Lock by at prio) reply = false
-releases app e q (Send at) reply = false
-releases app e q (Deliver n) reply = false
-releases app e q (Finish at) reply = false
-releases app e q (Report at) reply = false
-releases app e q (Hear n) reply = false
-releases app e q (Fail at vals health) reply = false
+releases app e q _ reply = false
 
 -- the entry grants the lock to the application
 pub record Grants (entry : Entry) (e : Entity) (q : Prio) (app : AppId) : Type 0 where

@@ -76,6 +76,10 @@ abbrev pub refusal_or_version : Option Cause → ℕ → Verdict
 refusal_or_version (Some cause) version = Refused cause
 refusal_or_version None version = Accepted (version + 1)
 
--- the verdict on an application's rows: the first refusal, or else Accepted with the next version
+-- why an application's rows are refused: the first lack, or else the first lock, or else the first demand that breaks
+abbrev pub refusal : Group → (Entity → Report) → (Entity → Var → ℕ) → (Entity → Prio → Option AppId) → (Entity → Bool) → (Entity → Bool) → AppId → List Row → Option Cause
+refusal g observed target holder sure after app rows = cause_or (first_lack g observed (target_with target rows) rows) (cause_or (first_locked holder app rows) (option_map broken_cause (first_broken_of g sure after)))
+
+-- the verdict on an application's rows: their refusal, or else Accepted with the next version
 abbrev pub judge : Group → (Entity → Report) → (Entity → Var → ℕ) → (Entity → Prio → Option AppId) → (Entity → Bool) → (Entity → Bool) → ℕ → AppId → List Row → Verdict
-judge g observed target holder sure after version app rows = refusal_or_version (cause_or (first_lack g observed (target_with target rows) rows) (cause_or (first_locked holder app rows) (option_map broken_cause (first_broken_of g sure after)))) version
+judge g observed target holder sure after version app rows = refusal_or_version (refusal g observed target holder sure after app rows) version

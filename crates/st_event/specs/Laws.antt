@@ -1,9 +1,10 @@
 -- Laws of legal journals, and of one entry more.
-use Rattle.std.specs.Prelude.{◌≡◌, ◌≢◌, ℕ, ◌+◌, ◌<◌, ◌≤◌, true, false, Bool, None, Some, List, [], ◌∷◌, ◌++◌, length, ◌⊎◌, ◌↔◌}
+use Rattle.std.specs.Prelude.{◌≡◌, ◌≢◌, ℕ, ◌+◌, ◌<◌, ◌≤◌, true, false, Bool, None, Some, List, [], ◌∷◌, ◌++◌, length, ◌⊎◌, ◌↔◌, All}
 use mathlib.Core.List.{IsPrefix}
 use Rattle.st_net.specs.declared.entity.AppId.{AppId}
 use Rattle.st_net.specs.declared.entity.Entity.{Entity}
 use Rattle.st_net.specs.declared.entity.Prio.{Prio}
+use Rattle.st_net.specs.declared.entity.Vals.{Vals}
 use Rattle.st_net.specs.declared.entity.Var.{Var}
 use Rattle.st_net.specs.declared.message.Command.{Command}
 use Rattle.st_net.specs.declared.message.Report.{Report}
@@ -16,9 +17,10 @@ use Rattle.st_event.specs.declared.journal.TheConstants.{MAX_PENDING}
 use Rattle.st_net.specs.Entities.{value_of}
 use Rattle.st_net.specs.declared.topo.LinkOpening.{LinkOpening}
 use Rattle.st_net.specs.declared.promise.Promise.{Promise}
-use Rattle.st_net.specs.Groups.{Group, IsSound, AreLinks, opening_of}
-use Rattle.st_net.specs.Merge.{merge_of}
+use Rattle.st_net.specs.Groups.{Group, IsSound, IsEntityOf, AreLinks, opening_of}
+use Rattle.st_net.specs.Merge.{merge_of, vals_in}
 use Rattle.st_net.specs.Numbered.{nth}
+use Rattle.st_net.specs.Ranges.{RowFits, are_in_range}
 use Rattle.st_net.specs.Sets.{IsWithin}
 use Rattle.st_net.specs.UpGraph.{IsWalk}
 use Rattle.st_net.specs.Cuts.{IsCut, cut_value, least_cut, is_in_least_side}
@@ -26,7 +28,7 @@ use Rattle.st_net.specs.Promises.{Keeps}
 use Rattle.st_net.specs.Demands.{demand_count, HoldsIn, is_held_in}
 use Rattle.st_event.specs.Proposals.{accepted, deciders, pending, proposals, first_rows, is_acceptance, overlay_in, overlays, version, target}
 use Rattle.st_event.specs.Overlaid.{overlaid_by}
-use Rattle.st_event.specs.Moments.{stamp, fence, commands, reports}
+use Rattle.st_event.specs.Moments.{stamp, fence, work, vals, commands, reports}
 use Rattle.st_net.specs.Reports.{opening_report}
 use Rattle.st_event.specs.Observed.{observed, sure}
 use Rattle.st_event.specs.Replies.{reply}
@@ -104,6 +106,24 @@ VersionsAreFew = (past : List Entry) → version past ≤ length past
 -- in any journal no more proposals were accepted than decided
 abbrev pub AcceptedAreDecided : Type 0
 AcceptedAreDecided = (past : List Entry) → length (accepted past) ≤ length (deciders past)
+
+-- these values are of an entity of the group, and in its ranges
+pub record IsInRange (g : Group) (e : Entity) (vals : Vals) : Type 0 where
+  pub entity : IsEntityOf g e
+  pub range : are_in_range e vals ≡ true
+
+-- what was overlaid fits the group; so what each entity is to become, what is sent to it, what its agent has in work and has, and what it
+-- reported is in range
+pub record AllInRange (g : Group) (past : List Entry) : Type 0 where
+  pub overlaid : All (All (RowFits g)) (overlays past)
+  pub targets : (e : Entity) → IsEntityOf g e → are_in_range e (vals_in g (target g past) e) ≡ true
+  pub sent : (n : ℕ) (c : Command) → nth (commands g past) n ≡ Some c → IsInRange g c.entity c.vals
+  pub working : (e : Entity) → IsEntityOf g e → are_in_range e (work g past e) ≡ true
+  pub values : (e : Entity) → IsEntityOf g e → are_in_range e (vals g past e) ≡ true
+  pub made : (n : ℕ) (r : Report) → nth (reports g past) n ≡ Some r → IsInRange g r.entity r.vals
+
+abbrev pub AllAreInRange : Type 0
+AllAreInRange = (g : Group) (past : List Entry) → IsSound g → IsLegal g past → AllInRange g past
 
 -- no more proposals wait than may
 abbrev pub FewWait : Type 0

@@ -29,39 +29,15 @@ is_taken _ = false
 -- whether the event is a finish, a report or a failure of this entity
 abbrev pub is_finish_of : Entity → Event → Bool
 is_finish_of e (Finish at) = is_same_entity at e
-is_finish_of e (Submit app rows) = false
-is_finish_of e Check = false
-is_finish_of e (Lock app at prio) = false
-is_finish_of e (Unlock app at prio) = false
-is_finish_of e (Send at) = false
-is_finish_of e (Deliver n) = false
-is_finish_of e (make_report at) = false
-is_finish_of e (Hear n) = false
-is_finish_of e (Fail at vals health) = false
+is_finish_of e _ = false
 
 abbrev pub is_report_of : Entity → Event → Bool
 is_report_of e (make_report at) = is_same_entity at e
-is_report_of e (Submit app rows) = false
-is_report_of e Check = false
-is_report_of e (Lock app at prio) = false
-is_report_of e (Unlock app at prio) = false
-is_report_of e (Send at) = false
-is_report_of e (Deliver n) = false
-is_report_of e (Finish at) = false
-is_report_of e (Hear n) = false
-is_report_of e (Fail at vals health) = false
+is_report_of e _ = false
 
 abbrev pub is_fail_of : Entity → Event → Bool
 is_fail_of e (Fail at vals health) = is_same_entity at e
-is_fail_of e (Submit app rows) = false
-is_fail_of e Check = false
-is_fail_of e (Lock app at prio) = false
-is_fail_of e (Unlock app at prio) = false
-is_fail_of e (Send at) = false
-is_fail_of e (Deliver n) = false
-is_fail_of e (Finish at) = false
-is_fail_of e (make_report at) = false
-is_fail_of e (Hear n) = false
+is_fail_of e _ = false
 
 -- a command, where it is one of this entity
 abbrev pub command_of : Entity → Option Command → Option Command
@@ -71,28 +47,12 @@ command_of e (Some c) = if is_same_entity c.entity e then Some c else None
 -- the command of this entity that an event delivers
 abbrev pub told : Entity → Event → (ℕ → Option Command) → Option Command
 told e (Deliver n) commands = command_of e (commands n)
-told e (Submit app rows) commands = None
-told e Check commands = None
-told e (Lock app at prio) commands = None
-told e (Unlock app at prio) commands = None
-told e (Send at) commands = None
-told e (Finish at) commands = None
-told e (make_report at) commands = None
-told e (Hear n) commands = None
-told e (Fail at vals health) commands = None
+told e _ commands = None
 
 -- the report that an event hears
 abbrev pub heard : Event → (ℕ → Option Report) → Option Report
 heard (Hear n) reports = reports n
-heard (Submit app rows) reports = None
-heard Check reports = None
-heard (Lock app at prio) reports = None
-heard (Unlock app at prio) reports = None
-heard (Send at) reports = None
-heard (Deliver n) reports = None
-heard (Finish at) reports = None
-heard (make_report at) reports = None
-heard (Fail at vals health) reports = None
+heard _ reports = None
 
 -- whether a report, once it is taken, renews an entity with this stamp and this target: it shows that the command of that stamp was
 -- carried out, and other values than the target's

@@ -3,7 +3,7 @@ use Rattle.std.specs.Prelude.{◌≡◌, ℕ, ◌<◌, Bool, true, false, List, 
 use Rattle.st_net.specs.declared.entity.Entity.{Entity}
 use Rattle.st_net.specs.declared.message.Report.{Report}
 use Rattle.st_event.specs.declared.event.Event.{Event}
-use Rattle.st_event.specs.declared.event.Event.TheVariants.{Submit, Check, Lock, Unlock, Send, Deliver, Finish, Report as make_report, Hear, Fail}
+use Rattle.st_event.specs.declared.event.Event.TheVariants.{Fail}
 use Rattle.st_event.specs.declared.reply.Reply.TheVariants.{Taken}
 use Rattle.st_event.specs.declared.journal.Entry.{Entry}
 use Rattle.st_net.specs.Groups.{Group}
@@ -15,15 +15,7 @@ use Rattle.st_event.specs.Observed.{observed, sure, actual, untold, failed_betwe
 
 abbrev pub is_fail : Event → Bool
 is_fail (Fail e vals health) = true
-is_fail (Submit app rows) = false
-is_fail Check = false
-is_fail (Lock app e prio) = false
-is_fail (Unlock app e prio) = false
-is_fail (Send e) = false
-is_fail (Deliver n) = false
-is_fail (Finish e) = false
-is_fail (make_report e) = false
-is_fail (Hear n) = false
+is_fail _ = false
 
 -- no entity has failed
 abbrev pub HasNoFail : List Entry → Type 0

@@ -123,15 +123,11 @@ is_accepting reply = accepts (receipt_given reply)
 -- whether the entry accepts a proposal
 abbrev pub is_acceptance : Event → Reply → Bool
 is_acceptance Check reply = is_accepting reply
-is_acceptance (Submit app rows) reply = false
-is_acceptance (Lock app entity prio) reply = false
-is_acceptance (Unlock app entity prio) reply = false
-is_acceptance (Send entity) reply = false
-is_acceptance (Deliver number) reply = false
-is_acceptance (Finish entity) reply = false
-is_acceptance (Report entity) reply = false
-is_acceptance (Hear number) reply = false
-is_acceptance (Fail entity vals health) reply = false
+is_acceptance _ reply = false
+
+-- whether the entry overlays the target, and so makes its next version
+abbrev pub makes_version : Event → Reply → Bool
+makes_version event reply = is_acceptance event reply
 
 -- what an entry overlays the target with, by the rows of the oldest proposal that waits
 abbrev pub overlay_in : Event → Reply → List Row → Option (List Row)

@@ -1,5 +1,5 @@
 -- A service of several groups, and the journals that its events make.
-use Rattle.std.specs.Prelude.{ℕ, ◌==◌, nat_lt, List, [], ◌∷◌, length, if◌then◌else◌}
+use Rattle.std.specs.Prelude.{◌≡◌, ℕ, ◌==◌, ◌<◌, nat_lt, List, [], ◌∷◌, length, slice_get, Some, if◌then◌else◌}
 use Rattle.st_event.specs.declared.event.Event.{Event}
 use Rattle.st_event.specs.declared.journal.Entry.{Entry}
 use Rattle.st_event.specs.declared.journal.TheConstants.{MAX_ENTRIES}
@@ -37,3 +37,7 @@ journals_by groups (at ∷ later) journals = journals_by groups later (journals_
 abbrev pub events_of : ℕ → List GroupEvent → List Event
 events_of k [] = []
 events_of k (at ∷ later) = if at.group == k then at.event ∷ events_of k later else events_of k later
+
+-- these are the numbers from 0 on of so many
+abbrev pub AreNumbers : List ℕ → ℕ → Type 0
+AreNumbers ns count = (length ns ≡ count) × ((k : ℕ) → k < count → slice_get ns k ≡ Some k)

@@ -97,7 +97,7 @@ reply_in g s w n (make_report e) = Reported (length w.reports + 1)
 reply_in g s w n (Hear k) = hear_reply s.observed (length w.reports) (nth w.reports k)
 reply_in g s w n (Fail e vals health) = Changed
 
--- the stamps after rows are accepted as entry n, and after a report is taken as entry n
+-- the stamps after rows are overlaid as entry n, and after a report is taken as entry n
 abbrev pub stamp_altered : Group → (Entity → Var → ℕ) → List Row → ℕ → (Entity → ℕ) → Entity → ℕ
 stamp_altered g target rows n stamp = λ e. if alters g target rows e then n else stamp e
 
@@ -107,16 +107,19 @@ stamp_renewed g target heard n stamp = λ e. if renews heard e (stamp e) (vals_i
 abbrev pub queue_one : Standing → Proposal → Standing
 queue_one s p = record s { tickets = s.tickets + 1; pending = s.pending ++ p ∷ [] }
 
+-- a proposal leaves the queue, as entry n, and these wait behind it
+abbrev pub dequeue_one : Standing → ℕ → List Proposal → Standing
+dequeue_one s n behind = record s { decided = s.decided ++ n ∷ []; pending = behind }
+
+-- rows are laid over the target as the next version, as entry n, and stamp what they alter
+abbrev pub overlay_one : Group → Standing → ℕ → Option (List Row) → Standing
+overlay_one g s n None = s
+overlay_one g s n (Some rows) = record s { version = s.version + 1; target = target_with s.target rows; stamp = stamp_altered g s.target rows n s.stamp }
+
 -- the oldest proposal leaves the queue, and is merged where it is accepted
 abbrev pub decide_one : Group → Standing → ℕ → List Proposal → Verdict → Standing
 decide_one g s n [] verdict = s
-decide_one g s n (p ∷ ps) verdict = record s {
-  decided = s.decided ++ n ∷ [];
-  pending = ps;
-  version = if is_accepted verdict then s.version + 1 else s.version;
-  target = if is_accepted verdict then target_with s.target p.rows else s.target;
-  stamp = if is_accepted verdict then stamp_altered g s.target p.rows n s.stamp else s.stamp;
-}
+decide_one g s n (p ∷ ps) verdict = overlay_one g (dequeue_one s n ps) n (if is_accepted verdict then Some p.rows else None)
 
 -- where a receipt is given, the oldest proposal is decided by its verdict
 abbrev pub decide_by : Group → Standing → ℕ → Option Receipt → Standing

@@ -1,7 +1,7 @@
 //! Laws of the definitions over journals. Each function does nothing: its contract is the law, for the proofs of the
 //! crates that keep a journal or claim something of one.
 
-ghost use Rattle.st_event.specs.Laws.{AcceptedAreDecided, AcceptedGoesOn, AcceptedMoves, AgentsMove, ChecksTakeNoPromise, FenceIsGreatest, FencesNeverFall, FewWait, HolderIsLastGrant, JournalsAreApart, LeastSideIsCut, LeastSideIsOne, LegalAgentsAgree, LegalJournalsKeepPromises, MoreEntitiesKeepDemands, MoreEntitiesKeepPromises, NoSuchCommand, NoSuchReport, NoWalkIsNoCut, ObservedIsGreatest, OverlaysAreAccepted, OverlaysGoOn, OverlaysMove, ReportsAscend, StampsAreEntries, StampsNeverFall, StandingMoves, StandingReplies, TargetOpens, TestsTellDemands, TicketsArePending, VersionsAreFew, WiresMove};
+ghost use Rattle.st_event.specs.Laws.{AcceptedAreDecided, AcceptedGoesOn, AcceptedMoves, AgentsMove, AllAreInRange, ChecksTakeNoPromise, FenceIsGreatest, FencesNeverFall, FewWait, HolderIsLastGrant, JournalsAreApart, LeastSideIsCut, LeastSideIsOne, LegalAgentsAgree, LegalJournalsKeepPromises, MoreEntitiesKeepDemands, MoreEntitiesKeepPromises, NoSuchCommand, NoSuchReport, NoWalkIsNoCut, ObservedIsGreatest, OverlaysAreAccepted, OverlaysGoOn, OverlaysMove, ReportsAscend, StampsAreEntries, StampsNeverFall, StandingMoves, StandingReplies, TargetOpens, TestsTellDemands, TicketsArePending, VersionsAreFew, WiresMove};
 
 /// Each legal journal of a sound group keeps the group's promises at every moment: a sure entity is up or failed
 /// untold; while nothing fails of itself, a promise that held at the start holds in the sure set, in the network, and
@@ -46,6 +46,12 @@ pub fn accepted_begun()
 pub fn versions_are_few()
     ensures entries { VersionsAreFew }
     ensures accepted { AcceptedAreDecided }
+{}
+
+/// In a legal journal of a sound group what entries overlay fits the group, and all values are in range: of targets, of commands, of
+/// agents and what they have in work, and of reports.
+pub fn all_in_range()
+    ensures { AllAreInRange }
 {}
 
 /// In a legal journal at most 64 proposals wait.

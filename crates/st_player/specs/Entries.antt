@@ -95,15 +95,7 @@ asked_by past (Some receipt) = nth (askers past) receipt.ticket
 
 abbrev pub asked_of : List Entry → Event → Reply → Option ℕ
 asked_of past Check reply = asked_by past (receipt_given reply)
-asked_of past (Submit app rows) reply = None
-asked_of past (Lock app e prio) reply = None
-asked_of past (Unlock app e prio) reply = None
-asked_of past (Send e) reply = None
-asked_of past (Deliver n) reply = None
-asked_of past (Finish e) reply = None
-asked_of past (Report e) reply = None
-asked_of past (Hear n) reply = None
-asked_of past (Fail e vals health) reply = None
+asked_of past _ reply = None
 
 -- of two lists, the numbers from n on of the promises that hold in the first and not in the second
 abbrev pub lost_from : ℕ → List Bool → List Bool → List ℕ

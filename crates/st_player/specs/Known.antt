@@ -33,15 +33,7 @@ makers (entry ∷ past) = makers_after entry.event (length past + 1) (makers pas
 -- the entry by which the report that an event hears was made; 0 where it hears none
 abbrev pub maker_heard : Event → (ℕ → Option ℕ) → ℕ
 maker_heard (Hear number) maker = unwrap_or (maker number) 0
-maker_heard (Submit app rows) maker = 0
-maker_heard Check maker = 0
-maker_heard (Lock app e prio) maker = 0
-maker_heard (Unlock app e prio) maker = 0
-maker_heard (Send e) maker = 0
-maker_heard (Deliver number) maker = 0
-maker_heard (Finish e) maker = 0
-maker_heard (make_report e) maker = 0
-maker_heard (Fail e vals health) maker = 0
+maker_heard _ maker = 0
 
 -- the maker of a report that is heard, where it is later than the one of this number that is kept; else the maker before
 abbrev pub since_after : Entity → Option Report → ℕ → ℕ → ℕ → ℕ

@@ -10,7 +10,7 @@ use Rattle.st_net.specs.InOrder.{place_in}
 use Rattle.st_token.specs.Words.{prio_word}
 use Rattle.st_entry.specs.Keywords.{kind_word}
 use Rattle.st_event.specs.declared.event.Event.{Event}
-use Rattle.st_event.specs.declared.event.Event.TheVariants.{Submit, Check, Lock, Unlock, Send, Deliver, Finish, Report, Hear, Fail}
+use Rattle.st_event.specs.declared.event.Event.TheVariants.{Check}
 use Rattle.st_event.specs.declared.journal.Entry.{Entry}
 use Rattle.st_event.specs.declared.reply.Cause.{Cause}
 use Rattle.st_event.specs.declared.reply.Cause.TheVariants.{NotControllable, Locked, Broken as broken_cause}
@@ -85,15 +85,7 @@ cause_in reply = cause_given (receipt_given reply)
 
 abbrev pub refusal_of : Event → Reply → Option Cause
 refusal_of Check reply = cause_in reply
-refusal_of (Submit app rows) reply = None
-refusal_of (Lock app e prio) reply = None
-refusal_of (Unlock app e prio) reply = None
-refusal_of (Send e) reply = None
-refusal_of (Deliver n) reply = None
-refusal_of (Finish e) reply = None
-refusal_of (Report e) reply = None
-refusal_of (Hear n) reply = None
-refusal_of (Fail e vals health) reply = None
+refusal_of _ reply = None
 
 -- of a check that refuses, why
 abbrev pub refused_of : Group → List Entry → Event → Reply → Option Data

@@ -86,8 +86,9 @@ fn keep_oldest(world: &World, origins: &mut [Origin])
     let control = world.control();
     let store = control.store();
     if let Some(oldest) = store.oldest() {
+        let version = store.version() + 1;
         let setter = Setter {
-            version: store.version() + 1,
+            version,
             app: oldest.app.0,
         };
         keep_rows(control.topo(), origins, oldest.rows.as_slice(), setter);

@@ -6,7 +6,7 @@ use Rattle.st_net.specs.declared.entity.Entity.TheVariants.{Device}
 use Rattle.st_net.specs.declared.promise.Promise.{Promise}
 use Rattle.st_net.specs.Groups.{Group, name_of}
 use Rattle.st_event.specs.declared.event.Event.{Event}
-use Rattle.st_event.specs.declared.event.Event.TheVariants.{Submit, Check, Lock, Unlock, Send, Deliver, Finish, Report as make_report, Hear, Fail}
+use Rattle.st_event.specs.declared.event.Event.TheVariants.{Submit, Check}
 use Rattle.st_event.specs.declared.journal.Entry.{Entry}
 use Rattle.st_event.specs.declared.reply.Reply.{Reply}
 use Rattle.st_event.specs.Receipts.{ticket_given, receipt_given}
@@ -56,15 +56,7 @@ summary_of g apps past = record {
 -- the application whose proposal an entry queues
 abbrev pub proposer_in : Event → Reply → Option AppId
 proposer_in (Submit app rows) reply = option_map (λ ticket. app) (ticket_given reply)
-proposer_in Check reply = None
-proposer_in (Lock app entity prio) reply = None
-proposer_in (Unlock app entity prio) reply = None
-proposer_in (Send entity) reply = None
-proposer_in (Deliver n) reply = None
-proposer_in (Finish entity) reply = None
-proposer_in (make_report entity) reply = None
-proposer_in (Hear n) reply = None
-proposer_in (Fail entity vals health) reply = None
+proposer_in _ reply = None
 
 abbrev pub proposer_of : Entry → Option AppId
 proposer_of entry = proposer_in entry.event entry.reply
@@ -72,15 +64,7 @@ proposer_of entry = proposer_in entry.event entry.reply
 -- the verdict that an entry gives
 abbrev pub verdict_in : Event → Reply → Option Verdict
 verdict_in Check reply = option_map (λ receipt. receipt.verdict) (receipt_given reply)
-verdict_in (Submit app rows) reply = None
-verdict_in (Lock app entity prio) reply = None
-verdict_in (Unlock app entity prio) reply = None
-verdict_in (Send entity) reply = None
-verdict_in (Deliver n) reply = None
-verdict_in (Finish entity) reply = None
-verdict_in (make_report entity) reply = None
-verdict_in (Hear n) reply = None
-verdict_in (Fail entity vals health) reply = None
+verdict_in _ reply = None
 
 abbrev pub verdict_of : Entry → Option Verdict
 verdict_of entry = verdict_in entry.event entry.reply

@@ -6,7 +6,7 @@ use Rattle.std.proofs.lemmas.List.Elements.{All-push}
 use Rattle.st_net.specs.declared.entity.Vals.{Vals}
 use Rattle.st_store.specs.declared.change.Change.{Change}
 use Rattle.st_store.specs.Changes.{vals_upto, is_last_at, with_change, IsAscending, IsUpTo, IsOrderly}
-use Rattle.st_net.proofs.Tests.{at_most, more}
+use Rattle.st_net.proofs.Tests.{at_most}
 
 -- one change more at the end counts where it is of that version or an earlier one
 pub vals_upto-append : (v : ℕ) (cs : List Change) (c : Change) (before : Vals) → vals_upto v (cs ++ c ∷ []) before ≡ (if nat_le c.version v then c.vals else vals_upto v cs before)

@@ -76,19 +76,9 @@ merged_of g start s accepted is comes = HasMerged-comes g [] accepted start s (H
 
 -- there are no more versions than entries
 
-pub starts_at_none : (g : Group) (start : StoreView) → IsStart g start → start.version ≤ length start.decided
-starts_at_none g start is = let none = is.version in omega (arith, none)
-
 one_more : (accept : Bool) (n most : ℕ) → n ≤ most → (if accept then n + 1 else n) ≤ most + 1
 one_more true n most few = omega (arith, few)
 one_more false n most few = omega (arith, few)
 
 pub makes_one : (old new : StoreView) (entry : ℕ) (accept : Bool) → Decides old new entry accept → MakesOne old new
-makes_one old new entry accept step = record {
-  entries = λ n few. let most = one_more accept old.version n few in let version = step.version in omega (arith, most, version);
-  decided = λ few.
-      let most = one_more accept old.version (length old.decided) few in
-      let version = step.version in
-      let count : length new.decided ≡ length old.decided + 1 = ap length step.decided ∙ length-append old.decided (entry ∷ []) in
-      omega (arith, most, version, count);
-}
+makes_one old new entry accept step = record { entries = λ n few. let most = one_more accept old.version n few in let version = step.version in omega (arith, most, version) }

@@ -1,6 +1,6 @@
 -- The oldest proposal leaves the queue.
-use Rattle.std.proofs.Common.{◌≡◌, ℕ, suc, ◌+◌, ◌<◌, ◌≤◌, List, [], ◌∷◌, ◌++◌, length, map, get_or, drop, refl, sym, ap, ◌∙◌, subst, arith, length-append}
-use Rattle.std.specs.Prelude.{Bool, true, false, ◌==◌, ◌||◌, All, if◌then◌else◌}
+use Rattle.std.proofs.Common.{◌≡◌, ℕ, suc, ◌+◌, ◌<◌, List, [], ◌∷◌, ◌++◌, length, map, get_or, drop, refl, sym, ap, ◌∙◌, subst, arith, length-append}
+use Rattle.std.specs.Prelude.{Bool, ◌==◌, ◌||◌, All}
 use Rattle.std.specs.List.{list_any}
 use Rattle.st_net.specs.declared.entity.AppId.{AppId}
 use Rattle.st_net.specs.declared.entity.Entity.{Entity}
@@ -42,13 +42,9 @@ length_rest : (queue : List Pending) → 0 < length (map proposal_of queue) → 
 length_rest [] some = absurd (omega arith)
 length_rest (p ∷ queue) some = omega arith
 
-at_most_one_more : (accept : Bool) (n : ℕ) → (if accept then n + 1 else n) ≤ n + 1
-at_most_one_more true n = omega arith
-at_most_one_more false n = omega arith
-
 -- what a store keeps goes on to hold
-pub IsConsistent-decided : (queue rest : List Pending) (s : StoreView) (decided : List ℕ) (entry : ℕ) (accept : Bool) (old new : VersionsView) (rows : List Row) → IsConsistent queue s → s.pending ≡ map proposal_of queue → 0 < length (map proposal_of queue) → rest ≡ drop 1 queue → decided ≡ s.decided ++ entry ∷ [] → s.version ≡ old.version → s.target ≡ old.target → MergesIf accept old new rows → IsConsistent rest (record s { pending = map proposal_of rest; decided = decided; version = new.version; target = new.target; versions = new.changes })
-IsConsistent-decided queue rest s decided entry accept old new rows is pending some left entered version target merges =
+pub IsConsistent-decided : (queue rest : List Pending) (s : StoreView) (decided : List ℕ) (entry : ℕ) (accept : Bool) (old new : VersionsView) (rows : List Row) → IsConsistent queue s → s.pending ≡ map proposal_of queue → 0 < length (map proposal_of queue) → rest ≡ drop 1 queue → decided ≡ s.decided ++ entry ∷ [] → s.target ≡ old.target → MergesIf accept old new rows → IsConsistent rest (record s { pending = map proposal_of rest; decided = decided; version = new.version; target = new.target; versions = new.changes })
+IsConsistent-decided queue rest s decided entry accept old new rows is pending some left entered target merges =
     let count : length decided ≡ length s.decided + 1 = ap length entered ∙ length-append s.decided (entry ∷ []) in
     let devices : length new.target.devices ≡ length s.target.devices = merges.devices ∙ sym (ap (λ (t : Values). length t.devices) target) in
     let links : length new.target.links ≡ length s.target.links = merges.links ∙ sym (ap (λ (t : Values). length t.links) target) in
@@ -60,7 +56,6 @@ IsConsistent-decided queue rest s decided entry accept old new rows is pending s
         counted = let counted = is.counts.counted in omega (arith, counted, count, fewer);
         fits = is.counts.fits;
       };
-      accepted = let accepted = is.accepted in let more = at_most_one_more accept old.version in let now = merges.version in omega (arith, accepted, more, now, version, count);
       few = let few = is.few in omega (arith, few, fewer);
       reports = is.reports ∙ (let e : length s.target.devices + length s.target.links ≡ length new.target.devices + length new.target.links = omega (arith, devices, links) in e);
     }

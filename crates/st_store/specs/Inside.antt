@@ -26,11 +26,10 @@ AreNumbered before queue = (k : ℕ) (d : Pending) → k < length queue → (sli
 abbrev pub FitsTable : Values → Proposal → Type 0
 FitsTable t p = All (IsRowIn t) p.rows
 
--- rows that the target has, a report for each entity, and numbers that count what they say: decisions alone make versions
+-- rows that the target has, a report for each entity, and numbers that count what they say
 pub record IsConsistent (queue : List Pending) (s : StoreView) : Type 0 where
   pub numbered : AreNumbered (length s.decided) queue
   pub fits : All (FitsTable s.target) s.pending
   pub counts : IsCounted s
-  pub accepted : s.version ≤ length s.decided
   pub few : length s.pending ≤ MAX_PENDING
   pub reports : length s.observed ≡ length s.target.devices + length s.target.links

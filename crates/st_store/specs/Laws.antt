@@ -34,13 +34,9 @@ ComesBy old (rows ∷ later) new = (before : StoreView) × (after : StoreView) �
 abbrev pub VersionsAreMerges : Type 0
 VersionsAreMerges = (g : Group) (start s : StoreView) (accepted : List (List Row)) → IsStart g start → ComesBy start accepted s → HasMerged g accepted s
 
-abbrev pub StartsAtNone : Type 0
-StartsAtNone = (g : Group) (start : StoreView) → IsStart g start → start.version ≤ length start.decided
-
--- where there were no more versions than so many entries, there are no more after one that decides; and so of decided tickets
+-- where there were no more versions than so many entries, there are no more after one that decides
 pub record MakesOne (old new : StoreView) : Type 0 where
   pub entries : (n : ℕ) → old.version ≤ n → new.version ≤ n + 1
-  pub decided : old.version ≤ length old.decided → new.version ≤ length new.decided
 
 abbrev pub DecisionsMakeOne : Type 0
 DecisionsMakeOne = (old new : StoreView) (entry : ℕ) (accept : Bool) → Decides old new entry accept → MakesOne old new

@@ -1,6 +1,6 @@
 //! What follows for a store from the contracts of its calls, whatever calls there are. The crates above cite it.
 
-ghost use Rattle.st_store.specs.Laws.{DecisionsMakeOne, StartsAtNone, VersionsAreMerges};
+ghost use Rattle.st_store.specs.Laws.{DecisionsMakeOne, VersionsAreMerges};
 
 /// After any list of accepted proposals, whatever calls stand between, the value of a variable at version v is that of the merge
 /// of the first v of them, and in the target that of the merge of all.
@@ -8,9 +8,7 @@ pub fn versions_are_merges()
     ensures { VersionsAreMerges }
 {}
 
-/// At a start there are no more versions than decided tickets. A decision makes at most one version and decides a ticket: so there are no
-/// more behind it, and where there were no more versions than so many entries, there are no more than with one entry more.
+/// A decision makes at most one version: so where there were no more versions than so many entries, there are no more with one entry more.
 pub fn versions_are_few()
-    ensures start { StartsAtNone }
-    ensures decision { DecisionsMakeOne }
+    ensures { DecisionsMakeOne }
 {}

@@ -115,7 +115,8 @@ impl Store {
     /// Decides the oldest proposal, as entry number `entry`, and gives the version after it: an accepted proposal is merged as
     /// the next one. At `Err` nothing has changed.
     pub fn decide(&mut self, entry: u32, accept: bool) -> Result<u32, AllocError>
-        requires { 0 < length self.old.pending }
+        requires waits { 0 < length self.old.pending }
+        requires version { self.old.version + 1 < 2 ^ 32 }
         ensures version { IfOk result (λ version. version ≡ self.new.version) }
         ensures ok { IfOk result (λ version. Decides self.old self.new entry accept) }
         ensures err { OnErr result (self.new ≡ self.old) }
@@ -183,12 +184,10 @@ impl Store {
         self.observed.as_slice()
     }
 
-    /// The last version of the target, which is how many overlays it has. There are no more of them than decided tickets, since only a
-    /// decision overlays it.
+    /// The last version of the target, which is how many overlays it has.
     pub fn version(&self) -> u32
         ensures version { result ≡ self.now.version }
         ensures counted { IsCounted self.now }
-        ensures few { result ≤ length self.now.decided }
     {
         self.versions.version()
     }

@@ -1,7 +1,7 @@
 //! Checks that are judged away from their checker: a basis is taken from it, and what was judged is committed to it as one entry. A world
 //! calls both, and what lies between them is `basis`.
 
-ghost use Rattle.std.specs.Prelude.{◌≡◌, ◌↔◌, ◌+◌, ◌≤◌, length, IfOk, IsTrue, OnErr};
+ghost use Rattle.std.specs.Prelude.{◌≡◌, ◌↔◌, ◌+◌, ◌<◌, ◌≤◌, ◌^◌, length, IfOk, IsTrue, OnErr};
 ghost use Rattle.st_event.specs.declared.event.Event.TheVariants.{Check as check_event};
 ghost use Rattle.st_event.specs.declared.reply.Reply.TheVariants.{Decided as decided_reply};
 ghost use Rattle.st_control.specs.Commits.{Begins, MayCommit, Commits};
@@ -79,6 +79,7 @@ impl Control {
     ) -> Result<Twice<Receipt>, AllocError>
         requires oldest { judged.now.ticket ≡ length self.old.store.decided + 1 }
         requires given { judged.now.ticket ≤ self.old.store.tickets }
+        requires version { self.old.store.version + 1 < 2 ^ 32 }
         ensures ok { IfOk result (λ receipts. Moves self.old self.new entry check_event (decided_reply receipts.told)) }
         ensures ticket { IfOk result (λ receipts. receipts.told.ticket ≡ judged.now.ticket) }
         ensures kept { IfOk result (λ receipts. receipts.kept ≡ receipts.told) }
@@ -94,7 +95,8 @@ impl Control {
     /// is decided. `Gone` comes exactly where it is decided too, and changes nothing. Else the verdict is that of how the checker stands
     /// now, whatever was judged. At `Err` nothing has changed but the count of runs.
     pub fn commit(&mut self, entry: u32, judged: &Judged) -> Result<Commit, AllocError>
-        requires { MayCommit self.old judged.now.ticket }
+        requires may { MayCommit self.old judged.now.ticket }
+        requires version { self.old.store.version + 1 < 2 ^ 32 }
         ensures ok { IfOk result (Commits self.old self.new entry judged.now.ticket) }
         ensures err { OnErr result (IsSameButRuns self.old self.new) }
         ensures runs { self.old.flows_run ≤ self.new.flows_run }
