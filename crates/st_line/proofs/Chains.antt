@@ -6,9 +6,9 @@ use Rattle.std.specs.List.{cons_option}
 use Rattle.std.proofs.lemmas.Bool.Decides.{nat_tests}
 use mathlib.Core.List.{IsPrefix}
 use prog.Atomic.{either}
-use Rattle.logbook.specs.Pages.{Cell, cell, adds, gives, Nib, no_nib, may_write, step, Moves}
+use Rattle.logbook.specs.Pages.{Cell, cell, adds, gives, keeps, Nib, no_nib, may_write, step, Moves}
 use Rattle.st_line.specs.declared.link.Link.{Link}
-use Rattle.st_line.specs.LineInside.{links_of, entries_of, last_line_or, last_next_or, right_of, IsKept, Deals, Adds}
+use Rattle.st_line.specs.LineInside.{links_of, entries_of, last_line_or, last_next_or, right_of, IsKept, Deals, Adds, Looks}
 
 by_test : {X : Type 0} (b : Bool) → (b ≡ true → X) → (b ≡ false → X) → X
 by_test true f g = f refl
@@ -61,6 +61,9 @@ module _ {E : Type 0} where
 
   pub entries_prefix : (k : ℕ) (xs ys : List (Link E)) → IsPrefix xs ys → IsPrefix (entries_of k xs) (entries_of k ys)
   entries_prefix k xs ys p = (entries_of k p.0, sym (filter_map-append (λ (l : Link E). l.entry) (links_of k xs) (links_of k p.0)) ∙ (ap (filter_map (λ (l : Link E). l.entry)) (sym (links_append k xs p.0)) ∙ ap (entries_of k) p.1))
+
+  pub later : (xs ys zs : List (Link E)) → IsPrefix xs ys → IsPrefix ys zs → IsPrefix xs zs
+  later xs ys zs p q = (p.0 ++ q.0, sym (append_assoc xs p.0 q.0) ∙ (ap (λ ls. ls ++ q.0) p.1 ∙ q.1))
 
   -- a link of another line, or with no entry, changes nothing of this one
   off : (k : ℕ) (xs : List (Link E)) (l : Link E) → (is_some l.entry && (l.line == k)) ≡ false → links_of k (xs ++ l ∷ []) ≡ links_of k xs
@@ -151,3 +154,17 @@ module _ {E : Type 0} where
       (λ k h. home_set set p.key k p.value lt (home_set cs 0 k x some h)) (λ e. home) in
       let test : (is_some ask.entry && (ask.line == ask.line)) ≡ true = grind (arith, nat_tests, is) in
       (some, kept.home, (gives, ask ∷ [], state, right, more, inl (refl, refl), λ us q at. on ask.line links ask test ∙ ap (λ ls. ls ++ ask ∷ []) (known us q at)))
+
+  -- the writer looks, whose pen's word is away: it has all of its line
+  pub looks_moves : (v : List (Link E)) (p : Nib) (state : Option ℕ) (ask : Link E) → p.right ≡ may_write
+      → Moves IsKept shown moved 0 (v, (p, state)) (λ n. either (n == 0) 0 n) (Looks (step 0 0 0 ask) (v, (p, state)))
+  looks_moves v p state ask right cs links kept pre away =
+      let there = away right in
+      let some : 0 < length cs = some_cell cs kept.home in
+      let x = either ((cell cs 0).0 == 0) 0 (cell cs 0).0 in
+      let set = slice_set cs 0 (x, true) in
+      let same : IsKept set links = record { home = home_set cs 0 0 x some kept.home; used = λ xs ys l all is. home_set cs 0 (right_of l.line xs) x some (kept.used xs ys l all is) } in
+      let none : links ≡ links ++ [] = sym (append-nil links) in
+      let known : (k : ℕ) (us : List (Link E)) → IsPrefix us v → right_of k us ≡ p.key → links_of k (links ++ []) ≡ links_of k us =
+      λ k us q at. subst (λ ls. links_of k ls ≡ links_of k us) none (known_all cs links v us p.key k kept pre q at there.1) in
+      (some, kept.home, (keeps, [], state, tt, subst (λ ls. IsKept set ls) none same, inl (refl, refl), (refl, known)))

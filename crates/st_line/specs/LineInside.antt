@@ -49,5 +49,9 @@ module _ {E : Type 0} where
   abbrev pub Adds : Step (Link E) → View (Link E) ℕ → ℕ → View (Link E) ℕ → Type 0
   Adds s v found w = (links : List (Link E)) → IsPrefix links v.0 → right_of s.ask.line links ≡ v.1.0.key → links_of s.ask.line w.0 ≡ links_of s.ask.line links ++ s.ask ∷ []
 
+  -- nothing is added, and the pen stays as it is. Where a beginning of what was known has the pen's word as a line's next, it has all of that line
+  abbrev pub Looks : Step (Link E) → View (Link E) ℕ → ℕ → View (Link E) ℕ → Type 0
+  Looks s v found w = (w.1.0 ≡ v.1.0) × ((k : ℕ) (links : List (Link E)) → IsPrefix links v.0 → right_of k links ≡ v.1.0.key → links_of k w.0 ≡ links_of k links)
+
 abbrev pub head_of : Book → Named
 head_of b = record { tracked = true; key = 0; book = b }

@@ -61,6 +61,15 @@ impl<E> Play<Link<E>, u64> for Add {
     ghost then = { Adds };
 }
 
+/// A step that adds nothing.
+pub struct Look;
+
+impl<E> Play<Link<E>, u64> for Look {
+    ghost use Rattle.st_line.specs.LineInside.{Looks};
+
+    ghost then = { Looks };
+}
+
 /// What a step asks that adds no entry.
 pub struct Blank;
 

@@ -5,7 +5,7 @@ ghost use mathlib.Core.List.{IsPrefix};
 ghost use Rattle.logbook.specs.Pages.{may_write};
 ghost use Rattle.st_line.specs.LineInside.{head_of, last_line, links_of};
 
-use crate::link::{Add, Blank, Deal, Law, Link, Nothing, Telling, Tells, Told};
+use crate::link::{Add, Blank, Deal, Law, Link, Look, Nothing, Telling, Tells, Told};
 use crate::log::Log;
 use logbook::{Offer, Pen, Seen, Start, Word};
 use std::marker::Model;
@@ -85,6 +85,20 @@ impl<E> Writer<E> {
             .head
             .compare_exchange::<Add, Nothing>(0, 0, &mut self.seen, &mut offer, &mut self.right);
         self.right = next;
+    }
+
+    /// Whatever was seen of the line, the writer has all of it. Nothing changes.
+    pub fn has_all(&mut self, log: &Log<E>)
+        requires { log.now.book ≡ self.old.book }
+        ensures same { self.new ≡ self.old }
+        ensures all { IsPrefix log.now.log self.new.log }
+    {
+        let mut seen = self.seen.again();
+        seen.learn(&log.seen);
+        let mut offer: Offer<Link<E>, u64, Law<E>, Nothing> = seen.plain::<Nothing, (), Blank>(&());
+        let _ = self
+            .head
+            .compare_exchange::<Look, Nothing>(0, 0, &mut seen, &mut offer, &mut self.right);
     }
 
     /// A log of all that the writer has.

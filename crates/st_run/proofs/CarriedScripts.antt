@@ -18,7 +18,8 @@ use Rattle.st_grammar.specs.Sound.{IsSoundDoc}
 use Rattle.st_serial.specs.Serial.{GroupState, all_opened}
 use Rattle.st_run.specs.CarriedLaws.{history_of}
 use Rattle.st_run.specs.CarriedOn.{IsDoneBy, IsDoneOn, IsLogged}
-use Rattle.st_run.specs.CarriedOut.{AreNumbers, CarriedOut, groups_by}
+use Rattle.st_event.specs.Services.{AreNumbers}
+use Rattle.st_run.specs.CarriedOut.{CarriedOut, groups_by}
 use Rattle.st_run.specs.Jobs.{HaveRun}
 use Rattle.st_run.specs.Played.{AreClosed, acts_of}
 use Rattle.st_run.specs.Running.{AreStatesOf}

@@ -23,7 +23,8 @@ use Rattle.st_service.specs.Closed.{IsWhole}
 use Rattle.st_run.specs.Jobs.{HaveRun, awaits_on}
 use Rattle.st_service.specs.Made.{Made, past_in}
 use Rattle.st_service.specs.Passes.{Holder, front_at, mine_at}
-use Rattle.st_run.specs.Requests.{acts_on, answers_in, is_asked_by, is_request_of, is_submit, request_by, requests_by, requests_in}
+use Rattle.st_event.specs.Events.{is_request_of}
+use Rattle.st_run.specs.Requests.{acts_on, answers_in, is_asked_by, is_submit, request_by, requests_by, requests_in}
 use Rattle.st_run.proofs.CommandEntries.{AnswersTo, IsTicketed, as_list, is_asking, answers_append, answers_none, command_adds, legal_prefix}
 use Rattle.st_run.proofs.DidLaws.{Each, each_all, EntersAll, ended, ended_enters, enters_grows, front_entries}
 use Rattle.st_run.proofs.Interleaved.{get_here}

@@ -19,7 +19,8 @@ use Rattle.st_grammar.specs.declared.doc.Script.{Script}
 use Rattle.st_serial.specs.Serial.{GroupState}
 use Rattle.st_run.specs.Logs.{HasSeen, IsTrueOf, accepted_up_to}
 use Rattle.st_run.specs.CarriedOn.{IsDoneBy, IsDoneOn, IsLogged}
-use Rattle.st_run.specs.CarriedOut.{AreNumbers, CarriedOut, groups_by, with_journals}
+use Rattle.st_event.specs.Services.{AreNumbers}
+use Rattle.st_run.specs.CarriedOut.{CarriedOut, groups_by, with_journals}
 use Rattle.st_run.proofs.SmallCases.{usual, a1, app, firmware, after_all, line, none_at, all_one, idle, none_failed, from_nothing, one_ticket}
 
 -- a group of one switch

@@ -109,14 +109,7 @@ SeesAwaited app n acts log h =
 
 abbrev pub is_failing : Act → Bool
 is_failing (Fail n entity health rows) = true
-is_failing (Propose n rows) = false
-is_failing (Await n) = false
-is_failing (Settle n rounds) = false
-is_failing (Lock n entity prio) = false
-is_failing (Unlock n entity prio) = false
-is_failing (Read n entity var) = false
-is_failing (ReadAt n version entity var) = false
-is_failing (Poll n entity) = false
+is_failing _ = false
 
 -- the failures of a group are those that the scripts' commands ask for, those of each script in its order
 abbrev pub FailsAsAsked : List (List Act) → ℕ → History → Type 0
@@ -124,14 +117,7 @@ FailsAsAsked scripts n h = IsInterleaving IsFailureBy (failures_in h.group h.pas
 
 abbrev pub is_poll_of : Entity → Act → Bool
 is_poll_of e (Poll n entity) = is_same_entity entity e
-is_poll_of e (Propose n rows) = false
-is_poll_of e (Await n) = false
-is_poll_of e (Settle n rounds) = false
-is_poll_of e (Lock n entity prio) = false
-is_poll_of e (Unlock n entity prio) = false
-is_poll_of e (Read n entity var) = false
-is_poll_of e (ReadAt n version entity var) = false
-is_poll_of e (Fail n entity health rows) = false
+is_poll_of e _ = false
 
 -- for each entity at least as many reports, each with what was to be heard at its turn, as there are polls of it in all scripts
 abbrev pub PollsAll : List (List Act) → ℕ → History → List WireLine → Type 0

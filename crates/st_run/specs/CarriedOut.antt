@@ -1,7 +1,8 @@
 -- What it is that the scripts of a document were carried out: by the document, its groups' journals and its applications' logs alone.
-use Rattle.std.specs.Prelude.{ℕ, ◌≡◌, ◌<◌, List, [], ◌∷◌, map, length, reverse, slice_get, Some}
+use Rattle.std.specs.Prelude.{ℕ, ◌≡◌, List, [], ◌∷◌, map, length, reverse, slice_get, Some}
 use Rattle.st_event.specs.declared.act.Log.{Log}
 use Rattle.st_event.specs.declared.journal.Journal.{Journal}
+use Rattle.st_event.specs.Services.{AreNumbers}
 use Rattle.st_grammar.specs.declared.doc.Doc.{Doc}
 use Rattle.st_grammar.specs.declared.doc.Script.{Script}
 use Rattle.st_serial.specs.Serial.{GroupState, all_opened}
@@ -15,10 +16,6 @@ with_journals (s ∷ ss) (j ∷ js) = record { history = record { group = s.hist
 
 abbrev pub groups_by : Doc → List Journal → List GroupState
 groups_by doc journals = with_journals (all_opened doc.groups doc.wires) journals
-
--- these are the numbers from 0 on of so many
-abbrev pub AreNumbers : List ℕ → ℕ → Type 0
-AreNumbers ns count = (length ns ≡ count) × ((k : ℕ) → k < count → slice_get ns k ≡ Some k)
 
 -- a document's scripts were carried out: there is a journal for each group and a log for each application, in their order; each log has what its
 -- script reads; and on each group each script was carried out, and all of them together

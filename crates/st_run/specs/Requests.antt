@@ -7,9 +7,10 @@ use Rattle.st_net.specs.Numbered.{nth}
 use Rattle.st_event.specs.declared.act.Act.{Act}
 use Rattle.st_event.specs.declared.act.Act.TheVariants.{Propose, Await, Settle, Lock, Unlock, Read, ReadAt, Fail, Poll}
 use Rattle.st_event.specs.declared.event.Event.{Event}
-use Rattle.st_event.specs.declared.event.Event.TheVariants.{Submit, Check, Lock as lock_event, Unlock as unlock_event, Send, Deliver, Finish, Report, Hear, Fail as fail_event}
+use Rattle.st_event.specs.declared.event.Event.TheVariants.{Submit, Lock as lock_event, Unlock as unlock_event}
 use Rattle.st_event.specs.declared.journal.Entry.{Entry}
 use Rattle.st_event.specs.declared.reply.Reply.{Reply}
+use Rattle.st_event.specs.Events.{is_request_of}
 use Rattle.st_event.specs.Receipts.{ticket_given, receipt_given}
 use Rattle.st_world.specs.Acts.{group_number}
 
@@ -33,19 +34,7 @@ acts_on n acts = filter (λ act. group_number act == n) acts
 abbrev pub requests_by : AppId → ℕ → List Act → List Event
 requests_by app n acts = filter_map (request_by app) (acts_on n acts)
 
--- whether an event is a request that names an application
-abbrev pub is_request_of : AppId → Event → Bool
-is_request_of app (Submit by rows) = by.0 == app.0
-is_request_of app (lock_event by entity prio) = by.0 == app.0
-is_request_of app (unlock_event by entity prio) = by.0 == app.0
-is_request_of app Check = false
-is_request_of app (Send entity) = false
-is_request_of app (Deliver n) = false
-is_request_of app (Finish entity) = false
-is_request_of app (Report entity) = false
-is_request_of app (Hear n) = false
-is_request_of app (fail_event entity vals health) = false
-
+-- whether the entry's event is a request that names an application
 abbrev pub is_asked_by : AppId → Entry → Bool
 is_asked_by app entry = is_request_of app entry.event
 
@@ -55,15 +44,7 @@ requests_in app entries = map (λ e. e.event) (filter (is_asked_by app) entries)
 
 abbrev pub is_submit : Event → Bool
 is_submit (Submit by rows) = true
-is_submit Check = false
-is_submit (lock_event by entity prio) = false
-is_submit (unlock_event by entity prio) = false
-is_submit (Send entity) = false
-is_submit (Deliver n) = false
-is_submit (Finish entity) = false
-is_submit (Report entity) = false
-is_submit (Hear n) = false
-is_submit (fail_event entity vals health) = false
+is_submit _ = false
 
 -- the replies to an application's proposals in a journal
 abbrev pub answers_in : AppId → List Entry → List Reply
@@ -71,25 +52,11 @@ answers_in app entries = map (λ e. e.reply) (filter (λ e. is_submit e.event) (
 
 abbrev pub is_proposal : Act → Bool
 is_proposal (Propose n rows) = true
-is_proposal (Await n) = false
-is_proposal (Settle n rounds) = false
-is_proposal (Lock n entity prio) = false
-is_proposal (Unlock n entity prio) = false
-is_proposal (Read n entity var) = false
-is_proposal (ReadAt n version entity var) = false
-is_proposal (Fail n entity health rows) = false
-is_proposal (Poll n entity) = false
+is_proposal _ = false
 
 abbrev pub is_await : Act → Bool
-is_await (Propose n rows) = false
 is_await (Await n) = true
-is_await (Settle n rounds) = false
-is_await (Lock n entity prio) = false
-is_await (Unlock n entity prio) = false
-is_await (Read n entity var) = false
-is_await (ReadAt n version entity var) = false
-is_await (Fail n entity health rows) = false
-is_await (Poll n entity) = false
+is_await _ = false
 
 abbrev pub ticket_in : Option Reply → Option ℕ
 ticket_in None = None

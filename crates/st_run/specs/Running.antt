@@ -12,7 +12,8 @@ use Rattle.st_service.specs.Asked.{asker}
 use Rattle.st_serial.specs.Serial.{GroupState, all_opened}
 use Rattle.st_wire.specs.declared.line.WireLine.{WireLine}
 use Rattle.st_serial.specs.Kept.{AreKept, groups_of}
-use Rattle.st_run.specs.CarriedOut.{AreNumbers, CarriedOut}
+use Rattle.st_event.specs.Services.{AreNumbers}
+use Rattle.st_run.specs.CarriedOut.{CarriedOut}
 
 -- these are the document's groups and the lines of their loss plans
 abbrev pub AreStatesOf : (ℕ → Group) → (ℕ → List WireLine) → Doc → Type 0

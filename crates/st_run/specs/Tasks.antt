@@ -2,7 +2,7 @@
 use Rattle.std.specs.Prelude.{ℕ, zero, suc, ◌*◌, ◌==◌, Bool, false, List, [], ◌∷◌, ◌++◌, nat_lt, map, sum_by, count_by, if◌then◌else◌}
 use Rattle.st_net.specs.Groups.{Group}
 use Rattle.st_event.specs.declared.act.Act.{Act}
-use Rattle.st_event.specs.declared.act.Act.TheVariants.{Propose, Await, Settle, Lock, Unlock, Read, ReadAt, Fail, Poll}
+use Rattle.st_event.specs.declared.act.Act.TheVariants.{Propose, Settle}
 use Rattle.st_grammar.specs.declared.doc.Script.{Script}
 use Rattle.st_wire.specs.declared.line.WireLine.{WireLine}
 use Rattle.st_run.specs.declared.workers.Duty.{Duty}
@@ -13,26 +13,12 @@ use Rattle.st_run.specs.Duties.{duty_share}
 -- a command settles this group
 abbrev pub is_settle_of : ℕ → Act → Bool
 is_settle_of n (Settle m rounds) = m == n
-is_settle_of n (Propose m rows) = false
-is_settle_of n (Await m) = false
-is_settle_of n (Lock m entity prio) = false
-is_settle_of n (Unlock m entity prio) = false
-is_settle_of n (Read m entity var) = false
-is_settle_of n (ReadAt m version entity var) = false
-is_settle_of n (Fail m entity health rows) = false
-is_settle_of n (Poll m entity) = false
+is_settle_of n _ = false
 
 -- a command proposes to this group
 abbrev pub is_propose_of : ℕ → Act → Bool
 is_propose_of n (Propose m rows) = m == n
-is_propose_of n (Settle m rounds) = false
-is_propose_of n (Await m) = false
-is_propose_of n (Lock m entity prio) = false
-is_propose_of n (Unlock m entity prio) = false
-is_propose_of n (Read m entity var) = false
-is_propose_of n (ReadAt m version entity var) = false
-is_propose_of n (Fail m entity health rows) = false
-is_propose_of n (Poll m entity) = false
+is_propose_of n _ = false
 
 -- how many commands of all scripts do
 abbrev pub settles_of : ℕ → List Script → ℕ

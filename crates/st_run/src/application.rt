@@ -12,10 +12,10 @@ use std::sync::Wait;
 use std::sync::ledger::Ledger;
 use std::thread::Threads;
 
-/// How far a pass came with what it was to do.
+/// How far a pass came with its chore.
 #[derive(Clone, Copy, Debug, PartialEq, Eq)]
 pub enum Came {
-    /// All of it was done.
+    /// The whole chore was done.
     Through,
     /// An event met the journal of this group full, and what was to follow was not begun.
     ToFull { group: u32 },
@@ -23,7 +23,7 @@ pub enum Came {
     OutOfMemory,
 }
 
-/// What is left of a job: its pass, and how far that came.
+/// What is left of a job: the pass, and how far the pass came.
 #[derive(Drop)]
 pub struct Left<J: Naming, L: Ledger> {
     pub pass: Pass<J, L>,

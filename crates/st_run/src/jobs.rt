@@ -22,7 +22,7 @@ pub enum Chore<'a> {
     Task(Task),
 }
 
-/// A pass, and its chore on a service.
+/// A pass with a chore, on a service.
 #[derive(Drop)]
 pub struct RunJob<'a, J: Naming, L: Ledger, H: Wait + Drop> {
     pub alloc: Global,

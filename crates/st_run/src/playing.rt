@@ -49,7 +49,7 @@ fn awaits_of(alloc: Global, rooms: usize) -> Result<Vec<Act>, AllocError>
     Ok(acts)
 }
 
-/// The chore of the pass of this number: the script of an application, or a worker's task behind those.
+/// The chore of a pass, by the pass's number: the script of an application, or a worker's task, whose numbers come behind all scripts.
 fn chore_of<'a>(apps: &'a [Script], tasks: &[Task], number: usize) -> Chore<'a>
     requires { number < length apps.now + length tasks.now }
     ensures { IsChore apps.now tasks.now number result }
@@ -61,7 +61,7 @@ fn chore_of<'a>(apps: &'a [Script], tasks: &[Task], number: usize) -> Chore<'a>
     }
 }
 
-/// A job for each pass: that of its number, with its chore.
+/// A job for each pass, with the chore of the pass's number.
 fn jobs_of<'a, J: Naming, L: Ledger, H: Wait + Drop>(
     alloc: Global,
     service: &'a Service<J, L, H>,
@@ -113,7 +113,7 @@ fn full_of(came: Came) -> Result<Option<u32>, AllocError>
     }
 }
 
-/// Does a command of a pass, and gives the group whose journal was full, if it met it so.
+/// Does a command of a pass, and gives the group whose journal was full, if the command met a full journal.
 fn full_at<J: Naming, L: Ledger, H: Wait + Drop, R: Threads + Wait + Sync>(
     rt: &R,
     alloc: Global,
@@ -135,8 +135,8 @@ fn full_at<J: Naming, L: Ledger, H: Wait + Drop, R: Threads + Wait + Sync>(
     }
 }
 
-/// Lets a pass await by these commands, and gives the lowest group whose journal it met full, if there was one. Behind a full journal it
-/// goes on with the next group.
+/// Lets a pass do commands that await, and gives the lowest group whose journal one of them met full, if there was one. Behind a full journal
+/// the pass goes on with the next group.
 fn await_all<J: Naming, L: Ledger, H: Wait + Drop, R: Threads + Wait + Sync>(
     rt: &R,
     alloc: Global,
@@ -160,15 +160,15 @@ fn await_all<J: Naming, L: Ledger, H: Wait + Drop, R: Threads + Wait + Sync>(
     Ok(full)
 }
 
-/// The awaits of the pass of this number, which are none where it is not an application's.
+/// The awaits of a pass, by the pass's number: none where the pass is a worker's.
 fn awaits_for<'a>(awaits: &'a [Act], apps: usize, number: usize) -> &'a [Act]
     ensures { result.now ≡ awaits_for apps number awaits.now }
 {
     if number < apps { awaits } else { &awaits[..0] }
 }
 
-/// Lets what is left of a job await by these commands: gives its pass, and the lowest group whose journal it met full, if it did. Without
-/// awaits the pass stays as it was.
+/// Lets the pass that is left of a job do commands that await: gives the pass, and the lowest group whose journal the job or an await met full,
+/// if there was one. Without awaits the pass stays as it was.
 fn finish<J: Naming, L: Ledger, H: Wait + Drop, R: Threads + Wait + Sync>(
     rt: &R,
     alloc: Global,
@@ -193,8 +193,8 @@ fn finish<J: Naming, L: Ledger, H: Wait + Drop, R: Threads + Wait + Sync>(
     }
 }
 
-/// Lets what is left of each application await on each group: gives the passes of all jobs in order, of which so many are applications',
-/// and the lowest group whose journal one met full, if one did. The passes behind those of applications stay as they were.
+/// Lets the pass that is left of each application await on each group: gives the passes of all jobs in order, of which the first `apps` are
+/// applications', and the lowest group whose journal a job or an await met full, if there was one. Workers' passes stay as they were.
 fn finish_all<J: Naming, L: Ledger, H: Wait + Drop, R: Threads + Wait + Sync>(
     rt: &R,
     alloc: Global,
@@ -224,7 +224,7 @@ fn finish_all<J: Naming, L: Ledger, H: Wait + Drop, R: Threads + Wait + Sync>(
     Ok((passes, full))
 }
 
-/// Works the jobs, each in a thread of its own, and gives what is left of them in order.
+/// Works the jobs, each in a thread of its own, and gives what is left of each, in the order of jobs.
 fn lefts_of<
     'a,
     J: Naming + Send + Sync,
@@ -239,9 +239,9 @@ fn lefts_of<
     crew_run(rt, jobs, gate)
 }
 
-/// Plays the scripts on a service, each by the pass of its number, and beside them the tasks of workers, each by a pass behind those; each
-/// in a thread of its own. Gives the passes back in order, those of applications behind an await on each group, and the lowest group whose
-/// journal one met full, if one did.
+/// Plays scripts and workers' tasks on a service, each by a pass and in a thread of its own: a script by the pass of the script's number, and
+/// the tasks by the passes behind those, in order. Gives the passes back in order, those of applications behind an await on each group, and
+/// the lowest group whose journal a thread or an await met full, if there was one.
 fn play_on<
     J: Naming + Send + Sync,
     L: Ledger + Send + Sync,
@@ -294,9 +294,9 @@ fn close_played<J: Naming, L: Ledger, H: Wait + Drop>(
     })
 }
 
-/// Plays the scripts on a service, each by the pass of its number, and the tasks of their workers, each by a pass behind those; each in a
-/// thread of its own. Awaits on each group behind them, and closes the service. At `Err`, which is want of memory alone, the service is
-/// given up.
+/// Plays scripts and workers' tasks on a service, each by a pass and in a thread of its own: a script by the pass of the script's number, and
+/// the tasks by the passes behind those, in order. Behind all threads each application awaits on each group, and the service is closed. `Err`
+/// is for want of memory alone, and gives the service up.
 pub fn play<
     J: Naming + Send + Sync,
     L: Ledger + Send + Sync,

@@ -25,7 +25,7 @@ fn is_settle_of(group: u32, act: &Act) -> bool
     }
 }
 
-/// How many of these commands settle this group.
+/// How many of the commands settle a group.
 fn settles_in(acts: &[Act], group: u32) -> usize
     ensures { result ≡ count_by (is_settle_of group) acts.now }
 {
@@ -61,7 +61,7 @@ fn is_propose_of(group: u32, act: &Act) -> bool
     }
 }
 
-/// How many of these commands propose to this group.
+/// How many of the commands propose to a group.
 fn proposes_in(acts: &[Act], group: u32) -> usize
     ensures { result ≡ count_by (is_propose_of group) acts.now }
 {
@@ -80,7 +80,7 @@ fn proposes_of(apps: &[Script], group: u32) -> usize
     count
 }
 
-/// Adds a task for each of these duties of a group, to be done so many times, if at all.
+/// Adds a task for each of a group's duties, to be done `times` times; none where that is 0.
 fn add_tasks(
     tasks: &mut Vec<Task>,
     group: u32,
@@ -102,9 +102,9 @@ fn add_tasks(
     Ok(())
 }
 
-/// The tasks of the workers of so many groups. Each group to which a `propose` goes has a checker, which makes as many checks as there are
-/// such commands. Each group that a `settle` names has an updater and a monitor, each of which makes as many halves as there are such
-/// commands.
+/// The tasks of the workers of groups, whose number is `rooms`. Each group to which a `propose` goes has a checker, which makes a check for
+/// each such command. Each group that a `settle` names has an updater and a monitor, each of which makes a half of a round for each such
+/// command.
 pub fn tasks_of(alloc: Global, rooms: usize, apps: &[Script]) -> Result<Vec<Task>, AllocError>
     requires rooms { rooms ≤ 16 }
     requires few { sum_by (λ app. length app.acts) apps.now < 2 ^ 32 }

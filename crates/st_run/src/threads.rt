@@ -69,7 +69,7 @@ fn run_named<
     play(rt, alloc, service, rooms, passes, apps, tasks, gate)
 }
 
-/// The number of a message that an event names has 32 bits, as its type says. It does nothing.
+/// The number of a message that an event names has 32 bits, as the type of the number says. The function does nothing.
 fn is_numbered(event: &Event)
     ensures { HasSmallNumber event.now }
 {
@@ -88,7 +88,7 @@ fn is_numbered(event: &Event)
     }
 }
 
-/// So it is with each event of some entries.
+/// The numbers that the events of entries name have 32 bits.
 fn are_numbered(entries: &[Entry])
     ensures { All (λ entry. HasSmallNumber entry.event) entries.now }
 {
@@ -97,7 +97,7 @@ fn are_numbered(entries: &[Entry])
     }
 }
 
-/// And of some journals.
+/// The numbers that the events of journals name have 32 bits.
 fn all_numbered(journals: &[Journal])
     ensures { All HasSmallNumbers journals.now }
 {
@@ -106,14 +106,14 @@ fn all_numbered(journals: &[Journal])
     }
 }
 
-/// Runs the scripts of a document by threads over a service of its groups: one for each application; one for the checker of each group to
-/// which a `propose` goes, which makes a check off the lock for each of them; and one for the updater and one for the monitor of each group
-/// that a `settle` names, which make a half of a round for each of them. It calls the gate behind each read, before each half that an
-/// updater or a monitor makes, and before each judgement off the lock that a job makes. The order in which what different threads do comes
-/// is free. Where no event met a full journal the scripts were carried out. Else a group is named whose journal is full: the lowest at
-/// which a job stopped, while the others went on, or which an await behind the jobs met full. No more is promised here of that group than
-/// that its journal is full. Journals and logs stand in the order of the document. It waits for its threads. At `Err`, which is want of
-/// memory alone, nothing is handed back.
+/// Runs the scripts of a document by threads over a service of the document's groups. There is a thread for each application; one for the
+/// checker of each group to which a `propose` goes, which makes a check off the lock for each such command; and one for the updater and one
+/// for the monitor of each group that a `settle` names, which make a half of a round for each such command. The call waits for its threads.
+/// The gate is called behind each read, before each half that an updater or a monitor makes, and before each judgement off the lock that a
+/// thread makes; the awaits behind the threads call none. The order in which different threads act is free. Where no event met a full journal the scripts were carried out.
+/// Else the result names a group whose journal is full: the lowest at which a thread stopped, while the others went on, or which an await
+/// behind the threads met full; of that group only this is promised. Journals and logs stand in the order of the document. `Err` is for want
+/// of memory alone, and hands nothing back.
 pub fn run_scripts<R: Threads + Wait + Sync, G: Gate + Sync>(
     rt: &R,
     alloc: Global,

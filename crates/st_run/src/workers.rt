@@ -43,7 +43,7 @@ fn came_by_half(group: u32, half: Result<Rounded, AllocError>) -> Came
     }
 }
 
-/// How far a pass came with a check off the lock. One that found nothing pending, or its ticket decided meanwhile, is through.
+/// How far a pass came with a check off the lock. A check that found nothing pending, or whose ticket was decided meanwhile, is through.
 fn came_by_check(group: u32, checked: Result<OffLock, AllocError>) -> Came
     ensures { result ≡ came_by_check_lem group checked }
 {
@@ -54,7 +54,7 @@ fn came_by_check(group: u32, checked: Result<OffLock, AllocError>) -> Came
     }
 }
 
-/// Does a duty once. Before a half the gate is called, while no lock is held; before a judgement the check calls it so.
+/// Does a duty once. The gate is called before a half of a round, while no lock is held, and by a check before its judgement, likewise.
 fn do_once<J: Naming, L: Ledger, H: Wait + Drop, R: Threads + Wait + Sync, G: Gate>(
     rt: &R,
     alloc: Global,
@@ -93,7 +93,7 @@ fn do_once<J: Naming, L: Ledger, H: Wait + Drop, R: Threads + Wait + Sync, G: Ga
     }
 }
 
-/// Does a task, as far as it meets no full journal and memory is not refused.
+/// Does a task, until all is done, a journal is full or memory is refused.
 pub fn do_task<J: Naming, L: Ledger, H: Wait + Drop, R: Threads + Wait + Sync, G: Gate>(
     rt: &R,
     alloc: Global,

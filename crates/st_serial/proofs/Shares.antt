@@ -26,7 +26,8 @@ use Rattle.st_world.specs.Rounds.{Course, course_from, enter, enter_all, enter_t
 use Rattle.st_world.specs.Acts.{act_course, all_checked, checked_while, course_of, failed_vals, has_one_of, is_none_left, is_something, rounds_done, with_room}
 use Rattle.st_world.proofs.RunLaws.{entered}
 use Rattle.st_world.proofs.TurnLaws.{enter-length, poll-length, proposed-length, turn-length, while-length}
-use Rattle.st_serial.specs.Shares.{update_most, poll_most, turn_most, round_most, share}
+use Rattle.st_world.specs.Shares.{update_most, poll_most, turn_most}
+use Rattle.st_serial.specs.Shares.{round_most, share}
 use Rattle.st_serial.proofs.Lists.{by_test}
 
 -- the two halves make the turn

@@ -1,23 +1,12 @@
 -- How many entries an act adds to its group's journal at the most.
-use Rattle.std.specs.Prelude.{ℕ, ◌+◌, ◌*◌, List, length}
+use Rattle.std.specs.Prelude.{ℕ, ◌+◌, ◌*◌, List}
 use Rattle.st_net.specs.Groups.{Group}
 use Rattle.st_net.specs.InOrder.{entity_count}
 use Rattle.st_event.specs.declared.act.Act.{Act}
 use Rattle.st_event.specs.declared.act.Act.TheVariants.{Propose, Await, Settle, Lock, Unlock, Read, ReadAt, Fail, Poll}
 use Rattle.st_event.specs.declared.journal.TheConstants.{MAX_PENDING}
 use Rattle.st_wire.specs.declared.line.WireLine.{WireLine}
-
--- the half of an entity's turn that updates it: Send, Deliver of the command itself and once for each wire line, and Finish
-abbrev pub update_most : List WireLine → ℕ
-update_most lines = 3 + length lines
-
--- the half that monitors it: Report, Hear of the report itself and once for each wire line
-abbrev pub poll_most : List WireLine → ℕ
-poll_most lines = 2 + length lines
-
--- the turn: the one half and the other
-abbrev pub turn_most : List WireLine → ℕ
-turn_most lines = 5 + 2 * length lines
+use Rattle.st_world.specs.Shares.{poll_most, turn_most}
 
 -- a round: the turn of each entity
 abbrev pub round_most : Group → List WireLine → ℕ

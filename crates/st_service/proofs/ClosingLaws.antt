@@ -1,5 +1,5 @@
 -- The lists of a close: what was taken of a list one item after another; the places of a pass; and what the counts of all passes and rooms say.
-use Rattle.std.proofs.Common.{below_more, ◌≡◌, ℕ, ◌<◌, ◌≤◌, Bool, true, false, MatchBool, List, [], ◌∷◌, ◌++◌, length, map, get_or, reverse, sum_by, refl, ap, sym, subst, ◌∙◌, arith, length-append, append_assoc}
+use Rattle.std.proofs.Common.{below_more, ◌≡◌, ℕ, ◌<◌, ◌≤◌, true, List, [], ◌∷◌, ◌++◌, length, map, get_or, reverse, sum_by, refl, ap, sym, subst, ◌∙◌, arith, length-append, append_assoc}
 use Rattle.std.proofs.lemmas.List.{append-nil, get_or_append_left, get_or_at, get_or-map, length-map, nil_from_length}
 use Rattle.std.proofs.lemmas.List.Sums.{sum_by-cons}
 use Rattle.std.proofs.Math.Seq.{get_or-append_seam}
@@ -21,10 +21,14 @@ use Rattle.st_service.proofs.HolderLaws.{holder}
 use Rattle.st_service.proofs.Mines.{item_at, item_was}
 use Rattle.st_service.proofs.Whole.{mine_fewer, mine_whole, times}
 
--- what a test that is true tells
-pub when_true : (P : Type 0) (t : Bool) → (t ≡ true → P) → MatchBool t P (Unit {0})
-when_true P true f = f refl
-when_true P false f = tt
+-- what f has of an item, where it has the same of two lists
+pub mapped_at : {X A : Type 0} (f : X → A) (xs ys : List X) (k : ℕ) (d : X) → map f xs ≡ map f ys → k < length ys → f (get_or xs k d) ≡ f (get_or ys k d)
+mapped_at f xs ys k d same lt =
+    let low : k < length xs = omega (arith, lt, ap length same, length-map xs f, length-map ys f) in
+    sym (get_or-map f xs k d (f d) low) ∙ (ap (λ l. get_or l k (f d)) same ∙ get_or-map f ys k d (f d) lt)
+
+pub mapped_long : {X A : Type 0} (f : X → A) (xs ys : List X) → map f xs ≡ map f ys → length xs ≡ length ys
+mapped_long f xs ys same = omega (arith, ap length same, length-map xs f, length-map ys f)
 
 -- what comes next stands behind what came so far
 pub next_at : {X : Type 0} (all done rest : List X) (x d : X) → all ≡ done ++ x ∷ rest → get_or all (length done) d ≡ x

@@ -36,7 +36,7 @@ use Rattle.st_service.specs.declared.work.Work.TheVariants.{OneAct, Commit, Turn
 use Rattle.st_service.specs.Asked.{asker, is_own, all_own}
 use Rattle.st_service.specs.Rooms.{Adds}
 use Rattle.st_service.specs.Shares.{act_share, turn_share, work_share}
-use Rattle.st_service.specs.Works.{WorkFits, is_of_one_hold, is_decided, course_at, part_of, act_decides, decides}
+use Rattle.st_service.specs.Works.{WorkFits, is_of_one_hold, is_decided, course_at, part_of, act_may_overlay, may_overlay}
 
 -- none of these entries is a check; and none but the first that was made
 abbrev pub all_quiet : List Entry → Bool
@@ -206,7 +206,7 @@ if_decided-ran g number past false = check-ran g number past
 one-ran : (g : Group) (number : ℕ) (past : List Entry) (event : Event) → IsPlain number event → Ran false number 1 past (enter g (course_from past) event)
 one-ran g number past event plain = enter-ran g number 0 past (course_from past) event plain (ran_none false number 0 past)
 
-act-ran : (act : Act) (number : ℕ) (g : Group) (lines : List WireLine) (past : List Entry) → is_of_one_hold act ≡ true → Ran (act_decides act) number (act_share act g lines) past (course_of (record { 0 = number }) act g lines (course_from past))
+act-ran : (act : Act) (number : ℕ) (g : Group) (lines : List WireLine) (past : List Entry) → is_of_one_hold act ≡ true → Ran (act_may_overlay act) number (act_share act g lines) past (course_of (record { 0 = number }) act g lines (course_from past))
 act-ran (Propose n rows) number g lines past one = propose-ran g number past rows
 act-ran (Await n) number g lines past one = absurd cc
 act-ran (Settle n rounds) number g lines past one = absurd cc
@@ -218,7 +218,7 @@ act-ran (Fail n entity health rows) number g lines past one = one-ran g number p
 act-ran (Poll n entity) number g lines past one = part-ran Monitor g lines number past entity
 
 -- each work
-pub work-ran : (work : Work) (number : ℕ) (g : Group) (lines : List WireLine) (past : List Entry) → WorkFits work g → Ran (decides work) number (work_share work g lines) past (course_at number work g lines past)
+pub work-ran : (work : Work) (number : ℕ) (g : Group) (lines : List WireLine) (past : List Entry) → WorkFits work g → Ran (may_overlay work) number (work_share work g lines) past (course_at number work g lines past)
 work-ran (OneAct act) number g lines past fits = act-ran act.now number g lines past fits.1
 work-ran (Commit judged) number g lines past fits = if_decided-ran g number past (is_decided judged.now.ticket past)
 work-ran (Turn part entity) number g lines past fits = part-ran part g lines number past entity
@@ -317,7 +317,7 @@ accepts_one g (e ∷ f ∷ more) past quiet legal =
     (λ (t : overlays ((f ∷ more) ++ past) ≡ overlays past ++ first_rows (pending past) ∷ []). inr (same ∙ t))
     (accepts_one g (f ∷ more) past b.1 legal.1)
 
--- where the version is the same, as much is accepted as before; else the rows of the first that waited too, by a work that may make a check
+-- where the version is the same, the target was overlaid with as much as before; else with the rows of the first that waited too, by a work that may overlay it
 pub same_version : (d : Bool) (g : Group) (number most : ℕ) (past new : List Entry) → Went d number most past new → IsLegal g new → length (overlays new) ≡ length (overlays past) → overlays new ≡ overlays past
 same_version false g number most past new w legal same = ap overlays w.all ∙ accepts_nothing g w.more past (quiet_all w.more w.quiet) (subst (IsLegal g) w.all legal)
 same_version true g number most past new w legal same = ⊎_elim

@@ -39,3 +39,8 @@ on_any (Err e) h = tt
 pub if_any : {T E P : Type 0} (r : Result T E) → P → IfOk r (λ _. P)
 if_any (Ok x) h = h
 if_any (Err e) h = tt
+
+-- what follows of an answer from what is known of it
+pub ok_also : {T E : Type 0} {P Q : T → Type 0} (r : Result T E) → IfOk r P → ((x : T) → P x → Q x) → IfOk r Q
+ok_also (Ok x) p f = f x p
+ok_also (Err e) p f = tt

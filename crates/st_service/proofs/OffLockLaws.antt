@@ -132,6 +132,26 @@ committed_did g ticket number mid before was after now told receipt e is may sin
       subst (λ (es : List Entry). Puts number es mid before was after now) (only ∙ ap (λ x. x ∷ []) whole) e.puts,
     )
 
+-- a check where something waits decides
+verdict_there : (g : Group) (past : List Entry) (queue : List Proposal) → 0 < length queue → (receipt : Receipt) × (check_reply g past queue ≡ decided_reply receipt)
+verdict_there g past [] some = absurd (omega (arith, some))
+verdict_there g past (p ∷ ps) some = (receipt_of g past p, refl)
+
+-- so the check that a commit made of a pending ticket is a verdict
+pub verdict_made : (g : Group) (ticket number : ℕ) (mid before : List Made) (was : List ℕ) (after : List Made) (now : List ℕ) (told : List Entry)
+    → Enters (check_course ticket g) On number mid before was after now → is_decided ticket (past_in mid) ≡ false → MayCommit (past_in before) ticket
+    → ((more past : List Entry) → past_in after ≡ more ++ past → past ≡ past_in mid → told ≡ reverse more) → (receipt : Receipt) × IsVerdictOf told receipt
+verdict_made g ticket number mid before was after now told e is may since =
+    let past = past_in mid in
+    let entry = entry_after g past Check in
+    let run : enter g (course_from past) Check ≡ record { past = past_in after; stopped = false } = sym (ap (λ b. if b then course_from past else enter g (course_from past) Check) is) ∙ e.run in
+    let one : past_in after ≡ entry ∷ past = entered_one past (past_in after) entry (nat_lt (length past) MAX_ENTRIES) run in
+    let waits = is_pending-at ticket (length (deciders past)) is in
+    let given : IsGiven ticket past = given_later ticket before mid e.puts.0 may.given in
+    let rest = length-drop (length (verdicts past)) (proposals past) in
+    let v = verdict_there g past (pending past) (omega (arith, rest, given, waits, length-deciders past)) in
+    (v.0, subst (λ (es : List Entry). IsVerdictOf es v.0) (sym (since (entry ∷ []) past one refl)) v.1)
+
 -- a basis is of the ticket that is the oldest, and one that was seen of the one that was it
 basis_oldest : (g : Group) (past : List Entry) (b : BasisView) → IsBasisAt g past b → IsOldest b.ticket past
 basis_oldest g past b of = record { next = of.oldest; given = of.given }
@@ -243,11 +263,18 @@ begins_at : (begin : Begin) (g : Group) (ticket : ℕ) (past : List Entry) → B
 begins_at (Basis b) g ticket past begins is legal given = (begins, is_pending-at ticket (length (deciders past)) is, near_all g ticket past legal given)
 begins_at Idle g ticket past begins is legal given = none_waits ticket past begins given
 
-pub begins_for : {E : Type 0} (r : Result Begin E) (g h : Group) (ticket : ℕ) (told : Bool) (before front : List Made) (past : List Entry) → IfOk r (Begins (record { group = g; past = past_in front })) → IfOk r (λ (b : Begin). past_in front ≡ past)
-    → told ≡ is_decided ticket past → told ≡ false → h ≡ g → IsLegal h past → IsPrefix before front → IsGiven ticket (past_in before) → IfOk r (BeginsFor ticket g (past_in front))
-begins_for (Ok begin) g h ticket told before front past begins journal says is same legal p given =
-    begins_at begin g ticket (past_in front) begins (ap (is_decided ticket) journal ∙ (sym says ∙ is)) (legal_taught g h front past journal same legal) (given_later ticket before front p given)
-begins_for (Err e) g h ticket told before front past begins journal says is same legal p given = tt
+pub begins_taught : {E : Type 0} (r : Result Begin E) (g : Group) (h : History) (front : List Made) → IfOk r (Begins h) → past_in front ≡ h.past → h.group ≡ g → IfOk r (Begins (record { group = g; past = past_in front }))
+begins_taught r g h front begins journal same =
+    subst (λ (k : Group). IfOk r (Begins (record { group = k; past = past_in front }))) same (subst (λ (past : List Entry). IfOk r (Begins (record { group = h.group; past = past }))) (sym journal) begins)
+
+begins_ok : {E : Type 0} (r : Result Begin E) (g : Group) (ticket : ℕ) (past : List Entry) → IfOk r (Begins (record { group = g; past = past })) → is_decided ticket past ≡ false → IsLegal g past → IsGiven ticket past → IfOk r (BeginsFor ticket g past)
+begins_ok (Ok begin) g ticket past begins is legal given = begins_at begin g ticket past begins is legal given
+begins_ok (Err e) g ticket past begins is legal given = tt
+
+pub begins_for : {E : Type 0} (r : Result Begin E) (g : Group) (h : History) (ticket : ℕ) (told : Bool) (before front : List Made) → IfOk r (Begins h) → past_in front ≡ h.past
+    → told ≡ is_decided ticket h.past → told ≡ false → h.group ≡ g → IsLegal h.group h.past → IsPrefix before front → IsGiven ticket (past_in before) → IfOk r (BeginsFor ticket g (past_in front))
+begins_for r g h ticket told before front begins journal says is same legal p given =
+    begins_ok r g ticket (past_in front) (begins_taught r g h front begins journal same) (ap (is_decided ticket) journal ∙ (sym says ∙ is)) (legal_taught g h.group front h.past journal same legal) (given_later ticket before front p given)
 
 -- or that it is decided
 pub begins_over : (ticket : ℕ) (told : Bool) (front : List Made) (past : List Entry) → past_in front ≡ past → told ≡ is_decided ticket past → told ≡ true → IsDecided ticket (past_in front)

@@ -24,7 +24,7 @@ use Rattle.st_service.specs.declared.work.Work.{Work}
 use Rattle.st_service.specs.declared.work.Work.TheVariants.{Commit}
 use Rattle.st_service.specs.Rooms.{Adds, IsRoom, RoomView}
 use Rattle.st_service.specs.Shares.{work_share}
-use Rattle.st_service.specs.Works.{WorkFits, course_at, decides}
+use Rattle.st_service.specs.Works.{WorkFits, course_at, may_overlay}
 use Rattle.st_service.proofs.CourseLaws.{Went, work-ran, ran_part, went_adds}
 
 -- the course of a work from where a world stands
@@ -40,26 +40,26 @@ went_part (Err e) number work old new ok err fits = err.part
 
 pub work_went : {E : Type 0} (r : Result Going E) (number : ℕ) (work : Work) (old new : WorldView)
     → IfOk r (λ going. course_in number work old ≡ record { past = new.history.past; stopped = is_full going }) → OnErr r (IsPartOf old new (course_in number work old))
-    → WorkFits work old.history.group → Went (decides work) number (work_share work old.history.group old.lines) old.history.past new.history.past
+    → WorkFits work old.history.group → Went (may_overlay work) number (work_share work old.history.group old.lines) old.history.past new.history.past
 work_went (Ok going) number work old new ok err fits =
     let ran = work-ran work number old.history.group old.lines old.history.past fits in
-    ran_part (decides work) number (work_share work old.history.group old.lines) old.history.past new.history.past (course_in number work old)
+    ran_part (may_overlay work) number (work_share work old.history.group old.lines) old.history.past new.history.past (course_in number work old)
     (ran.more, ap (λ (course : Course). course.past) (sym ok) ∙ ran.all) (subst (λ (course : Course). IsBeginning new.history.past course.past) (sym ok) (beginning-self new.history.past)) ran
 work_went (Err e) number work old new ok err fits =
-    ran_part (decides work) number (work_share work old.history.group old.lines) old.history.past new.history.past (course_in number work old)
+    ran_part (may_overlay work) number (work_share work old.history.group old.lines) old.history.past new.history.past (course_in number work old)
     err.began err.part (work-ran work number old.history.group old.lines old.history.past fits)
 
 -- the same, where the room is seen so
 pub went_from : {E : Type 0} (r : Result Going E) (number : ℕ) (work : Work) (old new : WorldView) (b : Published) (spent : Bool) (room : RoomView) → record { history = old.history; lines = old.lines; published = b; spent = spent } ≡ room
     → IfOk r (λ going. course_in number work old ≡ record { past = new.history.past; stopped = is_full going }) → OnErr r (IsPartOf old new (course_in number work old))
-    → WorkFits work room.history.group → Went (decides work) number (work_share work old.history.group old.lines) old.history.past new.history.past
+    → WorkFits work room.history.group → Went (may_overlay work) number (work_share work old.history.group old.lines) old.history.past new.history.past
 went_from r number work old new b spent room view ok err fits = work_went r number work old new ok err (subst (λ (v : RoomView). WorkFits work v.history.group) (sym view) fits)
 
 pub adds_from : {E : Type 0} (r : Result Going E) (number : ℕ) (work : Work) (old new : WorldView) (b : Published) (spent : Bool) (room : RoomView) → record { history = old.history; lines = old.lines; published = b; spent = spent } ≡ room
     → IfOk r (λ going. course_in number work old ≡ record { past = new.history.past; stopped = is_full going }) → OnErr r (IsPartOf old new (course_in number work old))
     → WorkFits work room.history.group → Adds number (work_share work room.history.group room.lines) room.history.past new.history.past
 adds_from r number work old new b spent room view ok err fits = subst (λ (v : RoomView). Adds number (work_share work v.history.group v.lines) v.history.past new.history.past) view
-    (went_adds (decides work) number (work_share work old.history.group old.lines) old.history.past new.history.past (went_from r number work old new b spent room view ok err fits))
+    (went_adds (may_overlay work) number (work_share work old.history.group old.lines) old.history.past new.history.past (went_from r number work old new b spent room view ok err fits))
 
 -- where as much was accepted as before, a room stands
 pub room_stands : (old new : History) (b : Published) (spent : Bool) → new.group ≡ old.group → overlays new.past ≡ overlays old.past → IsRoom old b spent → IsRoom new b spent
@@ -70,10 +70,9 @@ room_stands old new b spent group same r = record {
   whole = λ e. r.whole e ∙ sym same;
 }
 
--- what is accepted more was published
-pub room_publishes : (old new : History) (b c : Published) (spent : Bool) (rows : List Row) → new.group ≡ old.group → overlays new.past ≡ overlays old.past ++ first_rows (pending old.past) ∷ []
-    → rows ≡ first_rows (pending old.past) → c ≡ record b { proposals = b.proposals ++ rows ∷ [] } → spent ≡ false → IsRoom old b spent → IsRoom new c spent
-room_publishes old new b c spent rows group more are is open_still r =
+-- what was overlaid more was published
+pub room_publishes : (old new : History) (b c : Published) (spent : Bool) (laid rows : List Row) → new.group ≡ old.group → overlays new.past ≡ overlays old.past ++ laid ∷ [] → rows ≡ laid → c ≡ record b { proposals = b.proposals ++ rows ∷ [] } → spent ≡ false → IsRoom old b spent → IsRoom new c spent
+room_publishes old new b c spent laid rows group more are is open_still r =
     let same : c.proposals ≡ overlays new.past = ap (λ (p : Published). p.proposals) is ∙ (ap (λ ps. ps ++ rows ∷ []) (r.whole open_still) ∙ (ap (λ rs. overlays old.past ++ rs ∷ []) are ∙ sym more)) in
     record {
       group = ap (λ (p : Published). p.group) is ∙ (r.group ∙ sym group);
@@ -83,17 +82,17 @@ room_publishes old new b c spent rows group more are is open_still r =
     }
 
 -- or its publication was refused
-pub room_spends : (old new : History) (b c : Published) (spent : Bool) → new.group ≡ old.group → overlays new.past ≡ overlays old.past ++ first_rows (pending old.past) ∷ [] → c ≡ b → IsRoom old b spent → IsRoom new c true
-room_spends old new b c spent group more is r = rw is (record {
+pub room_spends : (old new : History) (b c : Published) (spent : Bool) (laid : List Row) → new.group ≡ old.group → overlays new.past ≡ overlays old.past ++ laid ∷ [] → c ≡ b → IsRoom old b spent → IsRoom new c true
+room_spends old new b c spent laid group more is r = rw is (record {
   group = r.group ∙ sym group;
   going = r.going;
-  begun = prefix_trans b.proposals (overlays old.past) (overlays new.past) r.begun (first_rows (pending old.past) ∷ [], sym more);
+  begun = prefix_trans b.proposals (overlays old.past) (overlays new.past) r.begun (laid ∷ [], sym more);
   whole = λ e. absurd cc;
 })
 
--- then more is accepted than it had
-pub refused_more : (old new : History) (b : Published) (spent : Bool) → overlays new.past ≡ overlays old.past ++ first_rows (pending old.past) ∷ [] → spent ≡ false → IsRoom old b spent → length b.proposals < length (overlays new.past)
-refused_more old new b spent more open_still r = omega (arith, ap length (r.whole open_still), ap length more, length-append (overlays old.past) (first_rows (pending old.past) ∷ []))
+-- then there are more overlays than it had
+pub refused_more : (old new : History) (b : Published) (spent : Bool) (laid : List Row) → overlays new.past ≡ overlays old.past ++ laid ∷ [] → spent ≡ false → IsRoom old b spent → length b.proposals < length (overlays new.past)
+refused_more old new b spent laid more open_still r = omega (arith, ap length (r.whole open_still), ap length more, length-append (overlays old.past) (laid ∷ []))
 
 -- a course that met a full journal left it full
 pub work_full : {E : Type 0} (r : Result Going E) (number : ℕ) (work : Work) (old new : WorldView)
@@ -105,9 +104,9 @@ work_full (Ok going) number work old new ok fits legal =
     λ e. let full = ran.full (ap (λ (course : Course). course.stopped) ok ∙ e) in omega (arith, within, full, ap (λ (course : Course). length course.past) ok)
 work_full (Err e) number work old new ok fits legal = tt
 
--- the rows that a check decides fit
+-- the rows that may be published fit
 pub rows_fit : (g h : Group) (d : Bool) (past : List Entry) (rows kept : List Row) → h ≡ g → d ≡ true → (d ≡ true → kept ≡ first_rows (pending past)) → rows ≡ kept → IsLegal g past → All (RowFits h) rows
-rows_fit g h d past rows kept same decides are is legal = rw (same, is, are decides) (next_fits g past legal)
+rows_fit g h d past rows kept same may are is legal = rw (same, is, are may) (next_fits g past legal)
 
 -- a commit that was refused entered nothing
 pub commit_part : {T E : Type 0} (r : Result T E) (number : ℕ) (work : Work) (judged : Bor JudgedView) (old new : WorldView) → work ≡ Commit judged → OnErr r (new.history ≡ old.history) → OnErr r (IsPartOf old new (course_in number work old))
@@ -121,8 +120,8 @@ commit_part (Err e) number work judged old new is err =
     subst (λ (w : Work). IsPartOf old new (course_in number w old)) (sym is) part
 
 -- there are no more versions than entries, so there is a number for the next one
-pub next_few : (g : Group) (old new : History) (b : Published) (spent : Bool) → overlays new.past ≡ overlays old.past ++ first_rows (pending old.past) ∷ [] → IsLegal g new.past → spent ≡ false → IsRoom old b spent → length b.proposals + 1 < 2 ^ 32
-next_few g old new b spent more legal open_still r =
+pub next_few : (g : Group) (old new : History) (b : Published) (spent : Bool) (laid : List Row) → overlays new.past ≡ overlays old.past ++ laid ∷ [] → IsLegal g new.past → spent ≡ false → IsRoom old b spent → length b.proposals + 1 < 2 ^ 32
+next_few g old new b spent laid more legal open_still r =
     let few : length (overlays new.past) ≤ length new.past = versions_few new.past in
     let within = legal_within g new.past legal in
-    omega (arith, few, within, ap length (r.whole open_still), ap length more, length-append (overlays old.past) (first_rows (pending old.past) ∷ []))
+    omega (arith, few, within, ap length (r.whole open_still), ap length more, length-append (overlays old.past) (laid ∷ []))

@@ -1,8 +1,10 @@
 -- What the holds of a round leave together: a look that lists the entities that are not settled, their turns, and a look behind them.
 use Rattle.std.proofs.Common.{◌≡◌, ℕ, ◌*◌, ◌≤◌, List, length, ap, sym, subst, arith}
+use Rattle.std.specs.Prelude.{Result, IfOk}
 use Rattle.st_net.specs.declared.entity.Entity.{Entity}
 use Rattle.st_net.specs.Groups.{Group}
 use Rattle.st_net.specs.InOrder.{entities_of}
+use Rattle.st_event.specs.History.{History}
 use Rattle.st_wire.specs.declared.line.WireLine.{WireLine}
 use Rattle.st_world.specs.Rounds.{unsettled}
 use Rattle.st_service.specs.declared.work.Part.{Part}
@@ -52,3 +54,8 @@ round_full part g lines p number es before f after was here now same look list t
     let own : ToFull part g lines number es f here after now = subst (λ (n : ℕ). ToFull part g lines n es f here after now) same t in
     let listed : ToFull part g lines number (unsettled g (past_in f)) f here after now = subst (λ (l : List Entity). ToFull part g lines number l f here after now) list own in
     (f, look.0, subst (λ (l : List ℕ). ToFull part g lines number (unsettled g (past_in f)) f l after now) (same_mine before f was here look) listed)
+
+-- what a room lists is listed of the front that a pass is taught
+pub unsettled_taught : {T E : Type 0} (r : Result T E) (items : T → List Entity) (g : Group) (h : History) (front : List Made) → IfOk r (λ x. items x ≡ unsettled h.group h.past) → past_in front ≡ h.past → h.group ≡ g
+    → IfOk r (λ x. items x ≡ unsettled g (past_in front))
+unsettled_taught r items g h front list journal same = subst (λ (k : Group). IfOk r (λ x. items x ≡ unsettled k (past_in front))) same (subst (λ past. IfOk r (λ x. items x ≡ unsettled h.group past)) (sym journal) list)

@@ -5,7 +5,7 @@ use Rattle.std.specs.Prelude.{Option, Some, None, slice_get}
 use Rattle.std.specs.Option.{option_or}
 use mathlib.Core.List.{IsPrefix}
 use Rattle.st_event.specs.declared.journal.Entry.{Entry}
-use Rattle.st_event.proofs.Prefixes.{prefix_shorter, prefix_length}
+use Rattle.st_event.proofs.Prefixes.{prefix_length}
 use Rattle.st_service.specs.declared.line.Batch.{Batch}
 use Rattle.st_service.specs.Lines.{flat, tagged, numbers}
 use Rattle.st_service.specs.Made.{Made}
@@ -74,10 +74,10 @@ last_next es i e last next low is was now =
     now ∙ ap (option_or (ticket_in e.reply)) was ∙ sym (last_more (take i es) e) ∙ ap last_ticket (sym more)
 
 -- with a batch made at the end, by one that had seen less
-pub made_latest : (number : ℕ) (old now : List Batch) (mine : List ℕ) (es : List Entry) (from : ℕ) (mid : List Batch) → IsPrefix old now → length old ≤ length mid → length (flat mid) ≡ from → now ≡ mid ++ record { by = number; entries = es } ∷ []
+pub made_latest : (number : ℕ) (old mid now : List Batch) (mine : List ℕ) (es : List Entry) (from : ℕ) → IsPrefix old mid → length (flat mid) ≡ from → now ≡ mid ++ record { by = number; entries = es } ∷ []
     → ((k : ℕ) → k < length mine → get_or mine k 0 < length (flat old)) → latest_in (flat now) (mine ++ numbers from (length es)) ≡ option_or (last_ticket es) (latest_in (flat now) mine)
-made_latest number old now mine es from mid q le len is within =
-    let p = flat_prefix old mid (prefix_shorter old mid now q (record { by = number; entries = es } ∷ [], sym is) le) in
+made_latest number old mid now mine es from q len is within =
+    let p = flat_prefix old mid q in
     let low : (k : ℕ) → k < length mine → get_or mine k 0 < length (flat mid) = λ k lt. let a = within k lt in let b = prefix_length (flat old) (flat mid) p in omega (arith, a, b) in
     let log : flat mid ++ tagged number es ≡ flat now = sym (ap flat is ∙ flat_one mid (record { by = number; entries = es })) in
     let more : latest_in (flat now) (mine ++ numbers from (length es)) ≡ option_or (last_ticket es) (latest_in (flat mid) mine) =

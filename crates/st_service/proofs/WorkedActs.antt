@@ -37,7 +37,7 @@ use Rattle.st_service.specs.Made.{Made, past_in}
 use Rattle.st_service.specs.Passes.{Holder, no_reader, Reads, IsTaught}
 use Rattle.st_service.specs.Puts.{Enters}
 use Rattle.st_service.specs.Shares.{turn_share, round_share, act_share, check_share, work_share}
-use Rattle.st_service.specs.Works.{IsDecided, IsGiven, is_decided, part_of, check_course, course_at, is_of_one_hold, MayDo, WorkFits, act_decides, decides}
+use Rattle.st_service.specs.Works.{IsDecided, IsGiven, is_decided, part_of, check_course, course_at, is_of_one_hold, MayDo, WorkFits, act_may_overlay, may_overlay}
 use Rattle.st_service.proofs.Lines.{length_tagged, length_numbers}
 use Rattle.st_service.proofs.WorkedJournals.{small, a1, app, usual, firmware, made, then_by, proposed, decided, turned}
 use Rattle.st_service.proofs.WorkedChains.{as_many_as_asked, not_a_round_less, checked, one_check}
@@ -135,17 +135,17 @@ course_of_a_lock = refl
 one_hold : map is_of_one_hold each_act ≡ true ∷ false ∷ false ∷ true ∷ true ∷ false ∷ false ∷ true ∷ true ∷ []
 one_hold = refl
 
-makes_checks : map act_decides each_act ≡ true ∷ false ∷ false ∷ false ∷ false ∷ false ∷ false ∷ false ∷ false ∷ []
-makes_checks = refl
+overlaying_acts : map act_may_overlay each_act ≡ true ∷ false ∷ false ∷ false ∷ false ∷ false ∷ false ∷ false ∷ false ∷ []
+overlaying_acts = refl
 
-deciding_works : (decides (Turn Whole a1) ≡ false) × (decides (Turn Update a1) ≡ false)
-deciding_works = (refl, refl)
+overlaying_works : (may_overlay (Turn Whole a1) ≡ false) × (may_overlay (Turn Update a1) ≡ false)
+overlaying_works = (refl, refl)
 
-a_commit_decides : (judged : Bor JudgedView) → decides (Commit judged) ≡ true
-a_commit_decides judged = refl
+a_commit_overlays : (judged : Bor JudgedView) → may_overlay (Commit judged) ≡ true
+a_commit_overlays judged = refl
 
-decides_as_its_act : (act : Bor Act) → decides (OneAct act) ≡ act_decides act.now
-decides_as_its_act act = refl
+overlays_as_its_act : (act : Bor Act) → may_overlay (OneAct act) ≡ act_may_overlay act.now
+overlays_as_its_act act = refl
 
 -- a turn of an entity of the group, any check, and an act that fits and needs one hold
 pub turn_fits : WorkFits (Turn Whole a1) small

@@ -72,19 +72,19 @@ MayDo (OneAct act) past = Unit {0}
 MayDo (Commit judged) past = MayCommit past judged.now.ticket
 MayDo (Turn part entity) past = Unit {0}
 
--- an act that may make a check, and a work
-abbrev pub act_decides : Act → Bool
-act_decides (Propose n rows) = true
-act_decides (Await n) = false
-act_decides (Settle n rounds) = false
-act_decides (Lock n entity prio) = false
-act_decides (Unlock n entity prio) = false
-act_decides (Read n entity var) = false
-act_decides (ReadAt n version entity var) = false
-act_decides (Fail n entity health rows) = false
-act_decides (Poll n entity) = false
+-- an act that may make an entry by which the target is overlaid, as a check may be, and a work
+abbrev pub act_may_overlay : Act → Bool
+act_may_overlay (Propose n rows) = true
+act_may_overlay (Await n) = false
+act_may_overlay (Settle n rounds) = false
+act_may_overlay (Lock n entity prio) = false
+act_may_overlay (Unlock n entity prio) = false
+act_may_overlay (Read n entity var) = false
+act_may_overlay (ReadAt n version entity var) = false
+act_may_overlay (Fail n entity health rows) = false
+act_may_overlay (Poll n entity) = false
 
-abbrev pub decides : Work → Bool
-decides (OneAct act) = act_decides act.now
-decides (Commit judged) = true
-decides (Turn part entity) = false
+abbrev pub may_overlay : Work → Bool
+may_overlay (OneAct act) = act_may_overlay act.now
+may_overlay (Commit judged) = true
+may_overlay (Turn part entity) = false

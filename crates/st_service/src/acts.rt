@@ -120,7 +120,7 @@ impl<J: Naming, L: Ledger, H: Wait + Drop> Service<J, L, H> {
         ensures reads { OnOk result (IsTaught pass.new group) }
         ensures err { OnErr result (pass.new.log ≡ pass.old.log) }
     {
-        let room = self.room_at(rt, group)?;
-        pass.read_at_in(&room, version, entity, var)
+        let mut room = self.room_at(rt, group)?;
+        pass.read_at_in(&mut room, version, entity, var)
     }
 }

@@ -48,22 +48,22 @@ fn checked_by(committed: &Committed) -> Checked
 /// whatever else is pending.
 fn begin_for_in<J: Naming, L: Ledger, H: Wait + Drop>(
     pass: &mut Pass<J, L>,
-    room: &Locked<J, L, H>,
+    room: &mut Locked<J, L, H>,
     ticket: u32,
 ) -> Result<Begin, AllocError>
-    requires room { room.now.group < length pass.old.fronts }
-    requires given { IsGiven ticket (past_in (front_at pass.old.fronts room.now.group)) }
-    ensures kept { Kept pass.old pass.new room.now.group 0 }
+    requires room { room.old.group < length pass.old.fronts }
+    requires given { IsGiven ticket (past_in (front_at pass.old.fronts room.old.group)) }
+    ensures kept { Kept pass.old pass.new room.old.group 0 }
     ensures log { pass.new.log ≡ pass.old.log }
-    ensures begins { IfOk result (BeginsFor ticket (J.group room.now.group) (past_in (front_at pass.new.fronts room.now.group))) }
-    ensures reads { IfOk result (λ _. IsTaught pass.new room.now.group) }
+    ensures begins { IfOk result (BeginsFor ticket (J.group room.old.group) (past_in (front_at pass.new.fronts room.old.group))) }
+    ensures reads { IfOk result (λ _. IsTaught pass.new room.old.group) }
 {
+    pass.look_in(room)?;
     room.room.is_legal();
     if room.room.is_decided(ticket) {
-        pass.look_in(room)?;
         return Ok(Begin::Idle);
     }
-    pass.begin_in(room)
+    room.room.begin_check()
 }
 
 impl<J: Naming, L: Ledger, H: Wait + Drop> Service<J, L, H> {
@@ -83,8 +83,8 @@ impl<J: Naming, L: Ledger, H: Wait + Drop> Service<J, L, H> {
         ensures begins { IfOk result (BeginsFor ticket (J.group group) (past_in (front_at pass.new.fronts group))) }
         ensures reads { IfOk result (λ _. IsTaught pass.new group) }
     {
-        let room = self.room_at(rt, group)?;
-        begin_for_in(pass, &room, ticket)
+        let mut room = self.room_at(rt, group)?;
+        begin_for_in(pass, &mut room, ticket)
     }
 
     /// Makes one check in a room off the lock, unless the ticket is decided. It may wait for the room, and for readers.

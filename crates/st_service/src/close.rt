@@ -1,6 +1,6 @@
 //! How a service is closed: each room is ended, the passes hand in what they have seen and made, and the journals are taken.
 
-ghost use Rattle.std.specs.Prelude.{ℕ, ◌≡◌, ◌+◌, ◌*◌, ◌<◌, ◌≤◌, List, length, true, IfOk, OnOk, MatchBool, reverse, sum_by, slice_index_or};
+ghost use Rattle.std.specs.Prelude.{ℕ, ◌≡◌, ◌+◌, ◌*◌, ◌<◌, ◌≤◌, List, length, map, true, IfOk, OnOk, reverse, sum_by, slice_index_or};
 ghost use mathlib.Core.List.{IsPrefix};
 ghost use Rattle.st_net.specs.Groups.{IsSound};
 ghost use Rattle.st_event.specs.Legal.{IsLegal};
@@ -13,12 +13,13 @@ ghost use Rattle.st_service.specs.Made.{Made, IsMine, past_in};
 use crate::ended::Ended;
 use crate::line::Batch;
 use crate::locked::Locked;
+use crate::makers::Makers;
 use crate::naming::Naming;
 use crate::pass::Pass;
 use crate::place::Place;
-use crate::service::{Own, Service};
+use crate::service::{Own, Service, cannot_be};
 use st_event::{Journal, Log as AppLog, LogEntry};
-use st_line::Log;
+use st_line::Writer;
 use st_net::{AppId, Items};
 use std::alloc::{AllocError, Global};
 use std::marker::PhantomData;
@@ -37,13 +38,11 @@ pub struct Closed {
 pub(crate) struct Shut<J: Naming, H: Wait + Drop> {
     pub group: usize,
     pub ended: Ended<H>,
-    pub batches: u64,
-    pub seen: Log<Batch>,
+    pub line: Writer<Batch>,
     pub of: PhantomData<J>,
-    pub ghost named: { seen.book ≡ J.book group },
-    pub ghost counted: { batches ≡ length seen.log },
-    pub ghost kept: { past_in (flat seen.log) ≡ ended.history.past },
-    pub ghost asked: { all_asked (flat seen.log) ≡ true },
+    pub ghost named: { line.book ≡ J.book group },
+    pub ghost kept: { past_in (flat line.log) ≡ ended.history.past },
+    pub ghost asked: { all_asked (flat line.log) ≡ true },
     pub ghost group_is: { ended.history.group ≡ J.group group },
     pub ghost board_is: { ended.published.book ≡ J.board group },
 }
@@ -70,8 +69,8 @@ impl<J: Naming, L: Ledger, H: Wait + Drop> Service<J, L, H> {
             passes: _,
         } = self;
         let Own { share: mut own } = own.into_inner();
-        let shut = shut_all(alloc, rooms, &mut own)?;
-        let logs = hand_in_all(alloc, passes, &shut, apps, &mut own)?;
+        let mut shut = shut_all(alloc, rooms, &mut own)?;
+        let logs = hand_in_all(alloc, passes, &mut shut, apps, &mut own)?;
         total.audit(&mut own);
         let journals = take_journals(alloc, shut)?;
         Ok(Closed { journals, logs })
@@ -87,7 +86,7 @@ fn shut_all<J: Naming, L: Ledger, H: Wait + Drop>(
     ensures count { IfOk result (λ shut. length shut.items ≡ length rooms.items) }
     ensures groups { IfOk result (λ shut. (k : ℕ) (d : _) → k < length shut.items → (slice_index_or shut.items k d).group ≡ k) }
     ensures parts { OnOk result (own.new.parts ≡ own.old.parts + length rooms.items) }
-    ensures units { IfOk result (λ shut. own.new.amount + sum_by (λ s. length (flat s.seen.log)) shut.items ≡ own.old.amount + 200000 * length rooms.items) }
+    ensures units { IfOk result (λ shut. own.new.amount + sum_by (λ s. length (flat s.line.log)) shut.items ≡ own.old.amount + 200000 * length rooms.items) }
 {
     let mut shut = Vec::new(alloc);
     for room in rooms {
@@ -97,7 +96,7 @@ fn shut_all<J: Naming, L: Ledger, H: Wait + Drop>(
     Ok(shut)
 }
 
-/// Ends the room of this number, which is not spent, and takes its units back.
+/// Ends the room of this number, and takes its units back. At `Err`, as where it is spent, the room is given up.
 fn shut_one<J: Naming, L: Ledger, H: Wait + Drop>(
     alloc: Global,
     locked: Locked<J, L, H>,
@@ -106,43 +105,49 @@ fn shut_one<J: Naming, L: Ledger, H: Wait + Drop>(
 ) -> Result<Shut<J, H>, AllocError>
     ensures group { IfOk result (λ shut. shut.group ≡ number) }
     ensures parts { OnOk result (own.new.parts ≡ own.old.parts + 1) }
-    ensures units { IfOk result (λ shut. own.new.amount + length (flat shut.seen.log) ≡ own.old.amount + 200000) }
+    ensures units { IfOk result (λ shut. own.new.amount + length (flat shut.line.log) ≡ own.old.amount + 200000) }
 {
     let Locked {
         group,
         room,
         makers,
     } = locked;
-    if group != number || room.is_spent() {
+    if group != number {
         drop((room, makers));
-        return Err(AllocError);
+        return Err(cannot_be());
     }
-    let ended = Ended::new(room, alloc);
-    own.merge(makers.units);
-    let ended = ended?;
-    Ok(Shut {
-        group,
-        ended,
-        batches: makers.batches,
-        seen: makers.line.log(),
-        of: PhantomData,
-    })
+    let Makers { line, units, .. } = makers;
+    own.merge(units);
+    match Ended::new(room, alloc) {
+        Ok(ended) => Ok(Shut {
+            group,
+            ended,
+            line,
+            of: PhantomData,
+        }),
+        Err(error) => {
+            drop(line);
+            Err(error)
+        }
+    }
 }
 
 /// Takes in all passes, and gives the logs of the applications, which come first.
 fn hand_in_all<J: Naming, L: Ledger, H: Wait + Drop>(
     alloc: Global,
     passes: Vec<Pass<J, L>>,
-    shut: &[Shut<J, H>],
+    shut: &mut [Shut<J, H>],
     apps: u32,
     own: &mut Share<L>,
 ) -> Result<Vec<AppLog>, AllocError>
     requires numbers { (n : ℕ) (p : _) → n < length passes.items → (slice_index_or passes.items n p).number ≡ n }
-    requires rooms { (n : ℕ) (p : _) → n < length passes.items → length (slice_index_or passes.items n p).fronts ≡ length shut.now }
-    requires groups { (k : ℕ) (d : _) → k < length shut.now → (slice_index_or shut.now k d).group ≡ k }
+    requires rooms { (n : ℕ) (p : _) → n < length passes.items → length (slice_index_or passes.items n p).fronts ≡ length shut.old }
+    requires groups { (k : ℕ) (d : _) → k < length shut.old → (slice_index_or shut.old k d).group ≡ k }
     requires apps { apps ≤ length passes.items }
-    ensures stands { IfOk result (λ _. (n : ℕ) (p : _) (k : ℕ) (d : _) → n < length passes.items → k < length shut.now → Stands (slice_index_or passes.items n p) (flat (slice_index_or shut.now k d).seen.log) k) }
-    ensures lengths { IfOk result (λ _. (n : ℕ) (p : _) → n < length passes.items → length (slice_index_or passes.items n p).mines ≡ length shut.now) }
+    ensures groups { map (λ s. s.group) shut.new ≡ map (λ s. s.group) shut.old }
+    ensures lines { map (λ s. s.line) shut.new ≡ map (λ s. s.line) shut.old }
+    ensures stands { IfOk result (λ _. (n : ℕ) (p : _) (k : ℕ) (d : _) → n < length passes.items → k < length shut.old → Stands (slice_index_or passes.items n p) (flat (slice_index_or shut.old k d).line.log) k) }
+    ensures lengths { IfOk result (λ _. (n : ℕ) (p : _) → n < length passes.items → length (slice_index_or passes.items n p).mines ≡ length shut.old) }
     ensures parts { OnOk result (own.new.parts ≡ own.old.parts + length passes.items) }
     ensures amount { OnOk result (own.new.amount ≡ own.old.amount + sum_by entered passes.items) }
     ensures logs { IfOk result (λ logs. length logs.items ≡ apps) }
@@ -151,7 +156,7 @@ fn hand_in_all<J: Naming, L: Ledger, H: Wait + Drop>(
     let mut logs = Vec::new(alloc);
     for pass in passes {
         let number = pass.number();
-        let entries = hand_in(pass, shut, own)?;
+        let entries = hand_in(pass, shut, own);
         if number < apps {
             logs.push(AppLog {
                 app: AppId(number),
@@ -162,16 +167,18 @@ fn hand_in_all<J: Naming, L: Ledger, H: Wait + Drop>(
     Ok(logs)
 }
 
-/// Takes in a pass, and gives its log. It did not where a journal does not go on from what the pass has seen, as each does.
+/// Takes in a pass, and gives its log.
 fn hand_in<J: Naming, L: Ledger, H: Wait + Drop>(
     pass: Pass<J, L>,
-    shut: &[Shut<J, H>],
+    shut: &mut [Shut<J, H>],
     own: &mut Share<L>,
-) -> Result<Items<LogEntry>, AllocError>
-    requires rooms { length pass.fronts ≡ length shut.now }
-    requires groups { (k : ℕ) (d : _) → k < length shut.now → (slice_index_or shut.now k d).group ≡ k }
-    ensures log { IfOk result (λ log. log ≡ pass.log) }
-    ensures stands { IfOk result (λ _. (k : ℕ) (d : _) → k < length shut.now → Stands pass (flat (slice_index_or shut.now k d).seen.log) k) }
+) -> Items<LogEntry>
+    requires rooms { length pass.fronts ≡ length shut.old }
+    requires groups { (k : ℕ) (d : _) → k < length shut.old → (slice_index_or shut.old k d).group ≡ k }
+    ensures log { result ≡ pass.log }
+    ensures groups { map (λ s. s.group) shut.new ≡ map (λ s. s.group) shut.old }
+    ensures lines { map (λ s. s.line) shut.new ≡ map (λ s. s.line) shut.old }
+    ensures stands { (k : ℕ) (d : _) → k < length shut.old → Stands pass (flat (slice_index_or shut.old k d).line.log) k }
     ensures lengths { length pass.mines ≡ length pass.fronts }
     ensures parts { own.new.parts ≡ own.old.parts + 1 }
     ensures amount { own.new.amount ≡ own.old.amount + entered pass }
@@ -184,27 +191,21 @@ fn hand_in<J: Naming, L: Ledger, H: Wait + Drop>(
     } = pass;
     own.merge(share);
     for group in 0..shut.len() {
-        if !stands_in(&mut places[group], &shut[group]) {
-            drop((places, log));
-            return Err(AllocError);
-        }
+        stand_in(&mut places[group], &mut shut[group]);
     }
-    Ok(log)
+    log
 }
 
-/// Teaches a place what its closed room has published, and says whether the journal goes on from what the place has seen. It does not
-/// where the place has seen more than there is, as none has.
-fn stands_in<J: Naming, H: Wait + Drop>(place: &mut Place<J>, shut: &Shut<J, H>) -> bool
-    requires group { shut.now.group ≡ place.old.group }
-    ensures few { MatchBool result (place.old.batches ≤ shut.now.batches) (shut.now.batches < place.old.batches) }
-    ensures begins { MatchBool result (IsPrefix (flat place.old.seen.log) (flat shut.now.seen.log)) (Unit {0}) }
-    ensures mine { MatchBool result (IsMine place.old.number (flat shut.now.seen.log) place.old.mine.items) (Unit {0}) }
-    ensures reads { IsPrefix place.old.reader.proposals (overlays (past_in (flat shut.now.seen.log))) }
+/// Teaches a place what its closed room has published. The journal goes on from what the place has seen, as the line's writer tells.
+fn stand_in<J: Naming, H: Wait + Drop>(place: &mut Place<J>, shut: &mut Shut<J, H>)
+    requires group { shut.old.group ≡ place.old.group }
+    ensures same { (shut.new.group ≡ shut.old.group) × (shut.new.line ≡ shut.old.line) }
+    ensures begins { IsPrefix (flat place.old.seen.log) (flat shut.old.line.log) }
+    ensures mine { IsMine place.old.number (flat shut.old.line.log) place.old.mine.items }
+    ensures reads { IsPrefix place.old.reader.proposals (overlays (past_in (flat shut.old.line.log))) }
 {
-    let mut both = place.seen.again();
-    both.learn(&shut.seen);
+    shut.line.has_all(&place.seen);
     shut.ended.teach(&mut place.reader);
-    place.batches <= shut.batches
 }
 
 /// The journals of these rooms, in their order.
@@ -217,7 +218,7 @@ fn take_journals<J: Naming, H: Wait + Drop>(
     ensures count { IfOk result (λ journals. length journals.items ≡ length shut.items) }
     ensures groups { IfOk result (λ journals. (k : ℕ) (j : _) → k < length journals.items → (slice_index_or journals.items k j).group ≡ k) }
     ensures legal { IfOk result (λ journals. (k : ℕ) (j : _) → k < length journals.items → IsLegal (J.group k) (reverse (slice_index_or journals.items k j).entries) × IsSound (J.group k)) }
-    ensures entries { IfOk result (λ journals. (k : ℕ) (j : _) (d : _) → k < length journals.items → past_in (flat (slice_index_or shut.items k d).seen.log) ≡ reverse (slice_index_or journals.items k j).entries) }
+    ensures entries { IfOk result (λ journals. (k : ℕ) (j : _) (d : _) → k < length journals.items → past_in (flat (slice_index_or shut.items k d).line.log) ≡ reverse (slice_index_or journals.items k j).entries) }
 {
     let mut journals = Vec::new(alloc);
     for room in shut {

@@ -1,7 +1,7 @@
 //! A room whose front is ended: nothing more is entered or published. A service that closes teaches its readers from here, and takes the
 //! journal.
 
-ghost use Rattle.std.specs.Prelude.{◌≡◌, true, false, IfOk, reverse};
+ghost use Rattle.std.specs.Prelude.{◌≡◌, true, false, IfOk, OnOk, reverse};
 ghost use mathlib.Core.List.{IsPrefix};
 ghost use Rattle.st_net.specs.Groups.{IsSound};
 ghost use Rattle.st_event.specs.Legal.{IsLegal};
@@ -35,17 +35,21 @@ impl<H: Wait + Drop> Model for Ended<H> {
 }
 
 impl<H: Wait + Drop> Ended<H> {
-    /// Ends what a room publishes. At `Err` the room is given up.
+    /// Ends what a room publishes. At `Err`, as where it is spent, the room is given up.
     pub fn new(room: Room<H>, alloc: Global) -> Result<Ended<H>, AllocError>
-        requires { room.spent ≡ false }
+        ensures open { OnOk result (room.spent ≡ false) }
         ensures history { IfOk result (λ ended. ended.history ≡ room.history) }
         ensures book { IfOk result (λ ended. ended.published.book ≡ room.published.book) }
     {
         let Room {
             world,
             mut held,
-            ..
+            spent,
         } = room;
+        if spent {
+            drop((world, held));
+            return Err(AllocError);
+        }
         match held.board.end(&held.rt, alloc) {
             Ok(note) => Ok(Ended { world, held, note }),
             Err(error) => {

@@ -1,14 +1,10 @@
 //! What lies under a room's lock: the room, and the line that tells which pass made each entry of its journal. Every hold of the lock is a
 //! call of this type, which is lent a pass's place.
 
-ghost use Rattle.std.specs.Prelude.{◌≡◌, ◌⊎◌, ◌+◌, ◌<◌, true, false, ◌≤◌, length, IfOk, IsErr, OnOk, OnErr, MatchBool};
+ghost use Rattle.std.specs.Prelude.{◌≡◌, ◌+◌, ◌<◌, true, false, length, IfOk, IsErr, OnOk, OnErr};
 ghost use mathlib.Core.List.{IsPrefix};
-ghost use Rattle.st_net.specs.Groups.{IsEntityOf};
 ghost use Rattle.st_event.specs.Legal.{IsLegal};
 ghost use Rattle.st_event.specs.Proposals.{overlays};
-ghost use Rattle.st_world.specs.Acts.{seen_at as seen_at_lem};
-ghost use Rattle.st_world.specs.Commits.{Begins};
-ghost use Rattle.st_world.specs.Rounds.{unsettled as unsettled_lem};
 ghost use Rattle.st_service.specs.Kept.{Grows};
 ghost use Rattle.st_service.specs.Lines.{flat};
 ghost use Rattle.st_service.specs.Made.{past_in};
@@ -22,9 +18,6 @@ use crate::naming::Naming;
 use crate::place::Place;
 use crate::room::Room;
 use crate::work::Work;
-use st_control::Begin;
-use st_event::LogSaw;
-use st_net::{Entity, Var};
 use st_world::Going;
 use std::alloc::{AllocError, Global};
 use std::sync::Wait;
@@ -45,26 +38,6 @@ pub struct Locked<J: Naming, L: Ledger, H: Wait + Drop> {
 }
 
 impl<J: Naming, L: Ledger, H: Wait + Drop> Locked<J, L, H> {
-    /// Whether the journal goes on from what a place has seen of it, as it does.
-    fn goes_on_from(&self, place: &Place<J>) -> bool
-        requires { place.now.group ≡ self.now.group }
-        ensures few { MatchBool result (place.now.batches ≤ self.now.makers.batches) (self.now.makers.batches < place.now.batches) }
-        ensures begins { MatchBool result (IsPrefix (flat place.now.seen.log) (flat self.now.makers.line.log)) (Unit {0}) }
-    {
-        // In proofs alone: of two that saw one line, one has seen the beginning of what the other has.
-        let mut both = place.seen.again();
-        both.learn(&self.makers.line.log());
-        place.batches <= self.makers.batches
-    }
-
-    /// Whether nothing more is entered here, or the place has seen more than there is, as none has.
-    fn is_shut_to(&self, place: &Place<J>) -> bool
-        requires { place.now.group ≡ self.now.group }
-        ensures { MatchBool result ((self.now.room.spent ≡ true) ⊎ (self.now.makers.batches < place.now.batches)) ((self.now.room.spent ≡ false) × (place.now.batches ≤ self.now.makers.batches) × IsPrefix (flat place.now.seen.log) (flat self.now.makers.line.log)) }
-    {
-        self.room.is_spent() || !self.goes_on_from(place)
-    }
-
     /// Does a work for a pass, and teaches it the journal and what is published. At `Full` an event met a full journal; then, and at
     /// `Err`, a part of the events was entered, from the first, and stands. What was entered is the pass's, whatever the answer. A room
     /// that is spent stays as it is.
@@ -93,11 +66,10 @@ impl<J: Naming, L: Ledger, H: Wait + Drop> Locked<J, L, H> {
         ensures reader { IsPrefix place.old.reader.proposals place.new.reader.proposals }
         ensures reads { IfOk result (λ _. IsPrefix (overlays (past_in (flat place.new.seen.log))) place.new.reader.proposals) }
     {
-        if self.is_shut_to(place) {
-            return Err(AllocError);
-        }
+        self.room.still_open()?;
         // Before the world: what it enters has to be numbered.
         place.mine.reserve(self.room.most_of(work))?;
+        self.makers.has_all(place);
         let from = self.room.count();
         // No `?` here: at `Err` too what was entered is the pass's.
         let going = self.room.work(alloc, place.number, work);
@@ -107,78 +79,23 @@ impl<J: Naming, L: Ledger, H: Wait + Drop> Locked<J, L, H> {
         self.room.tell(&mut place.reader, going)
     }
 
-    /// Teaches a pass the journal and what is published.
-    pub fn look(&self, place: &mut Place<J>) -> Result<(), AllocError>
-        requires group { place.old.group ≡ self.now.group }
+    /// Teaches a pass the journal and what is published. The room stays as it is.
+    pub fn look(&mut self, place: &mut Place<J>) -> Result<(), AllocError>
+        requires group { place.old.group ≡ self.old.group }
+        ensures room { (self.new.group ≡ self.old.group) × (self.new.room ≡ self.old.room) }
         ensures place { (place.new.group ≡ place.old.group) × (place.new.number ≡ place.old.number) × (place.new.mine ≡ place.old.mine) }
         ensures seen { IsPrefix (flat place.old.seen.log) (flat place.new.seen.log) }
-        ensures journal { IfOk result (λ _. past_in (flat place.new.seen.log) ≡ self.now.room.history.past) }
-        ensures open { OnOk result (self.now.room.spent ≡ false) }
-        ensures legal { IsLegal (J.group self.now.group) (past_in (flat place.old.seen.log)) → IsLegal (J.group self.now.group) (past_in (flat place.new.seen.log)) }
+        ensures journal { OnOk result (past_in (flat place.new.seen.log) ≡ self.new.room.history.past) }
+        ensures open { OnOk result (self.old.room.spent ≡ false) }
+        ensures legal { IsLegal (J.group self.old.group) (past_in (flat place.old.seen.log)) → IsLegal (J.group self.old.group) (past_in (flat place.new.seen.log)) }
         ensures reader { IsPrefix place.old.reader.proposals place.new.reader.proposals }
-        ensures reads { IfOk result (λ _. IsPrefix (overlays (past_in (flat place.new.seen.log))) place.new.reader.proposals) }
+        ensures reads { OnOk result (IsPrefix (overlays (past_in (flat place.new.seen.log))) place.new.reader.proposals) }
     {
-        if self.is_shut_to(place) {
-            return Err(AllocError);
-        }
+        self.room.still_open()?;
         self.room.is_legal();
-        place.look(&self.makers.line.log(), self.makers.batches);
+        self.makers.has_all(place);
+        self.makers.show(place);
         place.reader.learn(&self.room.note(), self.room.target());
         Ok(())
-    }
-
-    /// What the oldest proposal is judged on, by the journal that a pass is taught. `Idle` where none is pending.
-    pub fn begin(&self, place: &mut Place<J>) -> Result<Begin, AllocError>
-        requires group { place.old.group ≡ self.now.group }
-        ensures place { (place.new.group ≡ place.old.group) × (place.new.number ≡ place.old.number) × (place.new.mine ≡ place.old.mine) }
-        ensures seen { IsPrefix (flat place.old.seen.log) (flat place.new.seen.log) }
-        ensures begins { IfOk result (Begins (record { group = J.group self.now.group; past = past_in (flat place.new.seen.log) })) }
-        ensures open { OnOk result (self.now.room.spent ≡ false) }
-        ensures journal { IfOk result (λ _. past_in (flat place.new.seen.log) ≡ self.now.room.history.past) }
-        ensures legal { IsLegal (J.group self.now.group) (past_in (flat place.old.seen.log)) → IsLegal (J.group self.now.group) (past_in (flat place.new.seen.log)) }
-        ensures reader { IsPrefix place.old.reader.proposals place.new.reader.proposals }
-        ensures reads { IfOk result (λ _. IsPrefix (overlays (past_in (flat place.new.seen.log))) place.new.reader.proposals) }
-    {
-        match self.look(place) {
-            Ok(()) => self.room.begin_check(),
-            Err(error) => Err(error),
-        }
-    }
-
-    /// The entities that are not settled, in order, as a pass sees by the journal that it is taught.
-    pub fn unsettled(&self, place: &mut Place<J>) -> Result<Vec<Entity>, AllocError>
-        requires group { place.old.group ≡ self.now.group }
-        ensures place { (place.new.group ≡ place.old.group) × (place.new.number ≡ place.old.number) × (place.new.mine ≡ place.old.mine) }
-        ensures seen { IsPrefix (flat place.old.seen.log) (flat place.new.seen.log) }
-        ensures entities { IfOk result (λ entities. entities.items ≡ unsettled_lem (J.group self.now.group) (past_in (flat place.new.seen.log))) }
-        ensures open { OnOk result (self.now.room.spent ≡ false) }
-        ensures legal { IsLegal (J.group self.now.group) (past_in (flat place.old.seen.log)) → IsLegal (J.group self.now.group) (past_in (flat place.new.seen.log)) }
-        ensures reader { IsPrefix place.old.reader.proposals place.new.reader.proposals }
-        ensures reads { IfOk result (λ _. IsPrefix (overlays (past_in (flat place.new.seen.log))) place.new.reader.proposals) }
-    {
-        self.look(place)?;
-        self.room.unsettled()
-    }
-
-    /// What is seen of a variable at a version of the target, by the journal that a pass is taught.
-    pub fn seen_at(
-        &self,
-        place: &mut Place<J>,
-        version: u32,
-        entity: Entity,
-        var: Var,
-    ) -> Result<LogSaw, AllocError>
-        requires group { place.old.group ≡ self.now.group }
-        requires fits { IsEntityOf (J.group self.now.group) entity }
-        ensures place { (place.new.group ≡ place.old.group) × (place.new.number ≡ place.old.number) × (place.new.mine ≡ place.old.mine) }
-        ensures seen { IsPrefix (flat place.old.seen.log) (flat place.new.seen.log) }
-        ensures saw { IfOk result (λ saw. saw ≡ seen_at_lem (record { group = J.group self.now.group; past = past_in (flat place.new.seen.log) }) version entity var) }
-        ensures open { OnOk result (self.now.room.spent ≡ false) }
-        ensures legal { IsLegal (J.group self.now.group) (past_in (flat place.old.seen.log)) → IsLegal (J.group self.now.group) (past_in (flat place.new.seen.log)) }
-        ensures reader { IsPrefix place.old.reader.proposals place.new.reader.proposals }
-        ensures reads { IfOk result (λ _. IsPrefix (overlays (past_in (flat place.new.seen.log))) place.new.reader.proposals) }
-    {
-        self.look(place)?;
-        Ok(self.room.seen_at(version, entity, var))
     }
 }

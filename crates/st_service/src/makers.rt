@@ -2,6 +2,7 @@
 
 ghost use Rattle.std.specs.Prelude.{◌≡◌, ◌+◌, ◌<◌, ◌≤◌, ◌++◌, ◌∷◌, [], length, true};
 ghost use Rattle.std.specs.Vec.{vec_len, vec_capacity};
+ghost use mathlib.Core.List.{IsPrefix};
 ghost use Rattle.st_service.specs.Asked.{all_asked, all_own};
 ghost use Rattle.st_service.specs.Lines.{flat};
 ghost use Rattle.st_service.specs.Puts.{Puts};
@@ -18,13 +19,10 @@ use std::sync::ledger::{Ledger, Share};
 #[derive(Drop)]
 pub struct Makers<J: Naming, L: Ledger> {
     pub group: usize,
-    pub batches: u64,
     pub line: Writer<Batch>,
     pub units: Share<L>,
     pub of: PhantomData<J>,
     pub ghost named: { line.book ≡ J.book group },
-    pub ghost counted: { batches ≡ length line.log },
-    pub ghost few: { batches ≤ length (flat line.log) },
     pub ghost asked: { all_asked (flat line.log) ≡ true },
     pub ghost part: { units.parts ≡ 1 },
 }
@@ -40,15 +38,34 @@ impl<J: Naming, L: Ledger> Makers<J, L> {
     {
         Makers {
             group,
-            batches: 0,
             line,
             units,
             of: PhantomData,
         }
     }
 
-    /// Enters what a pass has made at the end of the journal, hands over its units, and teaches the pass the journal.
-    pub fn enter(
+    /// In proofs alone: whatever a pass has seen of the journal is of this one's beginning. Nothing changes.
+    pub fn has_all(&mut self, place: &Place<J>)
+        requires group { place.now.group ≡ self.old.group }
+        ensures same { (self.new.group ≡ self.old.group) × (self.new.line ≡ self.old.line) × (self.new.units ≡ self.old.units) }
+        ensures begins { IsPrefix place.now.seen.log self.old.line.log }
+    {
+        self.line.has_all(&place.seen);
+    }
+
+    /// Teaches a pass the journal.
+    pub fn show(&self, place: &mut Place<J>)
+        requires group { place.old.group ≡ self.now.group }
+        requires behind { IsPrefix place.old.seen.log self.now.line.log }
+        ensures place { (place.new.group ≡ place.old.group) × (place.new.number ≡ place.old.number) × (place.new.mine ≡ place.old.mine) × (place.new.reader ≡ place.old.reader) }
+        ensures journal { place.new.seen.log ≡ self.now.line.log }
+    {
+        place.look(&self.line.log());
+    }
+
+    /// Takes in what a room has entered for a pass at the end of the journal, which may be nothing: hands over its units, and teaches the
+    /// pass the journal.
+    pub fn take_in(
         &mut self,
         place: &mut Place<J>,
         share: &mut Share<L>,
@@ -56,9 +73,8 @@ impl<J: Naming, L: Ledger> Makers<J, L> {
         from: u32,
     )
         requires group { place.old.group ≡ self.old.group }
-        requires behind { place.old.batches ≤ self.old.batches }
+        requires behind { IsPrefix place.old.seen.log self.old.line.log }
         requires part { 0 < share.old.parts }
-        requires some { 0 < length entries.now }
         requires own { all_own place.old.number entries.now ≡ true }
         requires from { from ≡ length (flat self.old.line.log) }
         requires few { from + length entries.now ≤ 200000 }
@@ -77,38 +93,7 @@ impl<J: Naming, L: Ledger> Makers<J, L> {
             entries,
         };
         self.line.add::<Fresh, AddsBatch>(&fresh);
-        self.batches += 1;
         self.units.transfer(share, entries.len() as u64);
-        place.made(&self.line.log(), self.batches, from, entries);
-    }
-
-    /// Takes in what a room has entered for a pass behind so many entries, which may be nothing, and teaches the pass the journal.
-    pub fn take_in(
-        &mut self,
-        place: &mut Place<J>,
-        share: &mut Share<L>,
-        entries: &[Entry],
-        from: u32,
-    )
-        requires group { place.old.group ≡ self.old.group }
-        requires behind { place.old.batches ≤ self.old.batches }
-        requires part { 0 < share.old.parts }
-        requires own { all_own place.old.number entries.now ≡ true }
-        requires from { from ≡ length (flat self.old.line.log) }
-        requires few { from + length entries.now ≤ 200000 }
-        requires units { length entries.now ≤ self.old.units.amount }
-        requires spare { vec_len place.old.mine + length entries.now ≤ vec_capacity place.old.mine }
-        ensures group { self.new.group ≡ self.old.group }
-        ensures place { (place.new.group ≡ place.old.group) × (place.new.number ≡ place.old.number) × (place.new.reader ≡ place.old.reader) }
-        ensures parts { share.new.parts ≡ share.old.parts }
-        ensures units { (self.new.units.amount + length entries.now ≡ self.old.units.amount) × (share.new.amount ≡ share.old.amount + length entries.now) }
-        ensures puts { Puts place.old.number entries.now (flat self.old.line.log) (flat place.old.seen.log) place.old.mine.items (flat place.new.seen.log) place.new.mine.items }
-        ensures journal { place.new.seen.log ≡ self.new.line.log }
-    {
-        if entries.is_empty() {
-            place.look(&self.line.log(), self.batches);
-        } else {
-            self.enter(place, share, entries, from);
-        }
+        place.made(&self.line.log(), from, entries);
     }
 }

@@ -1,7 +1,7 @@
 //! A check off the lock: a basis is taken under a room's lock, judged while others hold it, and committed under it. Whoever commits first
 //! decides the ticket; the other is told by which entry.
 
-ghost use Rattle.std.specs.Prelude.{◌≡◌, ◌<◌, length, IfOk};
+ghost use Rattle.std.specs.Prelude.{◌≡◌, ◌<◌, None, length, IfOk};
 ghost use Rattle.st_control.specs.Basis.{IsJudgedOf};
 ghost use Rattle.st_world.specs.Commits.{Begins, IsBasisAt, MayCommit};
 ghost use Rattle.st_service.specs.Kept.{Kept};
@@ -54,6 +54,7 @@ fn judge_at<R: Threads + Wait + Sync, G: Gate>(
 
 /// The receipt of the first of these entries, which is a verdict, in a copy.
 fn receipt_in(alloc: Global, entries: &[Entry]) -> Result<Receipt, AllocError>
+    requires { (receipt : _) × IsVerdictOf entries.now receipt }
     ensures { IfOk result (IsVerdictOf entries.now) }
 {
     match entries.first() {
@@ -63,12 +64,13 @@ fn receipt_in(alloc: Global, entries: &[Entry]) -> Result<Receipt, AllocError>
                 ..
             },
         ) => receipt.copy(alloc),
-        _ => Err(AllocError),
+        _ => unreachable!(),
     }
 }
 
 /// What is told of a commit that had room: the entry that had decided its ticket, or the receipt of the entry that it made.
 fn told_of(alloc: Global, gone: Option<u32>, made: &[Entry]) -> Result<Committed, AllocError>
+    requires { gone ≡ None → (receipt : _) × IsVerdictOf made.now receipt }
     ensures { IfOk result (IsToldOf gone made.now) }
 {
     match gone {
@@ -130,8 +132,11 @@ impl<J: Naming, L: Ledger, H: Wait + Drop> Service<J, L, H> {
         ensures begins { IfOk result (Begins (record { group = J.group group; past = past_in (front_at pass.new.fronts group) })) }
         ensures reads { IfOk result (λ _. IsTaught pass.new group) }
     {
-        let room = self.room_at(rt, group)?;
-        pass.begin_in(&room)
+        let mut room = self.room_at(rt, group)?;
+        match pass.look_in(&mut room) {
+            Ok(()) => room.room.begin_check(),
+            Err(error) => Err(error),
+        }
     }
 
     /// Commits a ticket in a room. It may wait for the room, and for readers.

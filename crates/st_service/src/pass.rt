@@ -3,8 +3,6 @@
 ghost use Rattle.std.specs.Prelude.{ℕ, ◌≡◌, ◌+◌, ◌<◌, ◌++◌, ◌∷◌, [], length, IfOk, IfSome, OnOk, OnErr};
 ghost use Rattle.st_net.specs.Groups.{IsEntityOf};
 ghost use Rattle.st_world.specs.Acts.{seen_at as seen_at_lem};
-ghost use Rattle.st_world.specs.Commits.{Begins};
-ghost use Rattle.st_world.specs.Rounds.{unsettled as unsettled_lem};
 ghost use Rattle.st_service.specs.Kept.{Kept};
 ghost use Rattle.st_service.specs.Lines.{flat};
 ghost use Rattle.st_service.specs.Made.{past_in};
@@ -18,7 +16,6 @@ use crate::locked::Locked;
 use crate::naming::Naming;
 use crate::place::Place;
 use crate::work::Work;
-use st_control::Begin;
 use st_event::{LogEntry, LogSaw};
 use st_net::{Entity, Items, Var};
 use st_world::Going;
@@ -126,88 +123,43 @@ impl<J: Naming, L: Ledger> Pass<J, L> {
         room.work(alloc, &mut self.places[group], &mut self.share, work)
     }
 
-    /// Learns what stands in a room that is lent to it.
+    /// Learns what stands in a room that is lent to it, and stays as it is.
     pub(crate) fn look_in<H: Wait + Drop>(
         &mut self,
-        room: &Locked<J, L, H>,
+        room: &mut Locked<J, L, H>,
     ) -> Result<(), AllocError>
-        requires room { room.now.group < length self.old.fronts }
-        ensures kept { Kept self.old self.new room.now.group 0 }
+        requires room { room.old.group < length self.old.fronts }
+        ensures kept { Kept self.old self.new room.old.group 0 }
         ensures log { self.new.log ≡ self.old.log }
-        ensures journal { OnOk result (past_in (front_at self.new.fronts room.now.group) ≡ room.now.room.history.past) }
-        ensures reads { OnOk result (IsTaught self.new room.now.group) }
+        ensures journal { OnOk result (past_in (front_at self.new.fronts room.old.group) ≡ room.new.room.history.past) }
+        ensures reads { OnOk result (IsTaught self.new room.old.group) }
+        ensures room { (room.new.group ≡ room.old.group) × (room.new.room ≡ room.old.room) }
     {
-        room.look(&mut self.places[room.group])
-    }
-
-    /// What the oldest proposal is judged on in a room that is lent to it. `Idle` where none is pending.
-    pub(crate) fn begin_in<H: Wait + Drop>(
-        &mut self,
-        room: &Locked<J, L, H>,
-    ) -> Result<Begin, AllocError>
-        requires room { room.now.group < length self.old.fronts }
-        ensures kept { Kept self.old self.new room.now.group 0 }
-        ensures log { self.new.log ≡ self.old.log }
-        ensures begins { IfOk result (Begins (record { group = J.group room.now.group; past = past_in (front_at self.new.fronts room.now.group) })) }
-        ensures journal { IfOk result (λ _. past_in (front_at self.new.fronts room.now.group) ≡ room.now.room.history.past) }
-        ensures reads { IfOk result (λ _. IsTaught self.new room.now.group) }
-    {
-        room.begin(&mut self.places[room.group])
-    }
-
-    /// The entities that are not settled in a room that is lent to it, in order.
-    pub(crate) fn unsettled_in<H: Wait + Drop>(
-        &mut self,
-        room: &Locked<J, L, H>,
-    ) -> Result<Vec<Entity>, AllocError>
-        requires room { room.now.group < length self.old.fronts }
-        ensures kept { Kept self.old self.new room.now.group 0 }
-        ensures log { self.new.log ≡ self.old.log }
-        ensures entities { IfOk result (λ entities. entities.items ≡ unsettled_lem (J.group room.now.group) (past_in (front_at self.new.fronts room.now.group))) }
-        ensures reads { IfOk result (λ _. IsTaught self.new room.now.group) }
-    {
-        room.unsettled(&mut self.places[room.group])
-    }
-
-    /// What is seen of a variable at a version of the target, by a room that is lent to it.
-    fn seen_in<H: Wait + Drop>(
-        &mut self,
-        room: &Locked<J, L, H>,
-        version: u32,
-        entity: Entity,
-        var: Var,
-    ) -> Result<LogSaw, AllocError>
-        requires room { room.now.group < length self.old.fronts }
-        requires fits { IsEntityOf (J.group room.now.group) entity }
-        ensures kept { Kept self.old self.new room.now.group 0 }
-        ensures log { self.new.log ≡ self.old.log }
-        ensures saw { IfOk result (λ saw. saw ≡ seen_at_lem (record { group = J.group room.now.group; past = past_in (front_at self.new.fronts room.now.group) }) version entity var) }
-        ensures reads { IfOk result (λ _. IsTaught self.new room.now.group) }
-    {
-        room.seen_at(&mut self.places[room.group], version, entity, var)
+        let group = room.group;
+        room.look(&mut self.places[group])
     }
 
     /// Logs a variable's value at a version, or that there is none, by a room that is lent to it.
     pub(crate) fn read_at_in<H: Wait + Drop>(
         &mut self,
-        room: &Locked<J, L, H>,
+        room: &mut Locked<J, L, H>,
         version: u32,
         entity: Entity,
         var: Var,
     ) -> Result<(), AllocError>
-        requires room { (room.now.group < length self.old.fronts) × (room.now.group < 16) }
-        requires fits { IsEntityOf (J.group room.now.group) entity }
-        ensures kept { Kept self.old self.new room.now.group 0 }
-        ensures logged { OnOk result (self.new.log ≡ self.old.log ++ record { group = room.now.group; entity = entity; var = var; saw = seen_at_lem (record { group = J.group room.now.group; past = past_in (front_at self.new.fronts room.now.group) }) version entity var } ∷ []) }
-        ensures reads { OnOk result (IsTaught self.new room.now.group) }
+        requires room { (room.old.group < length self.old.fronts) × (room.old.group < 16) }
+        requires fits { IsEntityOf (J.group room.old.group) entity }
+        ensures kept { Kept self.old self.new room.old.group 0 }
+        ensures logged { OnOk result (self.new.log ≡ self.old.log ++ record { group = room.old.group; entity = entity; var = var; saw = seen_at_lem (record { group = J.group room.old.group; past = past_in (front_at self.new.fronts room.old.group) }) version entity var } ∷ []) }
+        ensures reads { OnOk result (IsTaught self.new room.old.group) }
         ensures err { OnErr result (self.new.log ≡ self.old.log) }
     {
-        let saw = self.seen_in(room, version, entity, var)?;
+        self.look_in(room)?;
         self.log.add(LogEntry {
             group: room.group as u32,
             entity,
             var,
-            saw,
+            saw: room.room.seen_at(version, entity, var),
         })
     }
 

@@ -25,14 +25,12 @@ use std::marker::PhantomData;
 pub struct Place<J: Naming> {
     pub group: usize,
     pub number: u32,
-    pub batches: u64,
     pub seen: Log<Batch>,
     pub mine: Vec<u32>,
     pub latest: Option<u32>,
     pub reader: TargetReader,
     pub of: PhantomData<J>,
     pub ghost named: { seen.book ≡ J.book group },
-    pub ghost counted: { batches ≡ length seen.log },
     pub ghost made: { IsMine number (flat seen.log) mine.items },
     pub ghost asked: { latest ≡ latest_in (flat seen.log) mine.items },
     pub ghost reads: { reader.book ≡ J.board group },
@@ -77,7 +75,6 @@ impl<J: Naming> Place<J> {
         Place {
             group,
             number,
-            batches: 0,
             seen,
             mine: Vec::new(alloc),
             latest: None,
@@ -87,29 +84,26 @@ impl<J: Naming> Place<J> {
     }
 
     /// Learns the journal as it is in its room.
-    pub fn look(&mut self, seen: &Log<Batch>, batches: u64)
+    pub fn look(&mut self, seen: &Log<Batch>)
         requires line { seen.now.book ≡ self.old.seen.book }
-        requires count { (batches ≡ length seen.now.log) × (self.old.batches ≤ batches) }
+        requires later { IsPrefix self.old.seen.log seen.now.log }
         ensures same { (self.new.group ≡ self.old.group) × (self.new.number ≡ self.old.number) × (self.new.mine ≡ self.old.mine) × (self.new.reader ≡ self.old.reader) }
-        ensures seen { (self.new.seen.log ≡ seen.now.log) × IsPrefix self.old.seen.log self.new.seen.log }
+        ensures seen { self.new.seen.log ≡ seen.now.log }
     {
-        self.seen.learn(seen);
         self.seen = seen.again();
-        self.batches = batches;
     }
 
     /// Learns the journal, at whose end this pass has just made so many entries.
-    pub fn made(&mut self, seen: &Log<Batch>, batches: u64, from: u32, entries: &[Entry])
+    pub fn made(&mut self, seen: &Log<Batch>, from: u32, entries: &[Entry])
         requires line { seen.now.book ≡ self.old.seen.book }
-        requires count { (batches ≡ length seen.now.log) × (self.old.batches ≤ batches) }
-        requires made { (mid : List batch) × ((length self.old.seen.log ≤ length mid) × (length (flat mid) ≡ from) × (seen.now.log ≡ mid ++ record { by = self.old.number; entries = entries.now } ∷ [])) }
+        requires made { (mid : List batch) × (IsPrefix self.old.seen.log mid × (length (flat mid) ≡ from) × (seen.now.log ≡ mid ++ record { by = self.old.number; entries = entries.now } ∷ [])) }
         requires few { from + length entries.now ≤ 200000 }
         requires spare { vec_len self.old.mine + length entries.now ≤ vec_capacity self.old.mine }
         ensures same { (self.new.group ≡ self.old.group) × (self.new.number ≡ self.old.number) × (self.new.reader ≡ self.old.reader) }
         ensures mine { self.new.mine.items ≡ self.old.mine.items ++ numbers from (length entries.now) }
-        ensures seen { (self.new.seen.log ≡ seen.now.log) × IsPrefix self.old.seen.log self.new.seen.log }
+        ensures seen { self.new.seen.log ≡ seen.now.log }
     {
-        self.look(seen, batches);
+        self.look(seen);
         push_numbers(&mut self.mine, from, entries.len());
         self.latest = last_ticket(entries).or(self.latest);
     }

@@ -1,10 +1,10 @@
 //! A room: a group's world with the board by which its target is published. It lies behind a lock, and every event of the group is
 //! entered here.
 
-ghost use Rattle.std.specs.Prelude.{ℕ, ◌≡◌, ◌<◌, ◌≤◌, ◌++◌, List, [], true, false, IfOk, IsErr, OnOk, OnErr, is_some, length, reverse};
+ghost use Rattle.std.specs.Prelude.{ℕ, ◌≡◌, ◌^◌, ◌<◌, ◌≤◌, ◌++◌, List, [], true, false, IfOk, IsErr, MatchResult, OnOk, OnErr, is_some, length, reverse};
 ghost use mathlib.Core.List.{IsPrefix};
 ghost use Rattle.st_event.specs.declared.journal.Entry.{Entry as entry};
-ghost use Rattle.st_net.specs.Groups.{IsEntityOf};
+ghost use Rattle.st_net.specs.Groups.{IsEntityOf, IsSound};
 ghost use Rattle.st_net.specs.Numbered.{nth};
 ghost use Rattle.st_board.specs.Published.{IsMergeOf};
 ghost use Rattle.st_event.specs.Legal.{IsLegal};
@@ -15,8 +15,8 @@ ghost use Rattle.st_world.specs.Rounds.{HasSameSetting, IsPartOf, is_full, unset
 ghost use Rattle.st_world.specs.World.{IsBeginning};
 ghost use Rattle.st_service.specs.OffLock.{going_by};
 ghost use Rattle.st_service.specs.Rooms.{Adds, IsSameRoom, WasRefused};
-ghost use Rattle.st_service.specs.Shares.{work_share};
-ghost use Rattle.st_service.specs.Works.{MayDo, WorkFits, check_course, course_at, decides, is_decided as is_decided_lem};
+ghost use Rattle.st_service.specs.Shares.{act_share, turn_share, work_share};
+ghost use Rattle.st_service.specs.Works.{MayDo, WorkFits, check_course, course_at, may_overlay, is_of_one_hold, is_decided as is_decided_lem};
 
 use crate::work::{Part, Work};
 use st_board::{Board, Held, Note, TargetReader};
@@ -34,7 +34,7 @@ use std::sync::Wait;
 pub struct Room<H: Wait + Drop> {
     pub(crate) world: World,
     pub(crate) held: Held<H>,
-    spent: bool,
+    pub(crate) spent: bool,
 }
 
 impl<H: Wait + Drop> Model for Room<H> {
@@ -94,6 +94,29 @@ fn version_of(world: &World) -> u32
     world.control().store().version()
 }
 
+/// How many entries an entity's turn in a world makes at the most, or a half of it.
+fn turn_most(world: &World, part: Part) -> usize
+    ensures { (n : ℕ) → n ≤ turn_share part world.now.lines → n ≤ MAX_ENTRIES → n ≤ result }
+{
+    match part {
+        Part::Whole => world.turn_most(),
+        Part::Update => world.update_most(),
+        Part::Monitor => world.poll_most(),
+    }
+}
+
+/// How many entries an act of one hold makes in a world at the most.
+fn act_most(world: &World, act: &Act) -> usize
+    requires { is_of_one_hold act.now ≡ true }
+    ensures { (n : ℕ) → n ≤ act_share act.now world.now.history.group world.now.lines → n ≤ MAX_ENTRIES → n ≤ result }
+{
+    match act {
+        Act::Propose { .. } => 2,
+        Act::Poll { .. } => turn_most(world, Part::Monitor),
+        _ => 1,
+    }
+}
+
 /// Whether a ticket is decided in a world.
 fn is_decided(world: &World, ticket: u32) -> bool
     ensures { result ≡ is_decided_lem ticket world.now.history.past }
@@ -130,7 +153,7 @@ impl<H: Wait + Drop> Room<H> {
         ensures adds { Adds number (work_share work.entry self.old.history.group self.old.lines) self.old.history.past self.new.history.past }
         ensures room { IsSameRoom self.old self.new }
     {
-        let rows = self.next_rows(alloc, work)?;
+        let rows = self.may_publish(alloc, work)?;
         let version = version_of(&self.world);
         // No `?` here: at `Err` what was entered may have to be published.
         let going = enter(&mut self.world, number, work);
@@ -151,11 +174,12 @@ impl<H: Wait + Drop> Room<H> {
         }
     }
 
-    /// The rows that a check of this work would decide; none where it makes no check, or nothing waits.
-    fn next_rows(&self, alloc: Global, work: Work<'_>) -> Result<Rows, AllocError>
-        ensures { IfOk result (λ rows. decides work.entry ≡ true → rows ≡ first_rows (pending self.now.history.past)) }
+    /// What may be published of this work: the rows that an entry of it overlays the target with, if one does. These are those that its
+    /// check would decide; none where it makes no check, or nothing waits.
+    fn may_publish(&self, alloc: Global, work: Work<'_>) -> Result<Rows, AllocError>
+        ensures { IfOk result (λ rows. may_overlay work.entry ≡ true → rows ≡ first_rows (pending self.now.history.past)) }
     {
-        if !work.decides() {
+        if !work.may_overlay() {
             return Ok(Rows::new(Vec::new(alloc)));
         }
         match self.world.control().store().oldest() {
@@ -169,13 +193,10 @@ impl<H: Wait + Drop> Room<H> {
         requires { WorkFits work self.now.history.group }
         ensures { (n : ℕ) → n ≤ work_share work.entry self.now.history.group self.now.lines → n ≤ MAX_ENTRIES → n ≤ result }
     {
-        let lines = self.world.plan().len().min(MAX_ENTRIES);
         match work {
-            Work::OneAct(Act::Propose { .. }) => 2,
-            Work::OneAct(Act::Poll { .. }) | Work::Turn(Part::Monitor, _) => 2 + lines,
-            Work::Turn(Part::Update, _) => 3 + lines,
-            Work::Turn(Part::Whole, _) => 5 + 2 * lines,
-            Work::OneAct(_) | Work::Commit(_) => 1,
+            Work::OneAct(act) => act_most(&self.world, act),
+            Work::Turn(part, _) => turn_most(&self.world, part),
+            Work::Commit(_) => 1,
         }
     }
 
@@ -204,8 +225,10 @@ impl<H: Wait + Drop> Room<H> {
 
     /// The entities that are not settled, in order.
     pub fn unsettled(&self) -> Result<Vec<Entity>, AllocError>
-        ensures { IfOk result (λ entities. entities.items ≡ unsettled_lem self.now.history.group self.now.history.past) }
+        ensures entities { IfOk result (λ entities. entities.items ≡ unsettled_lem self.now.history.group self.now.history.past) }
+        ensures few { IfOk result (λ entities. length entities.items < 2 ^ 32) }
     {
+        self.world.is_legal();
         self.world.unsettled()
     }
 
@@ -252,16 +275,20 @@ impl<H: Wait + Drop> Room<H> {
         going
     }
 
-    /// Whether a publication was refused.
-    pub fn is_spent(&self) -> bool
-        ensures { result ≡ self.now.spent }
+    /// Refused exactly where a publication was refused: the room is spent.
+    pub fn still_open(&self) -> Result<(), AllocError>
+        ensures { MatchResult result (λ _. self.now.spent ≡ false) (λ _. self.now.spent ≡ true) }
     {
-        self.spent
+        if self.spent {
+            return Err(AllocError);
+        }
+        Ok(())
     }
 
-    /// The journal is legal.
+    /// The journal is legal, and the group is sound.
     pub fn is_legal(&self)
-        ensures { IsLegal self.now.history.group self.now.history.past }
+        ensures legal { IsLegal self.now.history.group self.now.history.past }
+        ensures sound { IsSound self.now.history.group }
     {
         self.world.is_legal();
     }

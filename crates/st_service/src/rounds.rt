@@ -66,11 +66,9 @@ impl<J: Naming, L: Ledger, H: Wait + Drop> Service<J, L, H> {
         match self.turns(rt, alloc, pass, group, part, &entities)? {
             Going::On => {
                 let left = self.unsettled(rt, pass, group)?;
-                // That a group has so few entities is not known here.
-                match u32::try_from(left.len()) {
-                    Ok(unsettled) => Ok(Rounded::Did { unsettled }),
-                    Err(_) => Err(AllocError),
-                }
+                Ok(Rounded::Did {
+                    unsettled: left.len() as u32,
+                })
             }
             Going::Full => Ok(Rounded::JournalFull {
                 entries: MAX_ENTRIES as u32,

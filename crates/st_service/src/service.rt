@@ -1,7 +1,7 @@
 //! The rooms behind their locks. Threads share a service, and each carries a pass of its own through its calls, each of which holds one
 //! lock at the most.
 
-ghost use Rattle.std.specs.Prelude.{◌≡◌, ◌+◌, ◌*◌, ◌<◌, ◌≤◌, List, length, IfOk, OnOk};
+ghost use Rattle.std.specs.Prelude.{◌≡◌, ◌+◌, ◌*◌, ◌^◌, ◌<◌, ◌≤◌, List, length, IfOk, OnOk};
 ghost use Rattle.std.specs.Sync.Mutex.{mutex_guard_value};
 ghost use Rattle.st_world.specs.Rounds.{unsettled as unsettled_lem};
 ghost use Rattle.st_service.specs.Kept.{Kept};
@@ -43,9 +43,15 @@ pub struct Service<J: Naming, L: Ledger, H: Wait + Drop> {
     pub ghost apps_first: { apps ≤ passes },
 }
 
+/// What is answered where a room stands at another number than its own, which never comes: `Service::start` puts each room at its number,
+/// and no call moves one. A proof knows only the type of what lies under a lock, and a type can't name the lock's place. So the room's
+/// number is asked.
+pub(crate) fn cannot_be() -> AllocError {
+    AllocError
+}
+
 impl<J: Naming, L: Ledger, H: Wait + Drop> Service<J, L, H> {
-    /// The room of a number, under its lock. It may wait for the room. A proof knows only the type of what lies under a lock, so the
-    /// room's number is asked. Each room stands at its own number, so this is never refused.
+    /// The room of a number, under its lock. It may wait for the room, and is never refused (`cannot_be`).
     pub(crate) fn room_at<R: Wait>(
         &self,
         rt: &R,
@@ -56,7 +62,7 @@ impl<J: Naming, L: Ledger, H: Wait + Drop> Service<J, L, H> {
     {
         let room = self.rooms[group].lock(rt);
         if room.group != group {
-            return Err(AllocError);
+            return Err(cannot_be());
         }
         Ok(room)
     }
@@ -94,8 +100,8 @@ impl<J: Naming, L: Ledger, H: Wait + Drop> Service<J, L, H> {
         ensures log { pass.new.log ≡ pass.old.log }
         ensures reads { OnOk result (IsTaught pass.new group) }
     {
-        let room = self.room_at(rt, group)?;
-        pass.look_in(&room)
+        let mut room = self.room_at(rt, group)?;
+        pass.look_in(&mut room)
     }
 
     /// The entities that are not settled in a room's latest front, which the pass is taught. It may wait for the room.
@@ -109,10 +115,14 @@ impl<J: Naming, L: Ledger, H: Wait + Drop> Service<J, L, H> {
         ensures kept { Kept pass.old pass.new group 0 }
         ensures log { pass.new.log ≡ pass.old.log }
         ensures entities { IfOk result (λ entities. entities.items ≡ unsettled_lem (J.group group) (past_in (front_at pass.new.fronts group))) }
+        ensures few { IfOk result (λ entities. length entities.items < 2 ^ 32) }
         ensures reads { IfOk result (λ _. IsTaught pass.new group) }
     {
-        let room = self.room_at(rt, group)?;
-        pass.unsettled_in(&room)
+        let mut room = self.room_at(rt, group)?;
+        match pass.look_in(&mut room) {
+            Ok(()) => room.room.unsettled(),
+            Err(error) => Err(error),
+        }
     }
 
     /// Ends the service without its passes, at any time. It may wait for readers, and cannot be refused.

@@ -121,8 +121,7 @@ fn open_all<'a, J: Naming, L: Ledger, R: Wait>(
     let mut lines = lines.into_iter();
     for world in worlds {
         let Some(line) = lines.next() else {
-            mem::drop(world);
-            return Err(AllocError);
+            unreachable!()
         };
         let units = own.split_off(1, MAX_ENTRIES as u64);
         let room = open_room(rt, alloc, rooms.len(), world, line, units, passes)?;

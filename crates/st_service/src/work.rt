@@ -1,7 +1,7 @@
 //! What a pass enters under one hold of a room's lock. The calls of a service make each of their holds a work, and the room does it.
 
 ghost use Rattle.std.specs.Prelude.{◌≡◌};
-ghost use Rattle.st_service.specs.Works.{decides as decides_lem};
+ghost use Rattle.st_service.specs.Works.{may_overlay as may_overlay_lem};
 
 use st_control::Judged;
 use st_event::Act;
@@ -27,9 +27,9 @@ pub enum Work<'a> {
 }
 
 impl Work<'_> {
-    /// Whether it may make a check.
-    pub fn decides(self) -> bool
-        ensures { result ≡ decides_lem self.entry }
+    /// Whether it may make an entry by which the target is overlaid, as a check may be.
+    pub fn may_overlay(self) -> bool
+        ensures { result ≡ may_overlay_lem self.entry }
     {
         match self {
             Work::OneAct(Act::Propose { .. }) | Work::Commit(_) => true,

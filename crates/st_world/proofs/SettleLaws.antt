@@ -2,6 +2,7 @@
 use Rattle.std.proofs.Common.{◌≡◌, ℕ, ◌+◌, ◌<◌, ◌≤◌, suc, List, [], ◌∷◌, ◌++◌, length, Option, Some, None, refl, ap, sym, ◌∙◌, subst, inl, inr, arith}
 use Rattle.std.specs.Prelude.{Bool, true, false, ◌&&◌, ◌==◌, ◌⊎◌, not, nat_lt, All, if◌then◌else◌}
 use Rattle.std.proofs.lemmas.List.Elements.{All-head, All-tail}
+use Rattle.std.proofs.Math.Bool.{and-false}
 use Rattle.st_net.specs.declared.entity.Entity.{Entity}
 use Rattle.st_net.specs.declared.entity.Row.{Row}
 use Rattle.st_net.specs.declared.entity.Vals.{Vals}
@@ -18,7 +19,7 @@ use Rattle.st_event.specs.declared.reply.Lack.{Lack}
 use Rattle.st_event.specs.declared.reply.Reply.{Reply}
 use Rattle.st_event.specs.declared.reply.Reply.TheVariants.{Settled, Sent, Reported}
 use Rattle.st_event.specs.declared.journal.Entry.{Entry}
-use Rattle.st_event.specs.Proposals.{target, is_acceptance}
+use Rattle.st_event.specs.Proposals.{target, makes_version}
 use Rattle.st_event.specs.Judge.{lack_at}
 use Rattle.st_event.specs.Replies.{reply, blocked_or_sent, governing, row_to}
 use Rattle.st_event.specs.Moments.{heard, is_sent, is_taken, is_fail_of, stamp, commands, fence, busy, reports}
@@ -139,15 +140,11 @@ send_answers g past e =
 
 -- what keeps an entity settled
 
-and_false : (b : Bool) → (b && false) ≡ false
-and_false true = refl
-and_false false = refl
-
 same_settled : (r x : Report) (s t : ℕ) (goal goal2 : Vals) → r ≡ x → s ≡ t → goal ≡ goal2 → is_settled_by r s goal ≡ is_settled_by x t goal2
 same_settled r x s t goal goal2 p q same = rw (p, q, same) refl
 
--- an event that accepts nothing, hears nothing and leaves the target
-quiet_settled : (g : Group) (past : List Entry) (event : Event) (answer : Reply) (e : Entity) → is_acceptance event answer ≡ false → heard event (nth (reports g past)) ≡ None → vals_in g (target g (entry_of event answer ∷ past)) e ≡ vals_in g (target g past) e → is_settled g (entry_of event answer ∷ past) e ≡ is_settled g past e
+-- an event that makes no version, hears nothing and leaves the target
+quiet_settled : (g : Group) (past : List Entry) (event : Event) (answer : Reply) (e : Entity) → makes_version event answer ≡ false → heard event (nth (reports g past)) ≡ None → vals_in g (target g (entry_of event answer ∷ past)) e ≡ vals_in g (target g past) e → is_settled g (entry_of event answer ∷ past) e ≡ is_settled g past e
 quiet_settled g past event answer e none silent goals =
     let views : observed g (entry_of event answer ∷ past) e ≡ observed g past e = rw silent refl in
     same_settled (observed g (entry_of event answer ∷ past) e) (observed g past e) (stamp g (entry_of event answer ∷ past) e) (stamp g past e) (vals_in g (target g (entry_of event answer ∷ past)) e) (vals_in g (target g past) e)
@@ -157,7 +154,7 @@ quiet_settled g past event answer e none silent goals =
 other_heard : (g : Group) (past : List Entry) (k : ℕ) (answer : Reply) (r : Report) (e : Entity) → nth (reports g past) k ≡ Some r → is_same_entity r.entity e ≡ false → is_settled g (entry_of (Hear k) answer ∷ past) e ≡ is_settled g past e
 other_heard g past k answer r e names other =
     let views : observed g (entry_of (Hear k) answer ∷ past) e ≡ observed g past e = rw (names, other) refl in
-    let stamps : stamp g (entry_of (Hear k) answer ∷ past) e ≡ stamp g past e = rw (names, other, and_false (is_taken answer)) refl in
+    let stamps : stamp g (entry_of (Hear k) answer ∷ past) e ≡ stamp g past e = rw (names, other, and-false (is_taken answer)) refl in
     same_settled (observed g (entry_of (Hear k) answer ∷ past) e) (observed g past e) (stamp g (entry_of (Hear k) answer ∷ past) e) (stamp g past e) (vals_in g (target g past) e) (vals_in g (target g past) e) views stamps refl
 
 -- the end of another entity's turn
@@ -216,7 +213,7 @@ own_unsent g past e answer whole legal settled =
     let three = entry_of (Finish e) c ∷ one in
     let k = length (reports g three) + 1 in
     let four = entry_of (make_report e) (Reported k) ∷ three in
-    let idle : busy g three e ≡ false = rw (same_self e) (and_false (busy g one e)) in
+    let idle : busy g three e ≡ false = rw (same_self e) (and-false (busy g one e)) in
     let begun : fence g three e ≡ stamp g past e = settled_begun g past e settled in
     let stamps : stamp g three ≡ stamp g past = quiet_stamp g one (Finish e) c refl refl ∙ quiet_stamp g past (Send e) answer refl refl in
     let unharmed : is_spoiled g three e ≡ false = rw whole refl in
@@ -241,7 +238,7 @@ own_turn g past e answer (inr not_sent) whole =
     })
   where
     unsent_once : (same sent : Bool) (n : ℕ) → sent ≡ false → n < (if same && sent then n + 1 else n) → ⊥
-    unsent_once same sent n none more = let still : n < n = rw (none, and_false same) at more in omega (arith, still)
+    unsent_once same sent n none more = let still : n < n = rw (none, and-false same) at more in omega (arith, still)
 
 other_turn : (g : Group) (past : List Entry) (x e : Entity) (n : ℕ) (answer : Reply) → Answers g x past n answer → is_same_entity x e ≡ false → Settles g e past (ended_by g [] x (sent_by g x past answer))
 other_turn g past x e n answer answers other =

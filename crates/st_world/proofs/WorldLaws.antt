@@ -1,5 +1,5 @@
 -- One entry more keeps a world consistent. `items` is the journal as the code keeps it, the oldest entry first.
-use Rattle.std.proofs.Common.{◌≡◌, ℕ, ◌+◌, ◌-◌, ◌<◌, ◌≤◌, List, [], ◌∷◌, ◌++◌, length, take, drop, Option, Some, refl, ap, sym, ◌∙◌, subst, arith, length-append}
+use Rattle.std.proofs.Common.{◌≡◌, ℕ, ◌+◌, ◌-◌, ◌<◌, ◌^◌, ◌≤◌, List, [], ◌∷◌, ◌++◌, length, take, drop, Option, Some, refl, ap, sym, ◌∙◌, subst, arith, length-append}
 use Rattle.std.specs.Prelude.{Bool, true, false, if◌then◌else◌, reverse, IfSome}
 use Rattle.std.proofs.lemmas.List.{reverse-append, reverse-reverse, length-reverse, take_all}
 use Rattle.std.proofs.Math.Seq.{drop-append_seam}
@@ -23,7 +23,7 @@ use Rattle.st_event.specs.History.{History}
 use Rattle.st_event.specs.Legal.{Fits, IsLegal, IsNext, AtEach}
 use Rattle.st_event.specs.Moments.{stamp, commands, commands_after, reports, reports_after, number, is_report_of}
 use Rattle.st_event.specs.Network.{KeepsPromises}
-use Rattle.st_event.specs.Proposals.{proposals, proposals_after, target}
+use Rattle.st_event.specs.Proposals.{proposals, proposals_after, target, version}
 use Rattle.st_event.specs.Replies.{reply as reply_to}
 use Rattle.st_event.specs.Standing.{Standing, Wires, standing_of, wires_of, standing_after, wires_after, reply_in}
 use Rattle.st_event.specs.Versions.{value_at, versions_after}
@@ -32,7 +32,7 @@ use Rattle.st_event.proofs.Agreement.{agree_throughout}
 use Rattle.st_event.proofs.Made.{report_now}
 use Rattle.st_event.proofs.Promises.{keeps_throughout}
 use Rattle.st_event.proofs.Standings.{standing_of-next, wires_of-next, reply_is}
-use Rattle.st_event.proofs.Versions.{value_at-next}
+use Rattle.st_event.proofs.Versions.{value_at-next, versions_few}
 use Rattle.st_control.specs.Control.{standing_in, versions_in}
 use Rattle.st_world.specs.Plant.{agent_in}
 use Rattle.st_world.specs.Machine.{MachineView, wires_in, IsOpening, IsBelow, Answers}
@@ -89,10 +89,12 @@ below_next m items agrees =
     let same = length-reverse items in
     let g = m.checker.group in
     let tickets : m.checker.store.tickets ≡ length (proposals past) = ap (λ (s : Standing). s.tickets) agrees.standing in
+    let last : m.checker.store.version ≡ version past = ap (λ (s : Standing). s.version) agrees.standing in
     let sent : length m.messages.commands ≡ length (commands g past) = ap (λ (w : Wires). length w.commands) agrees.wires in
     let made : length m.messages.reports ≡ length (reports g past) = ap (λ (w : Wires). length w.reports) agrees.wires in
     record {
       tickets = omega (arith, tickets, same, few_tickets past);
+      versions = omega (arith, last, same, versions_few past);
       commands = omega (arith, sent, same, few_commands g past);
       reports = omega (arith, made, same, few_reports g past);
       numbers = λ e. let counted : (agent_in g m.agents e).number ≡ number past e = ap (λ (w : Wires). (w.agent e).number) agrees.wires in omega (arith, counted, same, low_numbers past e);
@@ -108,6 +110,10 @@ next_fits next n is few = subst (λ (o : Option ℕ). IfSome o (λ k. k ≤ MAX_
 -- everything is below that number
 pub below_number : (m : MachineView) (items : List Entry) (next : Option ℕ) (n : ℕ) → Agrees m items → next ≡ Some n → IfSome next (λ k. k ≡ length items + 1) → IsBelow n m
 below_number m items next n agrees is number = subst (λ (k : ℕ). IsBelow k m) (sym (next_number items next n is number)) (below_next m items agrees)
+
+-- so there is room for one version more
+pub version_fits : (m : MachineView) (items : List Entry) (next : Option ℕ) (n : ℕ) → Agrees m items → next ≡ Some n → IfSome next (λ k. k ≡ length items + 1) → IfSome next (λ k. k ≤ MAX_ENTRIES) → m.checker.store.version + 1 < 2 ^ 32
+version_fits m items next n agrees is number few = let below = below_number m items next n agrees is number in omega (arith, below.versions, next_fits next n is few)
 
 -- and what is answered under it is answered as the next entry, for which there is room
 pub answered_next : (m l : MachineView) (items : List Entry) (next : Option ℕ) (n : ℕ) (event : Event) (answer : Reply) → next ≡ Some n → IfSome next (λ k. k ≡ length items + 1) → IfSome next (λ k. k ≤ MAX_ENTRIES) → Answers m l n event answer → (length items < MAX_ENTRIES) × Answers m l (length items + 1) event answer

@@ -4,3 +4,4 @@ pub mod World
 pub mod Rounds
 pub mod Acts
 pub mod Commits
+pub mod Shares

@@ -33,6 +33,7 @@ pub record IsMachine (m : MachineView) : Type 0 where
 -- fewer of everything that is counted than this number
 pub record IsBelow (n : ℕ) (m : MachineView) : Type 0 where
   pub tickets : m.checker.store.tickets < n
+  pub versions : m.checker.store.version < n
   pub commands : length m.messages.commands < n
   pub reports : length m.messages.reports < n
   pub numbers : (e : Entity) → (agent_in m.checker.group m.agents e).number < n

@@ -6,7 +6,7 @@ use Rattle.st_net.specs.Entities.{is_same_entity}
 use Rattle.st_net.specs.Groups.{Group}
 use Rattle.st_net.specs.InOrder.{entities_of}
 use Rattle.st_event.specs.declared.event.Event.{Event}
-use Rattle.st_event.specs.declared.event.Event.TheVariants.{Submit, Check, Lock, Unlock, Send, Deliver, Finish, Report as make_report, Hear, Fail}
+use Rattle.st_event.specs.declared.event.Event.TheVariants.{Send, Deliver, Finish, Report as make_report, Hear}
 use Rattle.st_event.specs.declared.reply.Reply.{Reply}
 use Rattle.st_event.specs.declared.reply.Reply.TheVariants.{Queued, Full as full_queue, Decided, Idle, Granted, Held, Released, NotYours, Sent, Settled, Blocked, Begun, Stale, NoSuch, Done, NotBusy, Reported, Taken, Old, Changed}
 use Rattle.st_event.specs.declared.journal.Entry.{Entry}
@@ -137,15 +137,7 @@ pub record HasSameSetting (old new : WorldView) : Type 0 where
 -- these entries send the entity a command
 abbrev pub is_sending : Entity → Event → Bool
 is_sending e (Send at) = is_same_entity at e
-is_sending e (Submit app rows) = false
-is_sending e Check = false
-is_sending e (Lock app at prio) = false
-is_sending e (Unlock app at prio) = false
-is_sending e (Deliver n) = false
-is_sending e (Finish at) = false
-is_sending e (make_report at) = false
-is_sending e (Hear n) = false
-is_sending e (Fail at vals health) = false
+is_sending e _ = false
 
 abbrev pub WasSent : List Entry → Entity → Type 0
 WasSent [] e = ⊥

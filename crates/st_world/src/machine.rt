@@ -117,6 +117,7 @@ impl Machine {
 
     /// The oldest proposal is decided. At `Err` nothing has changed but the checker's count of runs.
     fn check(&mut self, entry: u32) -> Result<Reply, AllocError>
+        requires version { self.old.checker.store.version + 1 < 2 ^ 32 }
         ensures ok { IfOk result (Answers self.old self.new entry check_event) }
         ensures err { OnErr result (HasSameMachine self.old self.new) }
         ensures room { self.new.messages ≡ self.old.messages }
@@ -126,6 +127,7 @@ impl Machine {
 
     /// The same, with the reply twice.
     fn check_twice(&mut self, entry: u32) -> Result<Twice<Reply>, AllocError>
+        requires version { self.old.checker.store.version + 1 < 2 ^ 32 }
         ensures ok { IfOk result (λ answered. Answers self.old self.new entry check_event answered.told) }
         ensures kept { IfOk result (λ answered. answered.kept ≡ answered.told) }
         ensures err { OnErr result (HasSameMachine self.old self.new) }
@@ -143,6 +145,7 @@ impl Machine {
     pub fn commit(&mut self, entry: u32, judged: &Judged) -> Result<Twice<Receipt>, AllocError>
         requires oldest { judged.now.ticket ≡ length self.old.checker.store.decided + 1 }
         requires given { judged.now.ticket ≤ self.old.checker.store.tickets }
+        requires version { self.old.checker.store.version + 1 < 2 ^ 32 }
         ensures ok { IfOk result (λ receipts. Answers self.old self.new entry check_event (decided_reply receipts.told)) }
         ensures ticket { IfOk result (λ receipts. receipts.told.ticket ≡ judged.now.ticket) }
         ensures kept { IfOk result (λ receipts. receipts.kept ≡ receipts.told) }

@@ -22,6 +22,7 @@ pub mod acts;
 pub mod commits;
 mod fit;
 pub mod rounds;
+mod shares;
 pub mod ups;
 
 use crate::machine::Machine;

@@ -9,5 +9,5 @@ invariant-loop-room g l = record {
   count : length l.shut.items ≡ length l.yielded;
   groups : (k : ℕ) (d : _) → k < length l.shut.items → (get_or l.shut.items k d).group ≡ k;
   parts : l.own.parts ≡ l.initial.own.parts + length l.yielded;
-  units : l.own.amount + sum_by (λ s. length (flat s.seen.log)) l.shut.items ≡ l.initial.own.amount + 200000 * length l.yielded;
+  units : l.own.amount + sum_by (λ s. length (flat s.line.log)) l.shut.items ≡ l.initial.own.amount + 200000 * length l.yielded;
 }

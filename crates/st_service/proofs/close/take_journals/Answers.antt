@@ -34,8 +34,8 @@ loop-room-preserved g c =
       groups = subst (λ (l : List Journal). (k : ℕ) (d : Journal) → k < length l → (get_or l k d).group ≡ k) (sym items) (numbered_more (λ (x : Journal). x.group) journals j inv.groups (c.into_journal.ensures.group ∙ at));
       legal = subst (λ (l : List Journal). (k : ℕ) (d : Journal) → k < length l → IsLegal (g.J.Naming.group k) (reverse (get_or l k d).entries) × IsSound (g.J.Naming.group k)) (sym items)
           (items_more (λ (k : ℕ) (x : Journal). IsLegal (g.J.Naming.group k) (reverse x.entries) × IsSound (g.J.Naming.group k)) journals j inv.legal legal);
-      entries = subst (λ (l : List Journal). (k : ℕ) (d : Journal) (e : Shut g.row.J.Denot g.row.H.Denot g.J.Naming) → k < length l → past_in (flat (get_or (ys ++ room ∷ []) k e).seen.log) ≡ reverse (get_or l k d).entries) (sym items)
-          (both_more (λ (k : ℕ) (x : Journal) (s : Shut g.row.J.Denot g.row.H.Denot g.J.Naming). past_in (flat s.seen.log) ≡ reverse x.entries) journals ys j room (sym inv.count) inv.entries (room.kept ∙ sym past));
+      entries = subst (λ (l : List Journal). (k : ℕ) (d : Journal) (e : Shut g.row.J.Denot g.row.H.Denot g.J.Naming) → k < length l → past_in (flat (get_or (ys ++ room ∷ []) k e).line.log) ≡ reverse (get_or l k d).entries) (sym items)
+          (both_more (λ (k : ℕ) (x : Journal) (s : Shut g.row.J.Denot g.row.H.Denot g.J.Naming). past_in (flat s.line.log) ≡ reverse x.entries) journals ys j room (sym inv.count) inv.entries (room.kept ∙ sym past));
     }
 
 pub returns-clause-count : goal.returns-clause-count
@@ -54,4 +54,4 @@ pub returns-clause-entries : goal.returns-clause-entries
 returns-clause-entries g c =
     let none : length c.loop-room.room-iterator.rest.items ≡ 0 = omega (arith, c.in-None.ensures.steps.0) in
     let done = none_left c.args.shut.items c.loop-room.yielded c.loop-room.room-iterator.rest.items c.loop-room.invariant.all none in
-    subst (λ (l : List (Shut g.row.J.Denot g.row.H.Denot g.J.Naming)). (k : ℕ) (d : Journal) (e : Shut g.row.J.Denot g.row.H.Denot g.J.Naming) → k < length c.loop-room.journals.items → past_in (flat (get_or l k e).seen.log) ≡ reverse (get_or c.loop-room.journals.items k d).entries) done c.loop-room.invariant.entries
+    subst (λ (l : List (Shut g.row.J.Denot g.row.H.Denot g.J.Naming)). (k : ℕ) (d : Journal) (e : Shut g.row.J.Denot g.row.H.Denot g.J.Naming) → k < length c.loop-room.journals.items → past_in (flat (get_or l k e).line.log) ≡ reverse (get_or c.loop-room.journals.items k d).entries) done c.loop-room.invariant.entries

@@ -12,5 +12,5 @@ invariant-loop-room g l = record {
   count : length l.journals.items ≡ length l.yielded;
   groups : (k : ℕ) (j : _) → k < length l.journals.items → (get_or l.journals.items k j).group ≡ k;
   legal : (k : ℕ) (j : _) → k < length l.journals.items → IsLegal (g.J.Naming.group k) (reverse (get_or l.journals.items k j).entries) × IsSound (g.J.Naming.group k);
-  entries : (k : ℕ) (j : _) (d : _) → k < length l.journals.items → past_in (flat (get_or l.yielded k d).seen.log) ≡ reverse (get_or l.journals.items k j).entries;
+  entries : (k : ℕ) (j : _) (d : _) → k < length l.journals.items → past_in (flat (get_or l.yielded k d).line.log) ≡ reverse (get_or l.journals.items k j).entries;
 }

@@ -31,9 +31,6 @@ loop-world-init g c =
       fresh = λ n p lt. subst (λ (m : ℕ). IsFresh n m (get_or c.args.passes.now n p)) (sym none) (c.requires.fresh n p lt);
     }
 
-pub returns-in_default-clause-count : goal.returns-in_default-clause-count
-returns-in_default-clause-count g c = c.loop-world.invariant.same
-
 pub split_off-units-requires-clause-has_parts : goal.split_off-units-requires-clause-has_parts
 split_off-units-requires-clause-has_parts g c = omega (arith, c.loop-world.invariant.parts)
 

@@ -8,57 +8,60 @@ use Rattle.st_event.proofs.Accepting.{legal_within}
 use Rattle.st_board.specs.Published.{Published}
 use Rattle.st_world.specs.declared.world.rounds.Going.{Going}
 use Rattle.st_event.proofs.Prefixes.{prefix_self}
+use Rattle.st_line.specs.Lines.{Reached}
+use Rattle.st_service.specs.declared.line.Batch.{Batch}
 use Rattle.st_service.specs.Lines.{flat}
 use Rattle.st_service.specs.Made.{IsMine, past_in}
 use Rattle.st_service.specs.Puts.{Enters}
 use Rattle.st_service.specs.Shares.{work_share}
 use Rattle.st_service.specs.Tickets.{latest_in}
 use Rattle.st_service.specs.Works.{MayDo, WorkFits, course_at}
+use Rattle.st_service.proofs.Lines.{flat_prefix, puts_same}
 use Rattle.st_service.proofs.HoldLaws.{taken, held, enters_all, enters_part, puts_grows, look_grows, length_past}
 use Rattle.st_service.proofs.HeldLaws.{if_any, legal_taught, reads_taught, puts_share, on_any, on_err}
 use Rattle.st_service.proofs.OffLockLaws.{may_later}
 use Rattle.st_service.proofs.locked.Locked.work.Goals as goal
 
-pub returns-then-is_shut_to-clause-group : goal.returns-then-is_shut_to-clause-group
-returns-then-is_shut_to-clause-group g c = refl
+pub returns-in_err-still_open-clause-group : goal.returns-in_err-still_open-clause-group
+returns-in_err-still_open-clause-group g c = refl
 
-pub returns-then-is_shut_to-clause-place : goal.returns-then-is_shut_to-clause-place
-returns-then-is_shut_to-clause-place g c = (refl, refl)
+pub returns-in_err-still_open-clause-place : goal.returns-in_err-still_open-clause-place
+returns-in_err-still_open-clause-place g c = (refl, refl)
 
-pub returns-then-is_shut_to-clause-share : goal.returns-then-is_shut_to-clause-share
-returns-then-is_shut_to-clause-share g c = (refl, refl)
+pub returns-in_err-still_open-clause-share : goal.returns-in_err-still_open-clause-share
+returns-in_err-still_open-clause-share g c = (refl, refl)
 
-pub returns-then-is_shut_to-clause-entered : goal.returns-then-is_shut_to-clause-entered
-returns-then-is_shut_to-clause-entered g c = tt
+pub returns-in_err-still_open-clause-entered : goal.returns-in_err-still_open-clause-entered
+returns-in_err-still_open-clause-entered g c = IfOk-from_err c.from_residual.result _ c.from_residual.ensures.0
 
-pub returns-then-is_shut_to-clause-refused : goal.returns-then-is_shut_to-clause-refused
-returns-then-is_shut_to-clause-refused g c = inl (refl, refl)
+pub returns-in_err-still_open-clause-refused : goal.returns-in_err-still_open-clause-refused
+returns-in_err-still_open-clause-refused g c = on_err c.from_residual.result (inl (refl, refl))
 
-pub returns-then-is_shut_to-clause-journal : goal.returns-then-is_shut_to-clause-journal
-returns-then-is_shut_to-clause-journal g c = tt
+pub returns-in_err-still_open-clause-journal : goal.returns-in_err-still_open-clause-journal
+returns-in_err-still_open-clause-journal g c = IfOk-from_err c.from_residual.result _ c.from_residual.ensures.0
 
-pub returns-then-is_shut_to-clause-open : goal.returns-then-is_shut_to-clause-open
-returns-then-is_shut_to-clause-open g c = tt
+pub returns-in_err-still_open-clause-open : goal.returns-in_err-still_open-clause-open
+returns-in_err-still_open-clause-open g c = IfOk-from_err c.from_residual.result _ c.from_residual.ensures.0
 
-pub returns-then-is_shut_to-clause-shut : goal.returns-then-is_shut_to-clause-shut
-returns-then-is_shut_to-clause-shut g c = λ shut. refl
+pub returns-in_err-still_open-clause-shut : goal.returns-in_err-still_open-clause-shut
+returns-in_err-still_open-clause-shut g c = λ shut. refl
 
-pub returns-then-is_shut_to-clause-spent : goal.returns-then-is_shut_to-clause-spent
-returns-then-is_shut_to-clause-spent g c = λ was is. absurd (cc (was, is))
+pub returns-in_err-still_open-clause-spent : goal.returns-in_err-still_open-clause-spent
+returns-in_err-still_open-clause-spent g c = λ was is. absurd (cc (was, is))
 
-pub returns-then-is_shut_to-clause-grows : goal.returns-then-is_shut_to-clause-grows
-returns-then-is_shut_to-clause-grows g c =
+pub returns-in_err-still_open-clause-grows : goal.returns-in_err-still_open-clause-grows
+returns-in_err-still_open-clause-grows g c =
     let place = c.args.place.now in
     look_grows _ (flat place.seen.log) (flat place.seen.log) place.mine.items place.mine.items (prefix_self (flat place.seen.log)) refl
 
-pub returns-then-is_shut_to-clause-legal : goal.returns-then-is_shut_to-clause-legal
-returns-then-is_shut_to-clause-legal g c = λ legal. legal
+pub returns-in_err-still_open-clause-legal : goal.returns-in_err-still_open-clause-legal
+returns-in_err-still_open-clause-legal g c = λ legal. legal
 
-pub returns-then-is_shut_to-clause-reader : goal.returns-then-is_shut_to-clause-reader
-returns-then-is_shut_to-clause-reader g c = prefix_self c.args.place.now.reader.proposals
+pub returns-in_err-still_open-clause-reader : goal.returns-in_err-still_open-clause-reader
+returns-in_err-still_open-clause-reader g c = prefix_self c.args.place.now.reader.proposals
 
-pub returns-then-is_shut_to-clause-reads : goal.returns-then-is_shut_to-clause-reads
-returns-then-is_shut_to-clause-reads g c = tt
+pub returns-in_err-still_open-clause-reads : goal.returns-in_err-still_open-clause-reads
+returns-in_err-still_open-clause-reads g c = IfOk-from_err c.from_residual.result _ c.from_residual.ensures.0
 
 pub most_of-requires : goal.most_of-requires
 most_of-requires g c = subst (λ (h : Group). WorkFits c.args.work h) (sym c.args.self.now.group_is) c.requires.fits
@@ -68,7 +71,6 @@ invariant_of-place g c =
     let place = c.args.place.now in
     record {
       named = place.named;
-      counted = place.counted;
       made = subst (λ (mine : List ℕ). IsMine place.number (flat place.seen.log) mine) (sym c.reserve.ensures.items) place.made;
       asked = place.asked ∙ ap (λ (mine : List ℕ). latest_in (flat place.seen.log) mine) (sym c.reserve.ensures.items);
       reads = place.reads;
@@ -97,16 +99,16 @@ pub returns-in_err-reserve-clause-share : goal.returns-in_err-reserve-clause-sha
 returns-in_err-reserve-clause-share g c = (refl, ap (λ (mine : List ℕ). c.args.share.now.amount + length mine) (sym c.reserve.ensures.items))
 
 pub returns-in_err-reserve-clause-entered : goal.returns-in_err-reserve-clause-entered
-returns-in_err-reserve-clause-entered g c = IfOk-from_err c.from_residual.result _ c.from_residual.ensures.0
+returns-in_err-reserve-clause-entered g c = IfOk-from_err c.from_residual-in_err-reserve.result _ c.from_residual-in_err-reserve.ensures.0
 
 pub returns-in_err-reserve-clause-refused : goal.returns-in_err-reserve-clause-refused
-returns-in_err-reserve-clause-refused g c = on_err c.from_residual.result (inl (refl, c.reserve.ensures.items))
+returns-in_err-reserve-clause-refused g c = on_err c.from_residual-in_err-reserve.result (inl (refl, c.reserve.ensures.items))
 
 pub returns-in_err-reserve-clause-journal : goal.returns-in_err-reserve-clause-journal
-returns-in_err-reserve-clause-journal g c = IfOk-from_err c.from_residual.result _ c.from_residual.ensures.0
+returns-in_err-reserve-clause-journal g c = IfOk-from_err c.from_residual-in_err-reserve.result _ c.from_residual-in_err-reserve.ensures.0
 
 pub returns-in_err-reserve-clause-open : goal.returns-in_err-reserve-clause-open
-returns-in_err-reserve-clause-open g c = IfOk-from_err c.from_residual.result _ c.from_residual.ensures.0
+returns-in_err-reserve-clause-open g c = IfOk-from_err c.from_residual-in_err-reserve.result _ c.from_residual-in_err-reserve.ensures.0
 
 pub returns-in_err-reserve-clause-shut : goal.returns-in_err-reserve-clause-shut
 returns-in_err-reserve-clause-shut g c = λ shut. refl
@@ -126,15 +128,15 @@ pub returns-in_err-reserve-clause-reader : goal.returns-in_err-reserve-clause-re
 returns-in_err-reserve-clause-reader g c = prefix_self c.args.place.now.reader.proposals
 
 pub returns-in_err-reserve-clause-reads : goal.returns-in_err-reserve-clause-reads
-returns-in_err-reserve-clause-reads g c = IfOk-from_err c.from_residual.result _ c.from_residual.ensures.0
+returns-in_err-reserve-clause-reads g c = IfOk-from_err c.from_residual-in_err-reserve.result _ c.from_residual-in_err-reserve.ensures.0
 
 pub work-going-requires-clause-open : goal.work-going-requires-clause-open
-work-going-requires-clause-open g c = c.if-is_shut_to.ensures.0
+work-going-requires-clause-open g c = c.in_ok-still_open.ensures
 
 pub work-going-requires-clause-may : goal.work-going-requires-clause-may
 work-going-requires-clause-may g c =
     let room = c.args.self.now in
-    subst (λ (past : List Entry). MayDo c.args.work past) room.kept (may_later c.args.work (flat c.args.place.now.seen.log) (flat room.makers.line.log) c.if-is_shut_to.ensures.2 c.requires.may)
+    subst (λ (past : List Entry). MayDo c.args.work past) room.kept (may_later c.args.work (flat c.args.place.now.seen.log) (flat room.makers.line.log) (flat_prefix c.args.place.now.seen.log room.makers.line.log c.has_all.ensures.begins) c.requires.may)
 
 pub work-going-requires-clause-fits : goal.work-going-requires-clause-fits
 work-going-requires-clause-fits g c = subst (λ (h : Group). WorkFits c.args.work h) (sym c.args.self.now.group_is) c.requires.fits
@@ -143,10 +145,10 @@ pub since-entries-requires : goal.since-entries-requires
 since-entries-requires g c = omega (arith, c.count-from.ensures.count, ap length c.work-going.ensures.adds.all, length-append c.work-going.ensures.adds.more c.args.self.now.room.history.past)
 
 pub take_in-requires-clause-group : goal.take_in-requires-clause-group
-take_in-requires-clause-group g c = c.requires.group ∙ sym c.args.self.now.of_group
+take_in-requires-clause-group g c = c.requires.group ∙ (sym c.args.self.now.of_group ∙ sym c.has_all.ensures.same.0)
 
 pub take_in-requires-clause-behind : goal.take_in-requires-clause-behind
-take_in-requires-clause-behind g c = c.if-is_shut_to.ensures.1
+take_in-requires-clause-behind g c = subst (λ (s : Reached Batch). IsPrefix c.args.place.now.seen.log s.log) (sym c.has_all.ensures.same.1) c.has_all.ensures.begins
 
 pub take_in-requires-clause-part : goal.take_in-requires-clause-part
 take_in-requires-clause-part g c = c.requires.part
@@ -165,7 +167,7 @@ take_in-requires-clause-own g c =
 pub take_in-requires-clause-from : goal.take_in-requires-clause-from
 take_in-requires-clause-from g c =
     let room = c.args.self.now in
-    c.count-from.ensures.count ∙ (sym (ap length room.kept) ∙ length_past (flat room.makers.line.log))
+    c.count-from.ensures.count ∙ (sym (ap length room.kept) ∙ (length_past (flat room.makers.line.log) ∙ ap (λ (s : Reached Batch). length (flat s.log)) (sym c.has_all.ensures.same.1)))
 
 pub take_in-requires-clause-few : goal.take_in-requires-clause-few
 take_in-requires-clause-few g c =
@@ -176,7 +178,7 @@ take_in-requires-clause-few g c =
     let es = c.since-entries.result.now in
     let most = work_share c.args.work old.group room.room.lines in
     let t = taken place.number most c.count-from.result old.past new.past es c.work-going.ensures.adds c.count-from.ensures.count c.since-entries.ensures in
-    let within = legal_within new.group new.past c.is_legal.ensures in
+    let within = legal_within new.group new.past c.is_legal.ensures.legal in
     omega (arith, within, t.count, c.count-from.ensures.count)
 
 pub take_in-requires-clause-units : goal.take_in-requires-clause-units
@@ -188,8 +190,8 @@ take_in-requires-clause-units g c =
     let es = c.since-entries.result.now in
     let most = work_share c.args.work old.group room.room.lines in
     let t = taken place.number most c.count-from.result old.past new.past es c.work-going.ensures.adds c.count-from.ensures.count c.since-entries.ensures in
-    let within = legal_within new.group new.past c.is_legal.ensures in
-    omega (arith, within, t.count, room.left)
+    let within = legal_within new.group new.past c.is_legal.ensures.legal in
+    omega (arith, within, t.count, room.left, ap (λ u. u.amount) c.has_all.ensures.same.2)
 
 pub take_in-requires-clause-spare : goal.take_in-requires-clause-spare
 take_in-requires-clause-spare g c =
@@ -200,7 +202,7 @@ take_in-requires-clause-spare g c =
     let es = c.since-entries.result.now in
     let most = work_share c.args.work old.group room.room.lines in
     let t = taken place.number most c.count-from.result old.past new.past es c.work-going.ensures.adds c.count-from.ensures.count c.since-entries.ensures in
-    let within = legal_within new.group new.past c.is_legal.ensures in
+    let within = legal_within new.group new.past c.is_legal.ensures.legal in
     let enough = c.most_of.ensures (length es) t.few (omega (arith, within, t.count)) in
     omega (arith, enough, c.in_ok-reserve.ensures.ok, c.reserve.ensures.len)
 
@@ -214,10 +216,10 @@ invariant_of-self-2 g c =
     let most = work_share c.args.work old.group room.room.lines in
     let q = c.take_in.new.place in
     let h = held place.number most c.count-from.result old.past new.past es (flat room.makers.line.log) (flat place.seen.log) place.mine.items c.reserve.new.self.items (flat q.seen.log) q.mine.items
-    room.kept c.work-going.ensures.adds c.count-from.ensures.count c.since-entries.ensures c.reserve.ensures.items c.take_in.ensures.puts in
-    let left : c.take_in.new.self.units.amount + length new.past ≡ 200000 = omega (arith, c.take_in.ensures.units.0, room.left, h.taken.count) in
+    room.kept c.work-going.ensures.adds c.count-from.ensures.count c.since-entries.ensures c.reserve.ensures.items (puts_same place.number es _ _ _ _ _ _ c.has_all.ensures.same.1 c.take_in.ensures.puts) in
+    let left : c.take_in.new.self.units.amount + length new.past ≡ 200000 = omega (arith, c.take_in.ensures.units.0, room.left, h.taken.count, ap (λ u. u.amount) c.has_all.ensures.same.2) in
     record {
-      of_group = c.take_in.ensures.group ∙ room.of_group;
+      of_group = c.take_in.ensures.group ∙ (c.has_all.ensures.same.0 ∙ room.of_group);
       group_is = c.work-going.ensures.room.group ∙ room.group_is;
       lines_are = c.work-going.ensures.room.lines ∙ room.lines_are;
       board_is = c.work-going.ensures.room.board ∙ room.board_is;
@@ -241,11 +243,11 @@ returns-clause-share g c =
     let most = work_share c.args.work old.group room.room.lines in
     let q = c.take_in.new.place in
     let h = held place.number most c.count-from.result old.past new.past es (flat room.makers.line.log) (flat place.seen.log) place.mine.items c.reserve.new.self.items (flat q.seen.log) q.mine.items
-    room.kept c.work-going.ensures.adds c.count-from.ensures.count c.since-entries.ensures c.reserve.ensures.items c.take_in.ensures.puts in
+    room.kept c.work-going.ensures.adds c.count-from.ensures.count c.since-entries.ensures c.reserve.ensures.items (puts_same place.number es _ _ _ _ _ _ c.has_all.ensures.same.1 c.take_in.ensures.puts) in
     (c.take_in.ensures.parts, puts_share place.number es (flat room.makers.line.log) (flat place.seen.log) place.mine.items (flat q.seen.log) q.mine.items c.args.share.now.amount c.take_in.new.share.amount h.puts c.take_in.ensures.units.1)
 
 pub returns-clause-shut : goal.returns-clause-shut
-returns-clause-shut g c = λ shut. absurd (cc (shut, c.if-is_shut_to.ensures.0))
+returns-clause-shut g c = λ shut. absurd (cc (shut, c.in_ok-still_open.ensures))
 
 pub returns-clause-grows : goal.returns-clause-grows
 returns-clause-grows g c =
@@ -257,7 +259,7 @@ returns-clause-grows g c =
     let most = work_share c.args.work old.group room.room.lines in
     let q = c.take_in.new.place in
     let h = held place.number most c.count-from.result old.past new.past es (flat room.makers.line.log) (flat place.seen.log) place.mine.items c.reserve.new.self.items (flat q.seen.log) q.mine.items
-    room.kept c.work-going.ensures.adds c.count-from.ensures.count c.since-entries.ensures c.reserve.ensures.items c.take_in.ensures.puts in
+    room.kept c.work-going.ensures.adds c.count-from.ensures.count c.since-entries.ensures c.reserve.ensures.items (puts_same place.number es _ _ _ _ _ _ c.has_all.ensures.same.1 c.take_in.ensures.puts) in
     rw (← room.group_is, ← room.lines_are) (puts_grows place.number most es (flat room.makers.line.log) (flat place.seen.log) place.mine.items (flat q.seen.log) q.mine.items h.taken.few h.puts)
 
 pub returns-clause-legal : goal.returns-clause-legal
@@ -270,8 +272,8 @@ returns-clause-legal g c =
     let most = work_share c.args.work old.group room.room.lines in
     let q = c.take_in.new.place in
     let h = held place.number most c.count-from.result old.past new.past es (flat room.makers.line.log) (flat place.seen.log) place.mine.items c.reserve.new.self.items (flat q.seen.log) q.mine.items
-    room.kept c.work-going.ensures.adds c.count-from.ensures.count c.since-entries.ensures c.reserve.ensures.items c.take_in.ensures.puts in
-    λ _. legal_taught (g.J.Naming.group room.group) new.group (flat q.seen.log) new.past h.line (c.work-going.ensures.room.group ∙ room.group_is) c.is_legal.ensures
+    room.kept c.work-going.ensures.adds c.count-from.ensures.count c.since-entries.ensures c.reserve.ensures.items (puts_same place.number es _ _ _ _ _ _ c.has_all.ensures.same.1 c.take_in.ensures.puts) in
+    λ _. legal_taught (g.J.Naming.group room.group) new.group (flat q.seen.log) new.past h.line (c.work-going.ensures.room.group ∙ room.group_is) c.is_legal.ensures.legal
 
 pub tell-requires-clause-book : goal.tell-requires-clause-book
 tell-requires-clause-book g c =
@@ -293,10 +295,10 @@ invariant_of-self-3 g c =
     let most = work_share c.args.work old.group room.room.lines in
     let q = c.take_in.new.place in
     let h = held place.number most c.count-from.result old.past new.past es (flat room.makers.line.log) (flat place.seen.log) place.mine.items c.reserve.new.self.items (flat q.seen.log) q.mine.items
-    room.kept c.work-going.ensures.adds c.count-from.ensures.count c.since-entries.ensures c.reserve.ensures.items c.take_in.ensures.puts in
-    let left : c.take_in.new.self.units.amount + length new.past ≡ 200000 = omega (arith, c.take_in.ensures.units.0, room.left, h.taken.count) in
+    room.kept c.work-going.ensures.adds c.count-from.ensures.count c.since-entries.ensures c.reserve.ensures.items (puts_same place.number es _ _ _ _ _ _ c.has_all.ensures.same.1 c.take_in.ensures.puts) in
+    let left : c.take_in.new.self.units.amount + length new.past ≡ 200000 = omega (arith, c.take_in.ensures.units.0, room.left, h.taken.count, ap (λ u. u.amount) c.has_all.ensures.same.2) in
     record {
-      of_group = c.take_in.ensures.group ∙ room.of_group;
+      of_group = c.take_in.ensures.group ∙ (c.has_all.ensures.same.0 ∙ room.of_group);
       group_is = c.work-going.ensures.room.group ∙ room.group_is;
       lines_are = c.work-going.ensures.room.lines ∙ room.lines_are;
       board_is = c.work-going.ensures.room.board ∙ room.board_is;
@@ -309,7 +311,6 @@ invariant_of-place-2 g c =
     let q = c.take_in.new.place in
     record {
       named = q.named;
-      counted = q.counted;
       made = q.made;
       asked = q.asked;
       reads = c.tell.ensures.board.0 ∙ q.reads;
@@ -326,12 +327,12 @@ returns-clause-journal g c =
     let most = work_share c.args.work old.group room.room.lines in
     let q = c.take_in.new.place in
     let h = held place.number most c.count-from.result old.past new.past es (flat room.makers.line.log) (flat place.seen.log) place.mine.items c.reserve.new.self.items (flat q.seen.log) q.mine.items
-    room.kept c.work-going.ensures.adds c.count-from.ensures.count c.since-entries.ensures c.reserve.ensures.items c.take_in.ensures.puts in
+    room.kept c.work-going.ensures.adds c.count-from.ensures.count c.since-entries.ensures c.reserve.ensures.items (puts_same place.number es _ _ _ _ _ _ c.has_all.ensures.same.1 c.take_in.ensures.puts) in
     if_any c.tell.result h.line
 
 pub returns-clause-open : goal.returns-clause-open
 returns-clause-open g c =
-    on_any c.tell.result c.if-is_shut_to.ensures.0
+    on_any c.tell.result c.in_ok-still_open.ensures
 
 pub returns-clause-spent : goal.returns-clause-spent
 returns-clause-spent g c =
@@ -349,7 +350,7 @@ returns-clause-entered g c =
     let most = work_share c.args.work old.group room.room.lines in
     let q = c.take_in.new.place in
     let h = held place.number most c.count-from.result old.past new.past es (flat room.makers.line.log) (flat place.seen.log) place.mine.items c.reserve.new.self.items (flat q.seen.log) q.mine.items
-    room.kept c.work-going.ensures.adds c.count-from.ensures.count c.since-entries.ensures c.reserve.ensures.items c.take_in.ensures.puts in
+    room.kept c.work-going.ensures.adds c.count-from.ensures.count c.since-entries.ensures c.reserve.ensures.items (puts_same place.number es _ _ _ _ _ _ c.has_all.ensures.same.1 c.take_in.ensures.puts) in
     let course : List Entry → _ = course_at place.number c.args.work old.group room.room.lines in
     subst (λ (r : Result Going _). IfOk r (λ going. Enters (course_at place.number c.args.work (g.J.Naming.group room.group) (g.J.Naming.lines room.group)) going place.number (flat room.makers.line.log) (flat place.seen.log) place.mine.items (flat q.seen.log) q.mine.items)) (sym c.tell.ensures.same)
     (rw (← room.group_is, ← room.lines_are) (enters_all c.work-going.result course place.number most old.past new.past es (flat room.makers.line.log) (flat place.seen.log) place.mine.items (flat q.seen.log) q.mine.items c.work-going.ensures.ok c.work-going.ensures.full h.taken room.kept h.puts))
@@ -364,7 +365,7 @@ returns-clause-refused g c =
     let most = work_share c.args.work old.group room.room.lines in
     let q = c.take_in.new.place in
     let h = held place.number most c.count-from.result old.past new.past es (flat room.makers.line.log) (flat place.seen.log) place.mine.items c.reserve.new.self.items (flat q.seen.log) q.mine.items
-    room.kept c.work-going.ensures.adds c.count-from.ensures.count c.since-entries.ensures c.reserve.ensures.items c.take_in.ensures.puts in
+    room.kept c.work-going.ensures.adds c.count-from.ensures.count c.since-entries.ensures c.reserve.ensures.items (puts_same place.number es _ _ _ _ _ _ c.has_all.ensures.same.1 c.take_in.ensures.puts) in
     let course : List Entry → _ = course_at place.number c.args.work old.group room.room.lines in
     on_err c.tell.result (inr (rw (← room.group_is, ← room.lines_are) (enters_part course place.number most old.past new.past es (flat room.makers.line.log) (flat place.seen.log) place.mine.items (flat q.seen.log) q.mine.items c.work-going.ensures.part h.taken room.kept h.puts)))
 
@@ -382,5 +383,5 @@ returns-clause-reads g c =
     let most = work_share c.args.work old.group room.room.lines in
     let q = c.take_in.new.place in
     let h = held place.number most c.count-from.result old.past new.past es (flat room.makers.line.log) (flat place.seen.log) place.mine.items c.reserve.new.self.items (flat q.seen.log) q.mine.items
-    room.kept c.work-going.ensures.adds c.count-from.ensures.count c.since-entries.ensures c.reserve.ensures.items c.take_in.ensures.puts in
+    room.kept c.work-going.ensures.adds c.count-from.ensures.count c.since-entries.ensures c.reserve.ensures.items (puts_same place.number es _ _ _ _ _ _ c.has_all.ensures.same.1 c.take_in.ensures.puts) in
     reads_taught c.tell.result (flat q.seen.log) new.past c.tell.new.reader.proposals h.line c.tell.ensures.reads

@@ -11,7 +11,7 @@ returns-clause-kept g c =
     let n = c.args.room.now.group in
     let old = c.args.self.now in
     let log = c.add.new.self in
-    subst (λ (h : Holder). Kept old (record h { log = log }) n 0) (sym c.self.view_is) (kept_logged old c.seen_in.new.self n 0 log c.seen_in.ensures.kept)
+    subst (λ (h : Holder). Kept old (record h { log = log }) n 0) (sym c.self.view_is) (kept_logged old c.look_in.new.self n 0 log c.look_in.ensures.kept)
 
 pub returns-clause-reads : goal.returns-clause-reads
-returns-clause-reads g c = on_any c.add.result (subst (λ (h : Holder). IsTaught h c.args.room.now.group) (sym c.self.view_is) c.in_ok-saw.ensures.reads)
+returns-clause-reads g c = on_any c.add.result (subst (λ (h : Holder). IsTaught h c.args.room.now.group) (sym c.self.view_is) c.in_ok-look_in.ensures.reads)

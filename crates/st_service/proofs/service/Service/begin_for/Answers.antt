@@ -8,10 +8,10 @@ use Rattle.st_service.proofs.service.Service.begin_for.Goals as goal
 
 pub returns-clause-begins : goal.returns-clause-begins
 returns-clause-begins g c =
-    let here = ap (λ l. l.group) c.deref.ensures ∙ c.in_ok-room.ensures.group in
+    let here = ap (λ l. l.group) c.deref_mut.ensures.value ∙ c.in_ok-room.ensures.group in
     subst (λ (k : ℕ). IfOk c.begin_for_in.result (BeginsFor c.args.ticket (g.J.Naming.group k) (past_in (front_at c.begin_for_in.new.pass.fronts k)))) here c.begin_for_in.ensures.begins
 
 pub returns-clause-reads : goal.returns-clause-reads
 returns-clause-reads g c =
-    let here = ap (λ l. l.group) c.deref.ensures ∙ c.in_ok-room.ensures.group in
+    let here = ap (λ l. l.group) c.deref_mut.ensures.value ∙ c.in_ok-room.ensures.group in
     subst (λ (k : ℕ). IfOk c.begin_for_in.result (λ _. IsTaught c.begin_for_in.new.pass k)) here c.begin_for_in.ensures.reads

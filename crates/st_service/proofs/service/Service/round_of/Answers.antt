@@ -1,5 +1,5 @@
 -- The round is the look at its start, the turns, and the look behind them.
-use Rattle.std.proofs.Common.{◌≡◌, length, refl, sym, ap, subst, ◌∙◌}
+use Rattle.std.proofs.Common.{◌≡◌, length, refl, sym, ap, subst, ◌∙◌, arith}
 use Rattle.std.specs.Prelude.{All}
 use Rattle.st_net.specs.Groups.{IsEntityOf}
 use Rattle.st_world.specs.Rounds.{unsettled}
@@ -11,6 +11,9 @@ use Rattle.st_service.specs.Shares.{round_share}
 use Rattle.st_service.specs.Turns.{Turned, Turns, ToFull}
 use Rattle.st_service.proofs.RoundChain.{kept_look, kept_turns, kept_round, round_full, round_made}
 use Rattle.st_service.proofs.service.Service.round_of.Goals as goal
+
+pub overflow_cast-result : goal.overflow_cast-result
+overflow_cast-result g c = omega (arith, c.in_ok-left-in-On.ensures.few, c.len.ensures, c.in_ok-left-in-On.left.ok.0)
 
 pub turns-requires-clause-fits : goal.turns-requires-clause-fits
 turns-requires-clause-fits g c =
@@ -44,13 +47,8 @@ returns-in-On-clause-kept g c =
     let n = c.args.group in
     kept_round c.args.part (g.J.Naming.group n) (g.J.Naming.lines n) c.deref.result.now c.args.pass.now c.unsettled.new.pass c.turns.new.pass c.unsettled-in-On.new.pass n (c.deref.ensures.value ∙ c.in_ok-entities.ensures.entities) c.unsettled.ensures.kept c.turns.ensures.kept c.unsettled-in-On.ensures.kept
 
-pub returns-in-Ok-clause-kept : goal.returns-in-Ok-clause-kept
-returns-in-Ok-clause-kept g c =
-    let n = c.args.group in
-    kept_round c.args.part (g.J.Naming.group n) (g.J.Naming.lines n) c.deref.result.now c.args.pass.now c.unsettled.new.pass c.turns.new.pass c.unsettled-in-On.new.pass n (c.deref.ensures.value ∙ c.in_ok-entities.ensures.entities) c.unsettled.ensures.kept c.turns.ensures.kept c.unsettled-in-On.ensures.kept
-
-pub returns-in-Ok-clause-told : goal.returns-in-Ok-clause-told
-returns-in-Ok-clause-told g c =
+pub returns-in-On-clause-told : goal.returns-in-On-clause-told
+returns-in-On-clause-told g c =
     let n = c.args.group in
     let part = c.args.part in
     let h = g.J.Naming.group n in
@@ -66,7 +64,7 @@ returns-in-Ok-clause-told g c =
     let turned : Turns part h lines seen.number es f (mine_at seen.mines n) (front_at mid.fronts n) (mine_at mid.mines n) =
     subst (λ (going : Going). Turned going part h lines seen.number es f (mine_at seen.mines n) (front_at mid.fronts n) (mine_at mid.mines n)) c.in-On.is c.in_ok-turns.ensures.turned in (
       round_made part h lines seen.number old.number es (front_at old.fronts n) f (front_at mid.fronts n) (front_at new.fronts n) (mine_at old.mines n) (mine_at seen.mines n) (mine_at mid.mines n) (mine_at new.mines n) c.unsettled.ensures.kept.number c.unsettled.ensures.kept.grows list turned c.unsettled-in-On.ensures.kept.grows,
-      c.in-Ok.ensures.1 ∙ (c.len.ensures ∙ (c.in_ok-left-in-On.left.ok.0 ∙ ap length left)),
+      c.len.ensures ∙ (c.in_ok-left-in-On.left.ok.0 ∙ ap length left),
     )
 
 pub returns-clause-told : goal.returns-clause-told

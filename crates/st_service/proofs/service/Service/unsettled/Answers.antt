@@ -1,17 +1,21 @@
 -- The room that is held has the number that was asked for, so that what the pass is told of the one it is told of the other.
-use Rattle.std.proofs.Common.{◌≡◌, ◌∙◌, ℕ, ap, subst}
-use Rattle.std.specs.Prelude.{IfOk}
-use Rattle.st_world.specs.Rounds.{unsettled}
+use Rattle.std.proofs.Common.{◌≡◌, ◌∙◌, ℕ, ap, sym, subst}
 use Rattle.st_service.specs.Made.{past_in}
 use Rattle.st_service.specs.Passes.{front_at, IsTaught}
+use Rattle.st_service.proofs.HeldLaws.{if_any}
+use Rattle.st_service.proofs.RoundChain.{unsettled_taught}
 use Rattle.st_service.proofs.service.Service.unsettled.Goals as goal
 
-pub returns-clause-entities : goal.returns-clause-entities
-returns-clause-entities g c =
-    let here = ap (λ l. l.group) c.deref.ensures ∙ c.in_ok-room.ensures.group in
-    subst (λ (k : ℕ). IfOk c.unsettled_in.result (λ entities. entities.items ≡ unsettled (g.J.Naming.group k) (past_in (front_at c.unsettled_in.new.self.fronts k)))) here c.unsettled_in.ensures.entities
+pub returns-in-Ok-clause-entities : goal.returns-in-Ok-clause-entities
+returns-in-Ok-clause-entities g c =
+    let here = ap (λ l. l.group) c.deref_mut.ensures.value ∙ c.in_ok-room.ensures.group in
+    let n = c.args.group in
+    let room = c.deref.result.now in
+    let new = c.look_in.new.self in
+    let taught : past_in (front_at new.fronts n) ≡ room.room.history.past = subst (λ (k : ℕ). past_in (front_at new.fronts k) ≡ room.room.history.past) here (c.in-Ok.ensures.journal ∙ ap (λ l. l.room.history.past) (sym c.deref.ensures)) in
+    unsettled_taught c.unsettled.result (λ v. v.items) (g.J.Naming.group n) room.room.history (front_at new.fronts n) c.unsettled.ensures.entities taught (room.group_is ∙ ap g.J.Naming.group (ap (λ l. l.group) c.deref.ensures ∙ (c.look_in.ensures.room.0 ∙ here)))
 
-pub returns-clause-reads : goal.returns-clause-reads
-returns-clause-reads g c =
-    let here = ap (λ l. l.group) c.deref.ensures ∙ c.in_ok-room.ensures.group in
-    subst (λ (k : ℕ). IfOk c.unsettled_in.result (λ _. IsTaught c.unsettled_in.new.self k)) here c.unsettled_in.ensures.reads
+pub returns-in-Ok-clause-reads : goal.returns-in-Ok-clause-reads
+returns-in-Ok-clause-reads g c =
+    let here = ap (λ l. l.group) c.deref_mut.ensures.value ∙ c.in_ok-room.ensures.group in
+    if_any c.unsettled.result (subst (λ (k : ℕ). IsTaught c.look_in.new.self k) here c.in-Ok.ensures.reads)

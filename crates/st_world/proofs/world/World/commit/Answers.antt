@@ -1,4 +1,4 @@
-use Rattle.std.proofs.Common.{◌≡◌, ℕ, ◌+◌, ◌<◌, ◌≤◌, [], ◌∷◌, ◌++◌, length, ap, refl, rules, subst, sym, ◌∙◌}
+use Rattle.std.proofs.Common.{◌≡◌, ℕ, ◌<◌, ◌≤◌, [], ◌∷◌, ◌++◌, length, ap, refl, rules, subst, sym, ◌∙◌}
 use Rattle.std.specs.Prelude.{reverse, ◌⊎◌}
 use Rattle.st_event.specs.declared.event.Event.TheVariants.{Check}
 use Rattle.st_event.specs.declared.reply.Reply.TheVariants.{Decided}
@@ -9,7 +9,7 @@ use Rattle.st_store.specs.Store.{IsWaiting, IsNeverGiven}
 use Rattle.st_world.specs.Commits.{MayCommit}
 use Rattle.st_world.specs.World.{WorldView}
 use Rattle.st_world.proofs.CommitLaws.{still_open}
-use Rattle.st_world.proofs.WorldLaws.{answered_next, agrees_next, enters, is_full}
+use Rattle.st_world.proofs.WorldLaws.{answered_next, agrees_next, enters, is_full, version_fits}
 use Rattle.st_world.proofs.world.World.commit.Goals as goal
 
 pub returns-in_default-2-clause-ok : goal.returns-in_default-2-clause-ok
@@ -33,3 +33,6 @@ returns-clause-ok c =
     let made = answered_next c.self.inside.machine c.commit.new.self c.self.inside.journal.items _ c.in-Some-2.entry Check (Decided c.in_ok-told.field-0.told) c.in-Some-2.is c.in_ok-entry.ensures.number c.in_ok-entry.ensures.few c.in_ok-told.ensures.ok in
     let pushed : c.enter_last.new.journal.items ≡ c.self.inside.journal.items ++ record { event = Check; reply = Decided c.in_ok-told.field-0.told } ∷ [] = rw (c.enter_last.ensures.entry, c.next_entry.ensures.items, c.in_ok-told.ensures.kept) refl in
     (c.in_ok-told.ensures.ticket, rw (← c.self.view_is) (enters c.self.inside.machine c.commit.new.self c.self.inside.journal.items c.enter_last.new.journal.items Check (Decided c.in_ok-told.field-0.told) c.self.invariant made.0 tt made.1 pushed))
+
+pub commit-requires-clause-version : goal.commit-requires-clause-version
+commit-requires-clause-version c = version_fits c.self.inside.machine c.self.inside.journal.items _ c.in-Some-2.entry c.self.invariant c.in-Some-2.is c.in_ok-entry.ensures.number c.in_ok-entry.ensures.few
