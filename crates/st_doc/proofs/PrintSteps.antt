@@ -14,7 +14,7 @@ use Rattle.st_token.specs.Steps.{◌>>=◌}
 use Rattle.st_token.specs.Reading.{read_on}
 use Rattle.st_token.proofs.ReadTokens.{came_from}
 use Rattle.st_grammar.specs.declared.doc.Doc.{Doc}
-use Rattle.st_grammar.specs.Draft.{Draft, nothing}
+use Rattle.st_grammar.specs.Draft.{Draft, nothing, has_header}
 use Rattle.st_grammar.specs.Lines.{tokens_line, line_of}
 use Rattle.st_grammar.specs.Reading.{doc_of, document_of}
 use Rattle.st_doc.specs.Printed.{Words}
@@ -109,5 +109,5 @@ lines_again (w ∷ ws) d e n all p =
     rw (line_again d step.0 w all.0 step.1) (lines_again ws step.0 e (n + 1) all.1 step.2)
 
 -- lines that make a draft of nothing are the text of its document
-pub text_again : (lines : List Words) (e : Draft) (doc : Doc) → Prints nothing lines e → e.begun ≡ true → doc_of e ≡ doc → document_of (text_of lines) ≡ Ok doc
+pub text_again : (lines : List Words) (e : Draft) (doc : Doc) → Prints nothing lines e → has_header e ≡ true → doc_of e ≡ doc → document_of (text_of lines) ≡ Ok doc
 text_again lines e doc p b is = rw (word_lines_cut_again lines p.words, lines_again lines nothing e 1 p.words p.taken, b, is) refl

@@ -151,12 +151,12 @@ pub record Section : Type 0 where
   pub name : List ℕ
 
 abbrev pub acting : Section → List Act → Draft
-acting s acts = record { begun = true; phase = 3; groups = s.groups.ended; group = s.groups.last; apps = s.apps; app = Some (record { name = s.name; acts = acts }); order = [] }
+acting s acts = record { version = s.groups.version.number; phase = 3; groups = s.groups.ended; group = s.groups.last; apps = s.apps; app = Some (record { name = s.name; acts = acts }); order = [] }
 
 command_taken : (s : Section) (acts : List Act) (word : List ℕ) (command : ActWord) (args : Words) (act : Act) → is_comment word ≡ false → keyword_of word ≡ Some (keywords.Act command) → act_of (acting s acts) command args ≡ Ok act → nat_lt (length acts) MAX_ACTS ≡ true
     → tokens_line (acting s acts) (word ∷ args) ≡ Ok (acting s (acts ++ act ∷ []))
 unfolding keyword_line phased_line act_line act_added
-command_taken s acts word command args act plain known e room = rw (plain, known, e, room) refl
+command_taken s acts word command args act plain known e room = rw (plain, s.groups.version.first, known, s.groups.version.first, e, room) refl
 
 health_within : (e : Entity) (h : ℕ) → is_health_of e h ≡ true → ((nat_le 0 h && nat_le h (most_health e)) ≡ true) × (h < 2 ^ 32)
 health_within (Device i) h is = let low : nat_le 0 h ≡ true = at_most 0 h (omega arith) in let few = leb-true h 5 is in (rw (low, is) refl, omega arith)

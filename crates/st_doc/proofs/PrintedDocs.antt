@@ -18,10 +18,10 @@ use Rattle.st_grammar.specs.declared.limits.TheConstants.{MAX_APPS, MAX_ACTS}
 use Rattle.st_grammar.specs.Draft.{Draft, nothing, app_names, parts_of}
 use Rattle.st_grammar.specs.Lines.{app_line, known_names_in, order_line, tokens_line, keyword_line, phased_line}
 use Rattle.st_grammar.specs.Sound.{IsSoundGroup, IsSoundAct, IsSoundScript, AreSoundWires}
-use Rattle.st_doc.specs.Printed.{header_words, act_words, app_words, app_lines, app_name_at, order_words, doc_lines, without_journals}
+use Rattle.st_doc.specs.Printed.{version_of_doc, header_words, act_words, app_words, app_lines, app_name_at, order_words, doc_lines, without_journals}
 use Rattle.st_doc.specs.ReadingBack.{PrintsBack}
 use Rattle.st_doc.proofs.PrintSteps.{Prints, prints_none, prints_line, prints_both, along, lined, amid, new_before, text_again}
-use Rattle.st_doc.proofs.PrintedParts.{names_amid, length_amid}
+use Rattle.st_doc.proofs.PrintedParts.{Version, names_amid, length_amid}
 use Rattle.st_doc.proofs.PrintedOpenings.{place_amid}
 use Rattle.st_doc.proofs.PrintedGroups.{Begun, all_of, begun_again, header_printed, groups_printed}
 use Rattle.st_doc.proofs.PrintedWires.{wires_printed}
@@ -37,7 +37,7 @@ abbrev all_called : Called → List Script
 all_called c = c.ended ++ option_to_list c.last
 
 abbrev called : Begun → Called → Draft
-called b c = record { begun = true; phase = c.phase; groups = b.ended; group = b.last; apps = c.ended; app = c.last; order = [] }
+called b c = record { version = b.version.number; phase = c.phase; groups = b.ended; group = b.last; apps = c.ended; app = c.last; order = [] }
 
 -- these are the applications, and no later line stood
 record AreCalled (apps : List Script) (c : Called) : Type 0 where
@@ -47,7 +47,7 @@ record AreCalled (apps : List Script) (c : Called) : Type 0 where
 app_begun : (b : Begun) (c : Called) (name : List ℕ) → nat_le c.phase 3 ≡ true → is_name name ≡ true → is_among name (app_names (called b c)) ≡ false → nat_lt (length (app_names (called b c))) MAX_APPS ≡ true
     → tokens_line (called b c) (app_words name) ≡ Ok (acting (record { groups = b; apps = all_called c; name = name }) [])
 unfolding keyword_line phased_line app_line
-app_begun b c name low spelled fresh room = rw (low, begun_again (app_names (called b c)) MAX_APPS name spelled fresh room) refl
+app_begun b c name low spelled fresh room = rw (b.version.first, low, begun_again (app_names (called b c)) MAX_APPS name spelled fresh room) refl
 
 module _ (groups : List Parts) (sound : AllByRecursion IsSoundGroup groups) (new : are_new [] (map (λ (p : Parts). p.name) groups) ≡ true) (b : Begun) (are : map parts_of (all_of b) ≡ groups) where
   acts_printed : (apps : List Script) (app : Script) → AllByRecursion (IsSoundAct groups) app.acts → length app.acts ≤ MAX_ACTS → Prints (acting (record { groups = b; apps = apps; name = app.name }) []) (map (act_words groups) app.acts) (acting (record { groups = b; apps = apps; name = app.name }) app.acts)
@@ -81,11 +81,11 @@ module _ (groups : List Parts) (sound : AllByRecursion IsSoundGroup groups) (new
 
 -- the order
 abbrev ordered : ℕ → Begun → Called → List ℕ → Draft
-ordered phase b c order = record { begun = true; phase = phase; groups = b.ended; group = b.last; apps = c.ended; app = c.last; order = order }
+ordered phase b c order = record { version = b.version.number; phase = phase; groups = b.ended; group = b.last; apps = c.ended; app = c.last; order = order }
 
 order_taken : (phase : ℕ) (b : Begun) (c : Called) (order : List ℕ) (name : List ℕ) (n : ℕ) → nat_le phase 4 ≡ true → known_name_in (app_names (ordered phase b c order)) name ≡ Ok n → tokens_line (ordered phase b c order) (codes "order" ∷ name ∷ []) ≡ Ok (ordered 4 b c (order ++ n ∷ []))
 unfolding keyword_line phased_line order_line known_names_in
-order_taken phase b c order name n low e = rw (low, e) refl
+order_taken phase b c order name n low e = rw (b.version.first, low, e) refl
 
 order_printed : (apps : List Script) → are_new [] (map (λ (a : Script). a.name) apps) ≡ true → AllByRecursion (λ a. is_name a.name ≡ true) apps → (b : Begun) (c : Called) → all_called c ≡ apps → (phase : ℕ) (order : List ℕ) (n : ℕ) → nat_le phase 4 ≡ true → n < length apps
     → Prints (ordered phase b c order) (order_words apps n ∷ []) (ordered 4 b c (order ++ n ∷ []))
@@ -130,14 +130,15 @@ pub printed_back : PrintsBack
 printed_back doc s =
     let sound = recursion_from_All IsSoundGroup doc.groups s.groups in
     let scripts = recursion_from_All (IsSoundScript doc.groups) doc.apps s.apps in
-    let groups = groups_printed doc.groups sound s.group_names s.few_groups in
+    let version : Version = record { number = version_of_doc doc; first = refl } in
+    let groups = groups_printed version doc.groups sound s.group_names s.few_groups in
     let wires = wires_printed doc.groups doc.wires s.group_names sound s.wires (recursion_from_All AreSoundWires doc.wires s.wire_lines) groups.0 groups.2 in
     let b = wires.0.begun in
     let apps = apps_printed doc.groups sound s.group_names b wires.0.has.parts doc.apps scripts s.app_names s.few_apps wires.0.phase (phase_more wires.0.phase wires.0.low) in
     let orders = orders_printed doc.apps s.app_names (names_good doc.groups doc.apps scripts) b apps.0 apps.2.are apps.0.phase [] doc.order (phase_most apps.0.phase apps.2.low) (recursion_from_All (λ n. n < length doc.apps) doc.order s.order) in
     let all : Prints nothing (doc_lines doc) (ordered orders.0 b apps.0 doc.order) =
-    prints_both nothing (header_words ∷ []) _ _ _ header_printed (prints_both _ _ _ _ _ groups.1 (prints_both _ _ _ _ _ wires.1 (prints_both _ _ _ _ _ apps.1 orders.1))) in
-    text_again (doc_lines doc) (ordered orders.0 b apps.0 doc.order) (without_journals doc) all refl
+    prints_both nothing (header_words (version_of_doc doc) ∷ []) _ _ _ (header_printed version refl (omega arith)) (prints_both _ _ _ _ _ groups.1 (prints_both _ _ _ _ _ wires.1 (prints_both _ _ _ _ _ apps.1 orders.1))) in
+    text_again (doc_lines doc) (ordered orders.0 b apps.0 doc.order) (without_journals doc) all b.version.first
     (ap (λ (gs : List Parts). doc_by gs (map (λ g. g.wires) (all_of b)) (all_called apps.0) doc.order) wires.0.has.parts
     ∙ ap (λ (ws : List (List WireLine)). doc_by doc.groups ws (all_called apps.0) doc.order) wires.0.has.wires
     ∙ ap (λ (xs : List Script). doc_by doc.groups doc.wires xs doc.order) apps.2.are)

@@ -28,13 +28,13 @@ use Rattle.st_grammar.proofs.SoundParts.{Noted, group_with, drafted}
 use Rattle.st_doc.specs.Printed.{Words, health_words, device_healths, link_healths}
 use Rattle.st_doc.proofs.PrintSteps.{Prints, prints_none, prints_line, prints_both, along, amid}
 use Rattle.st_doc.proofs.PrintedTokens.{untold_again}
-use Rattle.st_doc.proofs.PrintedParts.{sections, each_spelled, device_new, link_new}
+use Rattle.st_doc.proofs.PrintedParts.{Ended, sections, each_spelled, device_new, link_new}
 use Rattle.st_doc.proofs.PrintedOpenings.{device_found, link_found, opened_device, opened_link, rows_noted}
 
 -- the line of a health
-health_taken : (gs : List GroupDraft) (g h : GroupDraft) (args : Words) → health_line_of g args ≡ Ok h → tokens_line (sections gs g) (codes "health" ∷ args) ≡ Ok (sections gs h)
+health_taken : (gs : Ended) (g h : GroupDraft) (args : Words) → health_line_of g args ≡ Ok h → tokens_line (sections gs g) (codes "health" ∷ args) ≡ Ok (sections gs h)
 unfolding keyword_line phased_line
-health_taken gs g h args e = rw e refl
+health_taken gs g h args e = rw (gs.version.first, e) refl
 
 health_line_again : (g : GroupDraft) (name : List ℕ) (e : Entity) (x : ℕ) → is_name name ≡ true → entity_named g name ≡ Some e → has_health g e ≡ false → nat_le x (most_health e) ≡ true → x < 2 ^ 32 → health_line_of g (name ∷ decimal x ∷ []) ≡ Ok (with_health g e x)
 unfolding health_line_of health_of
@@ -43,7 +43,7 @@ health_line_again g name e x spelled at fresh most small =
     let within : (nat_le 0 x && nat_le x (most_health e)) ≡ true = rw (low, most) refl in
     rw (untold_again g name e spelled at fresh, within_again 0 (most_health e) x small within) refl
 
-health_printed : (gs : List GroupDraft) (g : GroupDraft) (name : List ℕ) (e : Entity) (x : ℕ) → is_name name ≡ true → entity_named g name ≡ Some e → has_health g e ≡ false → nat_le x (most_health e) ≡ true → x < 2 ^ 32
+health_printed : (gs : Ended) (g : GroupDraft) (name : List ℕ) (e : Entity) (x : ℕ) → is_name name ≡ true → entity_named g name ≡ Some e → has_health g e ≡ false → nat_le x (most_health e) ≡ true → x < 2 ^ 32
     → Prints (sections gs g) (health_words name x ∷ []) (sections gs (with_health g e x))
 health_printed gs g name e x spelled at fresh most small =
     prints_line (sections gs g) (health_words name x) _ (health_taken gs g _ _ (health_line_again g name e x spelled at fresh most small))
@@ -96,7 +96,7 @@ told_link_names : (ls : List LinkPart) → link_names (map told_link ls) ≡ lin
 told_link_names [] = refl
 told_link_names (l ∷ ls) = ap (λ (ns : List (List ℕ)). l.name ∷ ns) (told_link_names ls)
 
-module _ (gs : List GroupDraft) (p : Parts) (s : IsSoundDraftGroup (drafted p)) (rows : List Row) where
+module _ (gs : Ended) (p : Parts) (s : IsSoundDraftGroup (drafted p)) (rows : List Row) where
   abbrev noted : List ℕ → List ℕ → Noted
   noted devices links = record { opens = rows; devices = devices; links = links }
 

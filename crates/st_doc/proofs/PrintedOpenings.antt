@@ -32,7 +32,7 @@ use Rattle.st_grammar.proofs.SoundSteps.{pushed_all}
 use Rattle.st_grammar.proofs.SoundParts.{Noted, nothing_noted, group_with, drafted}
 use Rattle.st_doc.specs.Printed.{Words, open_words, open_line, device_opens, link_opens}
 use Rattle.st_doc.proofs.PrintSteps.{Prints, prints_none, prints_line, prints_both, along, amid}
-use Rattle.st_doc.proofs.PrintedParts.{sections, plain_device, plain_link, each_spelled, device_new, link_new}
+use Rattle.st_doc.proofs.PrintedParts.{Ended, sections, plain_device, plain_link, each_spelled, device_new, link_new}
 
 -- where a name stands that none before it is
 pub place_amid : (front : List (List ℕ)) (n : List ℕ) (behind : List (List ℕ)) → is_among n front ≡ false → place_of n (front ++ n ∷ behind) ≡ Some (length front)
@@ -90,11 +90,11 @@ below_more : (n r s : ℕ) (rows : List Row) → r ≤ s → AreBelow n r rows �
 below_more n r s rows low all = each (λ row. rank n row.entity row.var < r) (λ row. rank n row.entity row.var < s) (λ row h. omega arith) rows all
 
 -- the line of an opening value
-open_taken : (gs : List GroupDraft) (g h : GroupDraft) (args : Words) → open_line_of g args ≡ Ok h → tokens_line (sections gs g) (codes "open" ∷ args) ≡ Ok (sections gs h)
+open_taken : (gs : Ended) (g h : GroupDraft) (args : Words) → open_line_of g args ≡ Ok h → tokens_line (sections gs g) (codes "open" ∷ args) ≡ Ok (sections gs h)
 unfolding keyword_line phased_line
-open_taken gs g h args e = rw e refl
+open_taken gs g h args e = rw (gs.version.first, e) refl
 
-open_printed : (gs : List GroupDraft) (g : GroupDraft) (name : List ℕ) (e : Entity) (v : Var) (x : ℕ) → is_name name ≡ true → entity_named g name ≡ Some e → is_in_range e v x ≡ true → is_free_of e v g.opens ≡ true
+open_printed : (gs : Ended) (g : GroupDraft) (name : List ℕ) (e : Entity) (v : Var) (x : ℕ) → is_name name ≡ true → entity_named g name ≡ Some e → is_in_range e v x ≡ true → is_free_of e v g.opens ≡ true
     → Prints (sections gs g) (open_words name v x ∷ []) (sections gs (with_open g (row_of e v x)))
 unfolding open_line_of open_of
 open_printed gs g name e v x spelled at range free =
@@ -155,7 +155,7 @@ abbrev vals_of : ℕ → ℕ → ℕ → ℕ → Vals
 vals_of v0 v1 v2 v3 = record { v0 = v0; v1 = v1; v2 = v2; v3 = v3 }
 
 -- one variable of a device amid others
-module _ (gs : List GroupDraft) (name : List ℕ) (ls : List LinkPart) (ps : List PromisePart) (n : ℕ) (front : List DevicePart) (d : DevicePart) (behind : List DevicePart) (spelled : is_name d.name ≡ true) (fresh : is_among d.name (device_names front) ≡ false) where
+module _ (gs : Ended) (name : List ℕ) (ls : List LinkPart) (ps : List PromisePart) (n : ℕ) (front : List DevicePart) (d : DevicePart) (behind : List DevicePart) (spelled : is_name d.name ≡ true) (fresh : is_among d.name (device_names front) ≡ false) where
   abbrev device_at : Vals → List Row → Draft
   device_at w rows = sections gs (group_with name (front ++ opening_device d w ∷ behind) ls ps (rows_noted rows))
 
@@ -198,7 +198,7 @@ module _ (gs : List GroupDraft) (name : List ℕ) (ls : List LinkPart) (ps : Lis
       )
 
 -- the two variables of a link
-module _ (gs : List GroupDraft) (name : List ℕ) (ds : List DevicePart) (ps : List PromisePart) (n : ℕ) (front : List LinkPart) (l : LinkPart) (behind : List LinkPart) (spelled : is_name l.name ≡ true) (no_device : is_among l.name (device_names ds) ≡ false) (no_link : is_among l.name (link_names front) ≡ false) where
+module _ (gs : Ended) (name : List ℕ) (ds : List DevicePart) (ps : List PromisePart) (n : ℕ) (front : List LinkPart) (l : LinkPart) (behind : List LinkPart) (spelled : is_name l.name ≡ true) (no_device : is_among l.name (device_names ds) ≡ false) (no_link : is_among l.name (link_names front) ≡ false) where
   abbrev link_at : Vals → List Row → Draft
   link_at w rows = sections gs (group_with name ds (front ++ opening_link l w ∷ behind) ps (rows_noted rows))
 
@@ -240,7 +240,7 @@ module _ (gs : List GroupDraft) (name : List ℕ) (ds : List DevicePart) (ps : L
       )
 
 -- the opening values of a group's devices, then of its links
-module _ (gs : List GroupDraft) (p : Parts) (s : IsSoundDraftGroup (drafted p)) where
+module _ (gs : Ended) (p : Parts) (s : IsSoundDraftGroup (drafted p)) where
   abbrev pub with_device_opens : List DevicePart → List DevicePart → List Row → Draft
   with_device_opens front left rows = sections gs (group_with p.name (map opened_device front ++ map plain_device left) (map plain_link p.links) p.promises (rows_noted rows))
 

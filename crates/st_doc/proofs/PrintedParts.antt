@@ -27,8 +27,18 @@ use Rattle.st_doc.proofs.PrintSteps.{Prints, prints_line, lined, amid, new_befor
 use Rattle.st_doc.proofs.PrintedTokens.{tor_is_word, device_again, end_again, tor_again}
 
 -- a draft within the section of a group, behind others
-abbrev pub sections : List GroupDraft → GroupDraft → Draft
-sections gs g = record { begun = true; phase = 1; groups = gs; group = Some g; apps = []; app = None; order = [] }
+-- a version that a header may name
+pub record Version : Type 0 where
+  pub number : ℕ
+  pub first : nat_le 1 number ≡ true
+
+-- the version that the header names, and the groups that are ended
+pub record Ended : Type 0 where
+  pub version : Version
+  pub groups : List GroupDraft
+
+abbrev pub sections : Ended → GroupDraft → Draft
+sections gs g = record { version = gs.version.number; phase = 1; groups = gs.groups; group = Some g; apps = []; app = None; order = [] }
 
 -- parts as their lines declare them, before opening values and healths
 abbrev pub plain_device : DevicePart → DevicePart
@@ -38,17 +48,17 @@ abbrev pub plain_link : LinkPart → LinkPart
 plain_link l = new_link l.name l.a.name l.b.name l.capacity
 
 -- the line of a keyword within a section
-device_taken : (gs : List GroupDraft) (g h : GroupDraft) (args : Words) → device_line g args ≡ Ok h → tokens_line (sections gs g) (codes "device" ∷ args) ≡ Ok (sections gs h)
+device_taken : (gs : Ended) (g h : GroupDraft) (args : Words) → device_line g args ≡ Ok h → tokens_line (sections gs g) (codes "device" ∷ args) ≡ Ok (sections gs h)
 unfolding keyword_line phased_line
-device_taken gs g h args e = rw e refl
+device_taken gs g h args e = rw (gs.version.first, e) refl
 
-link_taken : (gs : List GroupDraft) (g h : GroupDraft) (args : Words) → link_line g args ≡ Ok h → tokens_line (sections gs g) (codes "link" ∷ args) ≡ Ok (sections gs h)
+link_taken : (gs : Ended) (g h : GroupDraft) (args : Words) → link_line g args ≡ Ok h → tokens_line (sections gs g) (codes "link" ∷ args) ≡ Ok (sections gs h)
 unfolding keyword_line phased_line
-link_taken gs g h args e = rw e refl
+link_taken gs g h args e = rw (gs.version.first, e) refl
 
-promise_taken : (gs : List GroupDraft) (g h : GroupDraft) (args : Words) → promise_line g args ≡ Ok h → tokens_line (sections gs g) (codes "promise" ∷ args) ≡ Ok (sections gs h)
+promise_taken : (gs : Ended) (g h : GroupDraft) (args : Words) → promise_line g args ≡ Ok h → tokens_line (sections gs g) (codes "promise" ∷ args) ≡ Ok (sections gs h)
 unfolding keyword_line phased_line
-promise_taken gs g h args e = rw e refl
+promise_taken gs g h args e = rw (gs.version.first, e) refl
 
 -- the line of a part
 device_line_again : (g : GroupDraft) (d : DevicePart) → is_name d.name ≡ true → is_entity_name g d.name ≡ false → has_device_room g d.tor ≡ true → device_line g (d.name ∷ tor_word d.tor ∷ []) ≡ Ok (with_device g (plain_device d))
@@ -151,7 +161,7 @@ good_pair : (ds : List DevicePart) (front : List PromisePart) (p : PromisePart) 
 good_pair ds front p s fresh = rw (plain_tor_name ds p.a, plain_tor_name ds p.b, s.a_tor, s.b_tor, s.apart, fresh) refl
 
 -- the devices, then the links, then the promises of a group
-module _ (gs : List GroupDraft) (p : Parts) (s : IsSoundDraftGroup (drafted p)) where
+module _ (gs : Ended) (p : Parts) (s : IsSoundDraftGroup (drafted p)) where
   abbrev pub with_devices : List DevicePart → Draft
   with_devices front = sections gs (group_with p.name (map plain_device front) [] [] nothing_noted)
 

@@ -28,7 +28,7 @@ use Rattle.st_doc.proofs.PrintedGroups.{Begun, all_of, grouped, Stands, no_lines
 
 -- a draft of groups, behind lines of the first phases
 abbrev pub wired_draft : ℕ → Begun → Draft
-wired_draft phase b = record { begun = true; phase = phase; groups = b.ended; group = b.last; apps = []; app = None; order = [] }
+wired_draft phase b = record { version = b.version.number; phase = phase; groups = b.ended; group = b.last; apps = []; app = None; order = [] }
 
 abbrev lines_of : List GroupDraft → List (List WireLine)
 lines_of gs = map (λ g. g.wires) gs
@@ -136,17 +136,17 @@ moved phase b k line false = refl
 drop_taken : (phase : ℕ) (b : Begun) (args : Words) (k : ℕ) (line : WireLine) → nat_le phase 2 ≡ true → drop_of (wired_draft phase b) args ≡ Ok (k, line) → nat_lt (wire_count (wired_draft phase b) k) MAX_WIRE_LINES ≡ true
     → tokens_line (wired_draft phase b) (codes "drop" ∷ args) ≡ Ok (wired_draft 2 (with_line b k line))
 unfolding keyword_line phased_line wire_line
-drop_taken phase b args k line low e room = rw (low, e, room) (ap Ok (moved phase b k line (nat_lt k (length b.ended))))
+drop_taken phase b args k line low e room = rw (b.version.first, low, e, room) (ap Ok (moved phase b k line (nat_lt k (length b.ended))))
 
 repeat_taken : (phase : ℕ) (b : Begun) (args : Words) (k : ℕ) (line : WireLine) → nat_le phase 2 ≡ true → repeat_of (wired_draft phase b) args ≡ Ok (k, line) → nat_lt (wire_count (wired_draft phase b) k) MAX_WIRE_LINES ≡ true
     → tokens_line (wired_draft phase b) (codes "repeat" ∷ args) ≡ Ok (wired_draft 2 (with_line b k line))
 unfolding keyword_line phased_line wire_line
-repeat_taken phase b args k line low e room = rw (low, e, room) (ap Ok (moved phase b k line (nat_lt k (length b.ended))))
+repeat_taken phase b args k line low e room = rw (b.version.first, low, e, room) (ap Ok (moved phase b k line (nat_lt k (length b.ended))))
 
 hold_taken : (phase : ℕ) (b : Begun) (args : Words) (k : ℕ) (line : WireLine) → nat_le phase 2 ≡ true → hold_of (wired_draft phase b) args ≡ Ok (k, line) → nat_lt (wire_count (wired_draft phase b) k) MAX_WIRE_LINES ≡ true
     → tokens_line (wired_draft phase b) (codes "hold" ∷ args) ≡ Ok (wired_draft 2 (with_line b k line))
 unfolding keyword_line phased_line wire_line
-hold_taken phase b args k line low e room = rw (low, e, room) (ap Ok (moved phase b k line (nat_lt k (length b.ended))))
+hold_taken phase b args k line low e room = rw (b.version.first, low, e, room) (ap Ok (moved phase b k line (nat_lt k (length b.ended))))
 
 module _ (phase : ℕ) (b : Begun) (name : List ℕ) (k : ℕ) (low : nat_le phase 2 ≡ true) (spelled : is_name name ≡ true) (at : place_of name (group_names (wired_draft phase b)) ≡ Some k) (room : nat_lt (wire_count (wired_draft phase b) k) MAX_WIRE_LINES ≡ true) where
   group_again : known_name_in (group_names (wired_draft phase b)) name ≡ Ok k

@@ -137,12 +137,16 @@ app_name_at apps n = slice_index_or (map (λ app. app.name) apps) n []
 abbrev pub order_words : List Script → ℕ → Words
 order_words apps n = codes "order" ∷ app_name_at apps n ∷ []
 
+-- the version that a document is printed in: the lowest in which each of its lines may stand
+abbrev pub version_of_doc : Doc → ℕ
+version_of_doc doc = 1
+
 -- all lines, the header first
-abbrev pub header_words : Words
-header_words = codes "statesman" ∷ codes "1" ∷ []
+abbrev pub header_words : ℕ → Words
+header_words version = codes "statesman" ∷ decimal version ∷ []
 
 abbrev pub doc_lines : Doc → List Words
-doc_lines doc = header_words ∷ (
+doc_lines doc = header_words (version_of_doc doc) ∷ (
     flat_map group_lines doc.groups ++ (wires_lines doc.groups doc.wires ++ (
     flat_map (app_lines doc.groups) doc.apps ++ map (order_words doc.apps) doc.order)))
 

@@ -6,7 +6,7 @@ use Rattle.st_doc.specs.declared.reader.Reader.TheInside.{Inside}
 
 abbrev pub draft_of : Inside → Draft
 draft_of r = record {
-  begun = r.begun;
+  version = r.version;
   phase = r.phase;
   groups = r.groups.items;
   group = r.group;

@@ -4,7 +4,7 @@ ghost use Rattle.std.specs.Prelude.{◌≡◌, ◌++◌, ◌∷◌, [], OnOk, On
 ghost use Rattle.st_text.specs.Words.{text_of};
 ghost use Rattle.st_grammar.specs.Reading.{document_of};
 ghost use Rattle.st_grammar.specs.Sound.{IsSoundDoc};
-ghost use Rattle.st_doc.specs.Printed.{group_lines, app_name_at, app_lines, order_words, doc_lines, printed_doc, without_journals};
+ghost use Rattle.st_doc.specs.Printed.{group_lines, app_name_at, app_lines, order_words, version_of_doc, header_words, doc_lines, printed_doc, without_journals};
 
 mod acts;
 mod opening;
@@ -82,13 +82,27 @@ fn print_order(apps: &[Script], order: &[u32], out: &mut Text) -> Result<(), All
     Ok(())
 }
 
+/// The version that a document is printed in: the lowest in which each of its lines may stand.
+fn version_of(_doc: &Doc) -> u32
+    ensures { result ≡ version_of_doc _doc.now }
+{
+    1
+}
+
+/// Adds the header.
+fn print_header(version: u32, out: &mut Text) -> Result<(), AllocError>
+    ensures { OnOk result (out.new ≡ out.old ++ text_of (header_words version ∷ [])) }
+{
+    print_line(b"statesman", &[Word::Number(u64::from(version))], out)
+}
+
 /// Adds all lines of a document.
 fn print_lines(doc: &Doc, out: &mut Text) -> Result<(), AllocError>
     ensures { OnOk result (out.new ≡ out.old ++ text_of (doc_lines doc.now)) }
 {
     let groups = doc.groups.as_slice();
     let apps = doc.apps.as_slice();
-    print_line(b"statesman", &[Word::Plain(b"1")], out)?;
+    print_header(version_of(doc), out)?;
     print_groups(groups, out)?;
     print_wires(groups, doc.wires.as_slice(), out)?;
     print_apps(groups, apps, out)?;

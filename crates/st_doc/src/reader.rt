@@ -1,21 +1,22 @@
 //! The lines of a document, one after another: the reader takes each line over what the lines before it declared.
 
-ghost use Rattle.std.specs.Prelude.{◌≡◌, map, All, slice_get, option_copied};
+ghost use Rattle.std.specs.Prelude.{◌≡◌, map, All, slice_get, option_copied, option_and_then};
+ghost use Rattle.st_text.specs.Numbers.{number_of};
 ghost use Rattle.st_text.specs.Tokens.{token_in, IsTokenOf};
 ghost use Rattle.st_token.specs.Steps.{Gives};
 ghost use Rattle.st_token.specs.Spelling.{known_name_in};
-ghost use Rattle.st_grammar.specs.Draft.{nothing, groups_of, group_names};
+ghost use Rattle.st_grammar.specs.Draft.{nothing, has_header, groups_of, group_names};
 ghost use Rattle.st_grammar.specs.Commands.{group_in};
-ghost use Rattle.st_grammar.specs.Lines.{has_section, is_allowed, declared_by, phased_line, keyword_line, header_line, tokens_line, line_of};
+ghost use Rattle.st_grammar.specs.Lines.{version_of, version_named, has_section, is_allowed, declared_by, phased_line, keyword_line, header_line, tokens_line, line_of};
 
 mod commands;
 mod ending;
 mod sections;
 
 use st_draft::Group;
-use st_grammar::{Keyword, Script, keyword_of, phase_of};
+use st_grammar::{Keyword, MAX_VERSION, Script, keyword_of, phase_of, since};
 use st_net::NameIndex;
-use st_text::{Token, has_allowed_bytes, tokens};
+use st_text::{Token, has_allowed_bytes, number, tokens};
 use st_token::{FaultKind, LineError, TakesLines, is_comment, known_name_in};
 use std::alloc::Global;
 use std::marker::Model;
@@ -24,7 +25,8 @@ use std::marker::Model;
 #[derive(Drop)]
 pub struct Reader {
     alloc: Global,
-    begun: bool,
+    // 0 before the header.
+    version: u32,
     phase: u32,
     groups: Vec<Group>,
     // The group that was begun last stands apart, as does the application.
@@ -47,6 +49,35 @@ impl Model for Reader {
     ghost invariant = { λ r. KnowsNames (draft_of r) r.group_index r.app_index };
 }
 
+/// The version of a document that a token names.
+fn version_in(token: &[u8]) -> Option<u32>
+    ensures { result ≡ option_and_then version_of (number_of token.now) }
+{
+    let version = number(token)?;
+    if 1 <= version && version <= MAX_VERSION {
+        Some(version)
+    } else {
+        None
+    }
+}
+
+/// The version that a header names, where the line is one.
+fn version_named(line: &[u8], tokens: &[Token]) -> Option<u32>
+    requires { All (IsTokenOf line.now) tokens.now }
+    ensures { result ≡ version_named (map (token_in line.now) tokens.now) }
+{
+    if tokens.len() != 2 {
+        return None;
+    }
+    let word = &line[tokens[0].start..tokens[0].end];
+    let version = &line[tokens[1].start..tokens[1].end];
+    if word == b"statesman".as_slice() {
+        version_in(version)
+    } else {
+        None
+    }
+}
+
 impl Reader {
     /// Nothing is declared.
     pub fn new(alloc: Global) -> Reader
@@ -54,7 +85,7 @@ impl Reader {
     {
         Reader {
             alloc,
-            begun: false,
+            version: 0,
             phase: 1,
             groups: Vec::new(alloc),
             group: None,
@@ -84,7 +115,9 @@ impl Reader {
     fn is_allowed(&self, keyword: Keyword) -> bool
         ensures { result ≡ is_allowed self.now keyword }
     {
-        self.phase <= phase_of(keyword) && self.has_section(keyword)
+        self.phase <= phase_of(keyword)
+            && since(keyword) <= self.version
+            && self.has_section(keyword)
     }
 
     /// The group of a place.
@@ -170,18 +203,18 @@ impl Reader {
     }
 
     /// Takes the first line that is not skipped.
+    #[tactic(auto, unfolding(st_grammar::specs::Lines::header_line))]
     fn header(&mut self, line: &[u8], tokens: &[Token]) -> Result<(), LineError>
         requires { All (IsTokenOf line.now) tokens.now }
         ensures { Gives (λ _. self.new) result (header_line self.old (map (token_in line.now) tokens.now)) }
     {
-        if tokens.len() == 2
-            && &line[tokens[0].start..tokens[0].end] == b"statesman".as_slice()
-            && &line[tokens[1].start..tokens[1].end] == b"1".as_slice()
-        {
-            self.begun = true;
-            return Ok(());
+        match version_named(line, tokens) {
+            Some(version) => {
+                self.version = version;
+                Ok(())
+            }
+            None => Err(LineError::Bad(FaultKind::Header)),
         }
-        Err(LineError::Bad(FaultKind::Header))
     }
 
     /// Takes a line with these tokens.
@@ -196,7 +229,7 @@ impl Reader {
         if is_comment(word) {
             return Ok(());
         }
-        if self.begun {
+        if self.has_header() {
             self.keyword_line(word, line, &tokens[1..])
         } else {
             self.header(line, tokens)
@@ -204,10 +237,10 @@ impl Reader {
     }
 
     /// Whether the header stood.
-    pub fn has_begun(&self) -> bool
-        ensures { result ≡ self.now.begun }
+    pub fn has_header(&self) -> bool
+        ensures { result ≡ has_header self.now }
     {
-        self.begun
+        1 <= self.version
     }
 }
 

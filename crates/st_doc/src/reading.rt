@@ -122,7 +122,7 @@ fn read_at(
 fn ended(reader: Reader, line: u32, at: Option<JournalAt>) -> Result<DocRead, AllocError>
     ensures { IfOk result (λ read. Reads read (doc_with at (headed line reader))) }
 {
-    if reader.has_begun() {
+    if reader.has_header() {
         Ok(DocRead::Doc(reader.finish(at)?))
     } else {
         drop(reader);

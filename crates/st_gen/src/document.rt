@@ -1,8 +1,9 @@
 //! The whole document: the fat tree as its only group, and the two applications.
 
-ghost use Rattle.std.specs.Prelude.{◌≡◌, IfOk};
+ghost use Rattle.std.specs.Prelude.{◌≡◌, ◌∷◌, [], IfOk};
 ghost use Rattle.st_grammar.specs.Sound.{IsSoundDoc};
 ghost use Rattle.st_gen.specs.FatTrees.{fat_tree as fat_tree_lem};
+ghost use Rattle.st_gen.specs.Scripts.{upgrader as upgrader_lem, engineer as engineer_lem};
 ghost use Rattle.st_gen.specs.Generated.{IsPods, generated};
 
 use crate::devices::devices;
@@ -10,8 +11,9 @@ use crate::links::links;
 use crate::names::name_of;
 use crate::promises::promises;
 use crate::scripts::{engineer, upgrader};
-use st_grammar::Doc;
+use st_grammar::{Doc, Script};
 use st_net::{Items, Parts};
+use st_wire::WireLine;
 use std::alloc::{AllocError, Global};
 
 /// The group of so many pods.
@@ -27,18 +29,43 @@ fn fat_tree(alloc: Global, pods: u32) -> Result<Parts, AllocError>
     })
 }
 
+/// That group alone.
+fn groups(alloc: Global, pods: u32) -> Result<Items<Parts>, AllocError>
+    requires { IsPods pods }
+    ensures { IfOk result (λ groups. groups ≡ fat_tree_lem pods ∷ []) }
+{
+    let group = fat_tree(alloc, pods)?;
+    Ok(Items::new(vec![in alloc; group]?))
+}
+
+/// No wire lines of a group alone.
+fn no_wires(alloc: Global) -> Result<Items<Items<WireLine>>, AllocError>
+    ensures { IfOk result (λ wires. wires ≡ [] ∷ []) }
+{
+    Ok(Items::new(vec![in alloc; Items::none(alloc)]?))
+}
+
+/// The two applications.
+fn apps(alloc: Global, pods: u32, seed: u32) -> Result<Items<Script>, AllocError>
+    requires { IsPods pods }
+    ensures { IfOk result (λ apps. apps ≡ upgrader_lem pods seed ∷ engineer_lem pods ∷ []) }
+{
+    let up = upgrader(alloc, pods, seed)?;
+    let te = engineer(alloc, pods)?;
+    Ok(Items::new(vec![in alloc; up, te]?))
+}
+
 /// The document of these numbers.
 fn document(alloc: Global, pods: u32, seed: u32) -> Result<Doc, AllocError>
     requires { IsPods pods }
     ensures { IfOk result (λ doc. doc ≡ generated pods seed) }
 {
-    let group = fat_tree(alloc, pods)?;
-    let up = upgrader(alloc, pods, seed)?;
-    let te = engineer(alloc, pods)?;
+    let wires = no_wires(alloc)?;
+    let apps = apps(alloc, pods, seed)?;
     Ok(Doc {
-        groups: Items::new(vec![in alloc; group]?),
-        wires: Items::new(vec![in alloc; Items::none(alloc)]?),
-        apps: Items::new(vec![in alloc; up, te]?),
+        groups: groups(alloc, pods)?,
+        wires,
+        apps,
         order: Items::none(alloc),
         journal_at: None,
     })

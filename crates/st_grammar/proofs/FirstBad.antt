@@ -9,7 +9,7 @@ use Rattle.st_grammar.specs.declared.doc.Doc.{Doc}
 use Rattle.st_grammar.specs.declared.doc.DocRead.{DocRead}
 use Rattle.st_grammar.specs.declared.doc.JournalAt.{JournalAt}
 use Rattle.st_grammar.specs.declared.doc.DocRead.TheVariants as reads
-use Rattle.st_grammar.specs.Draft.{Draft, nothing}
+use Rattle.st_grammar.specs.Draft.{Draft, nothing, has_header}
 use Rattle.st_grammar.specs.Lines.{line_of}
 use Rattle.st_grammar.specs.Reading.{LacksHeader, IsDeclared, headed, doc_with, lines_read, journals_at, read_of, Reads, Tells}
 
@@ -18,12 +18,12 @@ abbrev pub Explains : List (List ℕ) → Option JournalAt → Result Doc LineFa
 Explains lines at (Ok doc) = IsDeclared lines at doc
 Explains lines at (Err fault) = IsFirstBad line_of nothing 1 lines fault ⊎ LacksHeader lines fault
 
-at_end : (lines : List (List ℕ)) (at : Option JournalAt) (d : Draft) (b : Bool) → d.begun ≡ b → AreGood line_of nothing lines d → Explains lines at (doc_with at (cond b (Ok d) (Err (record { line = length lines + 1; kind = kinds.Header }))))
-at_end lines at d true e good = record { before = good.before; draft = d; lines_are = good.lines_are; declares = good.declares; begun = e; doc_is = refl }
-at_end lines at d false e good = inr (record { before = good.before; draft = d; lines_are = good.lines_are; declares = good.declares; begun = e; kind = refl; number = refl })
+at_end : (lines : List (List ℕ)) (at : Option JournalAt) (d : Draft) (b : Bool) → has_header d ≡ b → AreGood line_of nothing lines d → Explains lines at (doc_with at (cond b (Ok d) (Err (record { line = length lines + 1; kind = kinds.Header }))))
+at_end lines at d true e good = record { before = good.before; draft = d; lines_are = good.lines_are; declares = good.declares; version = e; doc_is = refl }
+at_end lines at d false e good = inr (record { before = good.before; draft = d; lines_are = good.lines_are; declares = good.declares; version = e; kind = refl; number = refl })
 
 explain : (ls : List (List ℕ)) (at : Option JournalAt) (read : Result Draft LineFault) → lines.Explains line_of nothing 1 ls read → Explains ls at (doc_with at (read >>= headed (length ls + 1)))
-explain ls at (Ok d) good = at_end ls at d d.begun refl good
+explain ls at (Ok d) good = at_end ls at d (has_header d) refl good
 explain ls at (Err fault) bad = inl bad
 
 pub explained : (journals : Bool) (bytes : List ℕ) → Explains (lines_read journals bytes) (journals_at journals bytes) (read_of journals bytes)

@@ -17,7 +17,7 @@ use Rattle.st_grammar.specs.declared.doc.Script.{Script}
 use Rattle.st_grammar.specs.declared.doc.DocRead.{DocRead}
 use Rattle.st_grammar.specs.declared.doc.JournalAt.{JournalAt}
 use Rattle.st_grammar.specs.declared.doc.DocRead.TheVariants as reads
-use Rattle.st_grammar.specs.Draft.{GroupDraft, Draft, nothing, groups_of, apps_of, parts_of}
+use Rattle.st_grammar.specs.Draft.{GroupDraft, Draft, nothing, has_header, groups_of, apps_of, parts_of}
 use Rattle.st_grammar.specs.Lines.{line_of}
 use Rattle.st_grammar.specs.Reading.{headed, declared_on, doc_of, doc_at, lines_read, journals_at, read_of, Reads}
 use Rattle.st_grammar.specs.Sound.{HasOwnEnds, IsSoundGroup, IsSoundAct, IsSoundScript, IsSoundWire, AreSoundWires, IsSoundDoc, IsSoundRead}
@@ -97,8 +97,8 @@ document_sound journals bytes doc e =
     let at = journals_at journals bytes in
     let d = came_from (declared_on nothing ls) (λ d. Ok (doc_at at d)) doc e in
     let last = came_from (read_on line_of nothing 1 ls) (headed (length ls + 1)) d.0 d.1 in
-    let begun = chose last.0.begun last.0 d.0 (record { line = length ls + 1; kind = kinds.Header }) last.2 in
-    let sound : IsSoundSoFar d.0 = subst IsSoundSoFar begun.1 (read_good ls 1 nothing last.0 nothing_sound last.1) in
+    let stood = chose (has_header last.0) last.0 d.0 (record { line = length ls + 1; kind = kinds.Header }) last.2 in
+    let sound : IsSoundSoFar d.0 = subst IsSoundSoFar stood.1 (read_good ls 1 nothing last.0 nothing_sound last.1) in
     let made : doc_at at d.0 ≡ doc = cc in
     subst IsSoundDoc made (placed_good at d.0 (doc_good d.0 sound.sound))
 

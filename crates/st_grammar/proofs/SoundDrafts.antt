@@ -1,6 +1,6 @@
 -- What the lines of a document keep: what they declare is sound.
 use Rattle.std.proofs.Common.{◌≡◌, ℕ, zero, suc, ◌+◌, ◌<◌, ◌≤◌, List, [], ◌∷◌, ◌++◌, length, map, ap, sym, ◌∙◌, subst, refl, arith}
-use Rattle.std.specs.Prelude.{Bool, true, false, cond, nat_le, nat_lt, Option, Some, None, option_to_list, option_map, slice_get, Result, Ok, ok_or}
+use Rattle.std.specs.Prelude.{Bool, true, false, cond, ◌&&◌, nat_le, nat_lt, Option, Some, None, option_to_list, option_map, slice_get, Result, Ok, ok_or}
 use Rattle.std.specs.List.{AllByRecursion}
 use Rattle.std.proofs.lemmas.List.{length-map, length_push, length-append, map_push, map-append}
 use Rattle.std.proofs.lemmas.Bool.Decides.{nat_tests}
@@ -22,11 +22,11 @@ use Rattle.st_grammar.specs.declared.keyword.Keyword.{Keyword}
 use Rattle.st_grammar.specs.declared.keyword.Keyword.TheVariants as keywords
 use Rattle.st_grammar.specs.declared.limits.TheConstants.{MAX_GROUPS, MAX_APPS, MAX_ACTS, MAX_WIRE_LINES}
 use Rattle.st_grammar.specs.declared.doc.Script.{Script}
-use Rattle.st_grammar.specs.Draft.{GroupDraft, Draft, nothing, empty_group, empty_script, groups_of, apps_of, group_names, app_names, parts_of, with_wire, wired}
+use Rattle.st_grammar.specs.Draft.{GroupDraft, Draft, nothing, has_header, empty_group, empty_script, groups_of, apps_of, group_names, app_names, parts_of, with_wire, wired}
 use Rattle.st_grammar.specs.Sections.{part_line}
 use Rattle.st_grammar.specs.Commands.{wire_of, act_of}
-use Rattle.st_grammar.specs.Keywords.{phase_of, keyword_of}
-use Rattle.st_grammar.specs.Lines.{begun_name, group_line, app_line, known_names_in, order_line, has_section, is_allowed, into_group, wire_count_of, wire_count, with_wire_line, wire_line, with_act, act_added, act_line, declared_by, phased_line, keyword_line, is_header, header_line, tokens_line, line_of}
+use Rattle.st_grammar.specs.Keywords.{phase_of, since, keyword_of}
+use Rattle.st_grammar.specs.Lines.{begun_name, group_line, app_line, known_names_in, order_line, has_section, is_allowed, into_group, wire_count_of, wire_count, with_wire_line, wire_line, with_act, act_added, act_line, declared_by, phased_line, keyword_line, version_named, header_line, tokens_line, line_of}
 use Rattle.st_grammar.specs.Sound.{IsSoundAct, IsSoundWire}
 use Rattle.st_grammar.proofs.SoundGroups.{IsSoundDraftGroup}
 use Rattle.st_grammar.proofs.SoundSteps.{pushed_all, begun_sound, new_last, wire_sound}
@@ -75,7 +75,9 @@ still_early d next g early = record { apps = g.apps ∙ early.apps; order = g.or
 
 -- what is allowed is of the phase that is reached, or of a later one
 allowed_phase : (d : Draft) (k : Keyword) → is_allowed d k ≡ true → nat_le d.phase (phase_of k) ≡ true
-allowed_phase d k e = (both (nat_le d.phase (phase_of k)) (has_section d k) e).0
+allowed_phase d k e =
+    let version = (both (nat_le d.phase (phase_of k) && nat_le (since k) d.version) (has_section d k) e).0 in
+    (both (nat_le d.phase (phase_of k)) (nat_le (since k) d.version) version).0
 
 -- a line of a group's section
 group_changed : (d next : Draft) (line : GroupDraft → Result GroupDraft FaultKind) → ((g h : GroupDraft) → line g ≡ Ok h → IsSoundDraftGroup g → MakesSound g h) → IsEarly d → into_group d line ≡ Ok next → IsSoundDraft d → Grows d next
@@ -333,8 +335,8 @@ declared_good d next keywords.App args p e s = late next 3 refl (app_begun d nex
 declared_good d next (keywords.Act word) args p e s = late next 3 refl (act_line_good d next (act_of d word args) (command_good d word args) e s.sound)
 declared_good d next keywords.Order args p e s = late next 4 refl (order_good d next args e s.sound)
 
-begun_good : (d : Draft) → IsSoundSoFar d → IsSoundSoFar (record d { begun = true })
-begun_good d s = record {
+version_set : (d : Draft) (version : ℕ) → IsSoundSoFar d → IsSoundSoFar (record d { version = version })
+version_set d version s = record {
   sound = record { groups = s.sound.groups; few_groups = s.sound.few_groups; group_names = s.sound.group_names; apps = s.sound.apps; few_apps = s.sound.few_apps; app_names = s.sound.app_names; order = s.sound.order };
   early = λ low. let e = s.early low in record { apps = e.apps; order = e.order };
 }
@@ -348,16 +350,22 @@ keyword_good d next word args e s =
     let made : record line.0 { phase = phase_of k.0 } ≡ next = cc in
     subst IsSoundSoFar made (declared_good d line.0 k.0 args (allowed_phase d k.0 here.0) line.1 s)
 
+header_good : (d next : Draft) (words : List (List ℕ)) → header_line d words ≡ Ok next → IsSoundSoFar d → IsSoundSoFar next
+unfolding header_line
+header_good d next words e s =
+    let version = came_from (ok_or (version_named words) kinds.Header) _ next e in
+    let made : record d { version = version.0 } ≡ next = cc in
+    subst IsSoundSoFar made (version_set d version.0 s)
+
 tokens_good : (d next : Draft) (words : List (List ℕ)) → tokens_line d words ≡ Ok next → IsSoundSoFar d → IsSoundSoFar next
 tokens_good d next [] e s = subst IsSoundSoFar (let same : d ≡ next = cc in same) s
-tokens_good d next (word ∷ args) e s = by_tests (is_comment word) d.begun e
+tokens_good d next (word ∷ args) e s = by_tests (is_comment word) (has_header d) e
   where
-    by_tests : (comment begun : Bool) → cond comment (Ok d) (cond begun (keyword_line d word args) (header_line d (word ∷ args))) ≡ Ok next → IsSoundSoFar next
-    by_tests true begun e = subst IsSoundSoFar (let same : d ≡ next = cc in same) s
+    by_tests : (comment stood : Bool) → cond comment (Ok d) (cond stood (keyword_line d word args) (header_line d (word ∷ args))) ≡ Ok next → IsSoundSoFar next
+    by_tests true stood e = subst IsSoundSoFar (let same : d ≡ next = cc in same) s
     by_tests false true e = keyword_good d next word args e s
     by_tests false false e =
-        let header = chose (is_header (word ∷ args)) (record d { begun = true }) next kinds.Header e in
-        subst IsSoundSoFar header.1 (begun_good d s)
+        header_good d next (word ∷ args) e s
 
 pub line_good : (d next : Draft) (line : List ℕ) → line_of d line ≡ Ok next → IsSoundSoFar d → IsSoundSoFar next
 unfolding line_of

@@ -1,5 +1,5 @@
 -- What the lines of a document have declared so far.
-use Rattle.std.specs.Prelude.{◌≡◌, ◌<◌, ℕ, zero, suc, List, [], ◌∷◌, ◌++◌, Bool, true, false, ◌||◌, ◌==◌, if◌then◌else◌, length, map, Option, None, option_to_list}
+use Rattle.std.specs.Prelude.{◌≡◌, ◌<◌, ℕ, zero, suc, List, [], ◌∷◌, ◌++◌, Bool, true, false, ◌||◌, ◌==◌, nat_le, if◌then◌else◌, length, map, Option, None, option_to_list}
 use Rattle.std.specs.List.{list_any}
 use Rattle.st_net.specs.declared.entity.Entity.{Entity}
 use Rattle.st_net.specs.declared.entity.Entity.TheVariants.{Device, Link}
@@ -30,10 +30,10 @@ pub record GroupDraft : Type 0 where
   pub told_links : List ℕ
   pub wires : List WireLine
 
--- whether the header stood, the phase of the last line that declares something, and what is declared. The group and the application that were
--- begun last stand apart
+-- the version that the header names, which is 0 before it, the phase of the last line that declares something, and what is declared. The group and
+-- the application that were begun last stand apart
 pub record Draft : Type 0 where
-  pub begun : Bool
+  pub version : ℕ
   pub phase : ℕ
   pub groups : List GroupDraft
   pub group : Option GroupDraft
@@ -42,7 +42,11 @@ pub record Draft : Type 0 where
   pub order : List ℕ
 
 abbrev pub nothing : Draft
-nothing = record { begun = false; phase = 1; groups = []; group = None; apps = []; app = None; order = [] }
+nothing = record { version = 0; phase = 1; groups = []; group = None; apps = []; app = None; order = [] }
+
+-- the header stood
+abbrev pub has_header : Draft → Bool
+has_header d = nat_le 1 d.version
 
 abbrev pub empty_group : List ℕ → GroupDraft
 empty_group name = record { name = name; devices = []; links = []; promises = []; opens = []; told_devices = []; told_links = []; wires = [] }

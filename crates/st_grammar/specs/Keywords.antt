@@ -1,4 +1,4 @@
--- The words that lines begin with, and the phases in which they stand.
+-- The words that lines begin with, and the phases and the versions of a document in which they stand.
 use Rattle.std.specs.Prelude.{ℕ, List, if◌then◌else◌, Option, Some, None, bytes_eq, codes, option_map}
 use Rattle.st_grammar.specs.declared.keyword.Keyword.{Keyword}
 use Rattle.st_grammar.specs.declared.keyword.Keyword.TheVariants as keywords
@@ -57,3 +57,12 @@ phase_of (keywords.Wire word) = 2
 phase_of keywords.App = 3
 phase_of (keywords.Act word) = 3
 phase_of keywords.Order = 4
+
+-- the lowest version of a document in which a keyword's lines may stand
+abbrev pub since : Keyword → ℕ
+since keywords.Group = 1
+since (keywords.Part word) = 1
+since (keywords.Wire word) = 1
+since keywords.App = 1
+since (keywords.Act word) = 1
+since keywords.Order = 1

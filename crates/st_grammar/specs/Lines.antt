@@ -1,8 +1,9 @@
 -- What a line declares over what the lines before it declared, or the first kind that applies to it. The kinds of a line are tested in the order
 -- in which they stand here: each `do` line is one test.
-use Rattle.std.specs.Prelude.{ℕ, List, [], ◌∷◌, ◌++◌, Bool, true, false, ◌&&◌, nat_le, nat_lt, length, if◌then◌else◌, Option, Some, None, is_some, Result, Ok, Err, ok_or, bytes_eq, codes, slice_get, option_map}
+use Rattle.std.specs.Prelude.{ℕ, List, [], ◌∷◌, ◌++◌, Bool, true, false, ◌&&◌, nat_le, nat_lt, length, if◌then◌else◌, Option, Some, None, is_some, Result, Ok, Err, ok_or, bytes_eq, codes, slice_get, option_map, option_and_then}
 use Rattle.st_text.specs.AllowedBytes.{has_allowed_bytes}
 use Rattle.st_text.specs.Tokens.{tokens_of}
+use Rattle.st_text.specs.Numbers.{number_of}
 use Rattle.st_net.specs.Names.{is_among}
 use Rattle.st_wire.specs.declared.line.WireLine.{WireLine}
 use Rattle.st_event.specs.declared.act.Act.{Act}
@@ -13,12 +14,12 @@ use Rattle.st_token.specs.Spelling.{new_name_in, known_name_in, is_comment}
 use Rattle.st_token.specs.Counts.{one_of, some_of}
 use Rattle.st_grammar.specs.declared.keyword.Keyword.{Keyword}
 use Rattle.st_grammar.specs.declared.keyword.Keyword.TheVariants as keywords
-use Rattle.st_grammar.specs.declared.limits.TheConstants.{MAX_GROUPS, MAX_APPS, MAX_ACTS, MAX_WIRE_LINES}
+use Rattle.st_grammar.specs.declared.limits.TheConstants.{MAX_GROUPS, MAX_APPS, MAX_ACTS, MAX_VERSION, MAX_WIRE_LINES}
 use Rattle.st_grammar.specs.declared.doc.Script.{Script}
-use Rattle.st_grammar.specs.Draft.{GroupDraft, Draft, empty_group, empty_script, groups_of, apps_of, group_names, app_names, with_wire, wired}
+use Rattle.st_grammar.specs.Draft.{GroupDraft, Draft, has_header, empty_group, empty_script, groups_of, apps_of, group_names, app_names, with_wire, wired}
 use Rattle.st_grammar.specs.Sections.{part_line}
 use Rattle.st_grammar.specs.Commands.{act_of, wire_of}
-use Rattle.st_grammar.specs.Keywords.{keyword_of, phase_of}
+use Rattle.st_grammar.specs.Keywords.{keyword_of, phase_of, since}
 
 -- the name of a new group or application, of which there are so many at most
 unfoldable pub begun_name : List (List ℕ) → ℕ → List (List ℕ) → Result (List ℕ) FaultKind
@@ -80,7 +81,7 @@ has_section d (keywords.Act word) = is_some d.app
 has_section d keywords.Order = true
 
 abbrev pub is_allowed : Draft → Keyword → Bool
-is_allowed d keyword = nat_le d.phase (phase_of keyword) && has_section d keyword
+is_allowed d keyword = nat_le d.phase (phase_of keyword) && nat_le (since keyword) d.version && has_section d keyword
 
 -- what a line adds to its group
 abbrev pub into_group : Draft → (GroupDraft → Result GroupDraft FaultKind) → Result Draft FaultKind
@@ -122,18 +123,23 @@ keyword_line d word args = do
   keyword ← ok_or (keyword_of word) kinds.Word
   if is_allowed d keyword then phased_line d keyword args else Err kinds.Word
 
--- `statesman 1`
-abbrev pub is_header : List (List ℕ) → Bool
-is_header (a ∷ b ∷ []) = bytes_eq a (codes "statesman") && bytes_eq b (codes "1")
-is_header _ = false
+-- the version that `statesman NUMBER` names
+abbrev pub version_of : ℕ → Option ℕ
+version_of n = if nat_le 1 n && nat_le n MAX_VERSION then Some n else None
 
-abbrev pub header_line : Draft → List (List ℕ) → Result Draft FaultKind
-header_line d words = if is_header words then Ok (record d { begun = true }) else Err kinds.Header
+abbrev pub version_named : List (List ℕ) → Option ℕ
+version_named (a ∷ b ∷ []) = if bytes_eq a (codes "statesman") then option_and_then version_of (number_of b) else None
+version_named _ = None
+
+unfoldable pub header_line : Draft → List (List ℕ) → Result Draft FaultKind
+header_line d words = do
+  version ← ok_or (version_named words) kinds.Header
+  Ok (record d { version = version })
 
 -- what is declared after a line with these tokens
 abbrev pub tokens_line : Draft → List (List ℕ) → Result Draft FaultKind
 tokens_line d [] = Ok d
-tokens_line d (word ∷ args) = if is_comment word then Ok d else (if d.begun then keyword_line d word args else header_line d (word ∷ args))
+tokens_line d (word ∷ args) = if is_comment word then Ok d else (if has_header d then keyword_line d word args else header_line d (word ∷ args))
 
 -- what is declared after a line
 unfoldable pub line_of : Draft → List ℕ → Result Draft FaultKind

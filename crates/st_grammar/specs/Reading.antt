@@ -11,7 +11,7 @@ use Rattle.st_grammar.specs.declared.doc.Doc.{Doc}
 use Rattle.st_grammar.specs.declared.doc.DocRead.{DocRead}
 use Rattle.st_grammar.specs.declared.doc.JournalAt.{JournalAt}
 use Rattle.st_grammar.specs.declared.doc.DocRead.TheVariants as reads
-use Rattle.st_grammar.specs.Draft.{Draft, nothing, groups_of, apps_of, parts_of}
+use Rattle.st_grammar.specs.Draft.{Draft, nothing, has_header, groups_of, apps_of, parts_of}
 use Rattle.st_grammar.specs.Lines.{line_of}
 
 -- the document that the lines so far declare
@@ -26,7 +26,7 @@ doc_of d = record {
 
 -- what was declared, where the header stood; behind lines that are all skipped it is missing, at this number
 abbrev pub headed : ℕ → Draft → Result Draft LineFault
-headed n d = if d.begun then Ok d else Err (record { line = n; kind = kinds.Header })
+headed n d = if has_header d then Ok d else Err (record { line = n; kind = kinds.Header })
 
 -- what is declared behind all lines of a document
 abbrev pub declared_on : Draft → List (List ℕ) → Result Draft LineFault
@@ -92,7 +92,7 @@ pub record LacksHeader (lines : List (List ℕ)) (fault : LineFault) : Type 0 wh
   pub draft : Draft
   pub lines_are : lines ≡ reverse before
   pub declares : Declares line_of nothing before draft
-  pub begun : draft.begun ≡ false
+  pub version : has_header draft ≡ false
   pub kind : fault.kind ≡ kinds.Header
   pub number : fault.line ≡ length lines + 1
 
@@ -102,7 +102,7 @@ pub record IsDeclared (lines : List (List ℕ)) (at : Option JournalAt) (doc : D
   pub draft : Draft
   pub lines_are : lines ≡ reverse before
   pub declares : Declares line_of nothing before draft
-  pub begun : draft.begun ≡ true
+  pub version : has_header draft ≡ true
   pub doc_is : doc ≡ doc_at at draft
 
 -- what was read is what the lines declare, one after another, or their first bad line

@@ -1,7 +1,7 @@
-//! The words that lines begin with, the sections that they need, and the phases in which they stand.
+//! The words that lines begin with, and the phases and the versions of a document in which they stand.
 
 ghost use Rattle.std.specs.Prelude.{◌≡◌};
-ghost use Rattle.st_grammar.specs.Keywords.{part_word_of, wire_word_of, act_word_of, keyword_of, phase_of};
+ghost use Rattle.st_grammar.specs.Keywords.{part_word_of, wire_word_of, act_word_of, keyword_of, phase_of, since};
 
 /// The first token of a line that declares something.
 #[derive(Clone, Copy, Debug, PartialEq, Eq)]
@@ -146,5 +146,19 @@ pub fn phase_of(keyword: Keyword) -> u32
         Keyword::App => 3,
         Keyword::Act(_) => 3,
         Keyword::Order => 4,
+    }
+}
+
+/// The lowest version of a document in which a keyword's lines may stand.
+pub fn since(keyword: Keyword) -> u32
+    ensures { result ≡ since keyword }
+{
+    match keyword {
+        Keyword::Group => 1,
+        Keyword::Part(_) => 1,
+        Keyword::Wire(_) => 1,
+        Keyword::App => 1,
+        Keyword::Act(_) => 1,
+        Keyword::Order => 1,
     }
 }

@@ -7,6 +7,8 @@ mod keyword;
 mod limits;
 
 pub use doc::{Doc, DocRead, JournalAt, Script};
-pub use keyword::{ActWord, Keyword, PartWord, WireWord, keyword_of, phase_of};
-pub use limits::{MAX_ACTS, MAX_APPS, MAX_GROUPS, MAX_ROUNDS, MAX_WIRE_LINES, document_limits};
+pub use keyword::{ActWord, Keyword, PartWord, WireWord, keyword_of, phase_of, since};
+pub use limits::{
+    MAX_ACTS, MAX_APPS, MAX_GROUPS, MAX_ROUNDS, MAX_VERSION, MAX_WIRE_LINES, document_limits,
+};
 pub use st_token::{FaultKind as DocKind, LineFault as DocFault};

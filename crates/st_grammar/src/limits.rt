@@ -2,6 +2,9 @@
 
 ghost use Rattle.std.specs.Prelude.{◌≡◌};
 
+/// The highest version of a document.
+pub const MAX_VERSION: u32 = 1;
+
 /// The most groups of a document.
 pub const MAX_GROUPS: usize = 16;
 
@@ -19,6 +22,7 @@ pub const MAX_WIRE_LINES: usize = 1_024;
 
 /// The numbers of these limits, as laws: it does nothing.
 pub fn document_limits()
+    ensures version { MAX_VERSION ≡ 1 }
     ensures groups { MAX_GROUPS ≡ 16 }
     ensures apps { MAX_APPS ≡ 32 }
     ensures acts { MAX_ACTS ≡ 1024 }

@@ -5,3 +5,4 @@ pub mod FoundNames
 pub mod PrintedRows
 mod ReadingBackLemmas
 pub mod ReadTokens
+mod RowRuns

@@ -16,7 +16,7 @@ use Rattle.st_journal.specs.JournalReading.{AreJournalsOf}
 use Rattle.st_serial.specs.Kept.{AreKept, groups_of}
 use Rattle.st_serial.specs.Most.{HasRoom, most}
 use Rattle.st_run.specs.declared.playing.Played.{Played}
-use Rattle.st_run.specs.CarriedOut.{AreNumbers}
+use Rattle.st_event.specs.Services.{AreNumbers}
 use Rattle.st_run.specs.Running.{IsFullIn, IsRunOf}
 use Rattle.st_replay.specs.declared.status.Status.{Status}
 use Rattle.st_replay.specs.declared.status.Status.TheVariants.{Ok, JournalFull, OutOfMemory}

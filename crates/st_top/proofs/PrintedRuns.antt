@@ -30,7 +30,7 @@ use Rattle.st_token.proofs.ReadTokens.{came_from, chosen}
 use Rattle.st_entry.specs.Words.{Words}
 use Rattle.st_grammar.specs.declared.doc.Doc.{Doc}
 use Rattle.st_grammar.specs.declared.doc.JournalAt.{JournalAt}
-use Rattle.st_grammar.specs.Draft.{Draft, nothing as no_draft}
+use Rattle.st_grammar.specs.Draft.{Draft, has_header, nothing as no_draft}
 use Rattle.st_grammar.specs.Lines.{header_line, keyword_line, tokens_line, line_of}
 use Rattle.st_grammar.specs.Reading.{begins_journal, is_journal_word, declared_on, doc_of, doc_with, document_of, first_journal, headed, input_of, journals_at, lines_read, place_behind}
 use Rattle.st_grammar.specs.Sound.{IsSoundDoc, IsSoundGroup}
@@ -144,14 +144,14 @@ place_none at (x ∷ xs) = place_none (at + length x + 1) xs
 -- no line of a document that is read begins a journal
 
 no_keyword : (b : Bool) (d next : Draft) (args : List (List ℕ)) → cond b (keyword_line d (codes "journal") args) (header_line d (codes "journal" ∷ args)) ≡ Ok next → ⊥
-unfolding keyword_line
+unfolding keyword_line header_line
 no_keyword true d next args is = cc
 no_keyword false d next [] is = cc
 no_keyword false d next (x ∷ []) is = cc
 no_keyword false d next (x ∷ y ∷ args) is = cc
 
 not_read : (d next : Draft) (args : List (List ℕ)) → tokens_line d (codes "journal" ∷ args) ≡ Ok next → ⊥
-not_read d next args is = no_keyword d.begun d next args is
+not_read d next args is = no_keyword (has_header d) d next args is
 
 no_journal : (d next : Draft) (tokens : List (List ℕ)) → tokens_line d tokens ≡ Ok next → is_journal_word tokens ≡ false
 no_journal d next [] is = refl

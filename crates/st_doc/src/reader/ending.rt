@@ -72,18 +72,27 @@ impl Reader {
     pub fn finish(self, at: Option<JournalAt>) -> Result<Doc, AllocError>
         ensures { IfOk result (λ doc. doc ≡ doc_at at self) }
     {
-        let (groups, wires, apps) = sections(
-            self.alloc,
-            self.groups,
-            self.group,
-            self.apps,
-            self.app,
-        )?;
+        let Reader {
+            alloc,
+            version: _,
+            phase: _,
+            groups,
+            group,
+            group_index,
+            apps,
+            app,
+            app_index,
+            order,
+        } = self;
+        // The indexes are handed to `drop` before anything can fail: so the proof is short.
+        drop(group_index);
+        drop(app_index);
+        let (groups, wires, apps) = sections(alloc, groups, group, apps, app)?;
         Ok(Doc {
             groups,
             wires,
             apps,
-            order: Items::new(self.order),
+            order: Items::new(order),
             journal_at: at,
         })
     }

@@ -1,9 +1,10 @@
 //! The lines that begin groups and applications, those of a group's section, and the order of applications.
 
-ghost use Rattle.std.specs.Prelude.{◌≡◌, ◌<◌, ◌^◌, [], length, map, OnOk, IfOk, All, Some, false};
+ghost use Rattle.std.specs.Prelude.{◌≡◌, ◌<◌, ◌^◌, ◌++◌, ◌∷◌, [], length, map, OnOk, IfOk, All, Some, None, false};
 ghost use Rattle.st_text.specs.Tokens.{token_in, IsTokenOf};
 ghost use Rattle.st_net.specs.Names.{is_among};
 ghost use Rattle.st_token.specs.Steps.{Gives};
+ghost use Rattle.st_token.specs.Spelling.{known_name_in};
 ghost use Rattle.st_grammar.specs.Draft.{empty_group, empty_script, groups_of, apps_of, group_names, app_names};
 ghost use Rattle.st_grammar.specs.Sections.{part_line};
 ghost use Rattle.st_grammar.specs.Lines.{begun_name, into_group, group_line, app_line, known_names_in, order_line};
@@ -53,12 +54,25 @@ fn known_names_in(
 {
     let mut places = Vec::new(alloc);
     for token in tokens {
-        match known_name_in(alloc, names, &line[token.start..token.end]) {
-            Ok(place) => places.push(place)?,
-            Err(error) => return Err(error),
-        }
+        add_known_name(alloc, names, &mut places, &line[token.start..token.end])?;
     }
     Ok(places)
+}
+
+/// Adds the place of a declared name, and gives it. All that can fail for one name stands here, where the places are borrowed.
+fn add_known_name(
+    alloc: Global,
+    names: &NameIndex,
+    places: &mut Vec<u32>,
+    token: &[u8],
+) -> Result<u32, LineError>
+    requires { length names.now < 2 ^ 32 }
+    ensures gives { Gives (λ place. place) result (known_name_in names.now token.now) }
+    ensures added { IfOk result (λ place. places.new.items ≡ places.old.items ++ place ∷ []) }
+{
+    let place = known_name_in(alloc, names, token)?;
+    places.push(place)?;
+    Ok(place)
 }
 
 /// An application without commands.
@@ -72,17 +86,26 @@ fn empty_script(alloc: Global, name: Name) -> Script
 }
 
 impl Reader {
+    /// Ends the group that is begun.
+    fn end_group(&mut self) -> Result<(), AllocError>
+        ensures { OnOk result (self.new ≡ record self.old { groups = groups_of self.old; group = None }) }
+    {
+        self.groups.reserve(1)?;
+        if let Some(ended) = self.group.take() {
+            self.groups.push_reserved(ended);
+        }
+        Ok(())
+    }
+
     /// Ends the group that is begun, and begins another.
     fn begin_group(&mut self, name: Name) -> Result<(), AllocError>
         requires fresh { is_among name (group_names self.old) ≡ false }
         requires room { length (group_names self.old) < MAX_GROUPS }
         ensures { OnOk result (self.new ≡ record self.old { groups = groups_of self.old; group = Some (empty_group name) }) }
     {
-        self.groups.reserve(1)?;
+        self.end_group()?;
         self.group_index.add(&name)?;
-        if let Some(ended) = self.group.replace(Group::begin(self.alloc, name)) {
-            self.groups.push_reserved(ended);
-        }
+        self.group = Some(Group::begin(self.alloc, name));
         Ok(())
     }
 
