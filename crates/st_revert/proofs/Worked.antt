@@ -16,6 +16,7 @@ use Rattle.st_event.specs.declared.reply.Verdict.TheVariants.{Accepted}
 use Rattle.st_revert.specs.declared.back.Revert.{Revert}
 use Rattle.st_revert.specs.declared.back.Revert.TheVariants.{Rows, NoVersion, Same, TooMany}
 use Rattle.st_revert.specs.Back.{rows_between, answer_of, revert_after}
+use Rattle.st_revert.specs.Laws.{IsAsked}
 
 -- all variables open with 1, but for those that a link does not have
 abbrev device : DeviceOpening
@@ -106,6 +107,10 @@ answers_by_version = refl
 -- a version that there is not is not taken as the last one
 not_the_latest : revert_after pair both_accepted 3 ≢ Same
 not_the_latest = λ is. cc
+
+-- nor are the rows that lead back by one asked of who wants the opening
+not_one_back : IsAsked pair both_accepted 0 (row (Device 0) Firmware 1 ∷ row (Link 0) Iface 1 ∷ []) → ⊥
+not_one_back is = let are_back = is.are_back in cc
 
 -- what waits makes no version
 waiting : revert_after pair (queued second 2 (accepted first 1 [])) 2 ≡ NoVersion 1

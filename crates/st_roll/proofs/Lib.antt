@@ -4,5 +4,6 @@ pub mod PlanLaws
 pub mod AlterLaws
 pub mod BrokenLaws
 pub mod RollLaws
+pub mod LockLaws
 mod Worked
 mod WorkedRolls

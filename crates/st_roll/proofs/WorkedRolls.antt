@@ -1,6 +1,8 @@
 -- Rolls of two paths, worked: two ToRs, each linked to two switches, with a promise of half the capacity between the two.
-use Rattle.std.proofs.Common.{◌≡◌, ℕ, List, [], ◌∷◌, length, Option, Some, refl, ap, arith}
-use Rattle.std.specs.Prelude.{Bool, true, false}
+use Rattle.std.proofs.Common.{◌≡◌, ℕ, ◌≤◌, List, [], ◌∷◌, length, Option, Some, None, refl, ap, arith}
+use Rattle.std.specs.List.{range_with_len}
+use Rattle.std.specs.Prelude.{◌≢◌, Bool, true, false, replicate}
+use Rattle.st_net.specs.Demands.{is_held_in}
 use Rattle.st_net.specs.declared.entity.AppId.{AppId}
 use Rattle.st_net.specs.declared.entity.Entity.TheVariants.{Device}
 use Rattle.st_net.specs.declared.entity.Prio.TheVariants.{High}
@@ -21,8 +23,10 @@ use Rattle.st_roll.specs.declared.plan.Left.{Left}
 use Rattle.st_roll.specs.declared.plan.Stuck.{Stuck}
 use Rattle.st_roll.specs.declared.plan.Why.TheVariants.{Cause as for_cause, Full}
 use Rattle.st_roll.specs.Firmware.{firmware_rows}
-use Rattle.st_roll.specs.Kept.{IsBrokenBy, IsBehind, IsStuck}
-use Rattle.st_roll.specs.Roll.{roll_of}
+use Rattle.st_roll.specs.declared.plan.Roll.{Roll}
+use Rattle.st_roll.specs.Kept.{IsBrokenBy, IsBehind, IsBatch, IsStuck, IsRoll, times, devices_in}
+use Rattle.st_roll.specs.Refusal.{device_refusal, left_up}
+use Rattle.st_roll.specs.Roll.{roll_of, is_at}
 
 abbrev device : Bool → DeviceOpening
 device tor = record { tor = tor; vals = record { v0 = 1; v1 = 1; v2 = 1; v3 = 1 }; health = 5 }
@@ -128,3 +132,77 @@ side_length _ = 0
 
 not_of_another : IsStuck q opening te 2 (is_stuck 1 (0 ∷ [])) → ⊥
 not_of_another is = let sides : 3 ≡ 1 = ap side_length is in omega (arith, sides)
+
+-- there is no second promise
+not_among : IsBrokenBy q opening 2 (2 ∷ 3 ∷ []) (record (cut_off (0 ∷ [])) { promise = 1 }) → ⊥
+not_among is = omega (arith, is.among)
+
+-- while both switches change, the promise fails already, and a device that is not of the group can't be set: all but that it holds is so
+abbrev both_asked : Standing
+both_asked = standing_of q (
+    record { event = Check; reply = Decided (record { ticket = 1; entry = 2; verdict = Accepted 1 }) }
+    ∷ record { event = Submit te (firmware_rows 2 (2 ∷ 3 ∷ [])); reply = Queued 1 }
+    ∷ [])
+
+fails_before : IsBrokenBy q both_asked 2 (9 ∷ []) (cut_off (0 ∷ [])) → ⊥
+fails_before is = let holds = is.holds in cc
+
+it_fails : is_held_in q (left_up q both_asked (firmware_rows 2 (9 ∷ []))) 0 ≡ false
+it_fails = refl
+
+it_is_refused : (app : AppId) → device_refusal q both_asked app 2 (9 ∷ []) ≢ None
+it_is_refused app none = absurd cc
+
+-- a batch without devices would be accepted, and is none
+the_empty_batch : device_refusal q opening te 2 [] ≡ None
+the_empty_batch = refl
+
+not_empty : IsBatch q opening te 2 (batch [] []) → ⊥
+not_empty is = omega (arith, is.some)
+
+-- nobody needs these switches: 17 of them would be accepted, and are too many for a batch
+abbrev lone : Group
+lone = record q { device_names = replicate 17 []; link_names = []; devices = replicate 17 (device false); links = []; promises = [] }
+
+abbrev seventeen : List ℕ
+seventeen = range_with_len 0 17
+
+they_are_accepted : device_refusal lone (standing_of lone []) te 2 seventeen ≡ None
+they_are_accepted = refl
+
+not_seventeen : IsBatch lone (standing_of lone []) te 2 (batch seventeen []) → ⊥
+not_seventeen is = let few : 17 ≤ 16 = is.few in omega (arith, few)
+
+-- both switches at once are refused, and so they are no batch
+not_both : IsBatch q opening te 2 (batch (2 ∷ 3 ∷ []) []) → ⊥
+not_both is = let accepted = is.accepted in cc
+
+-- a batch of one is not full, and so it leaves nobody as full
+not_left_as_full : IsBatch q opening te 2 (batch (2 ∷ []) (record { device = 3; why = Full } ∷ [])) → ⊥
+not_left_as_full is = let full : 16 ≤ 1 = is.behind 0 (waits 3 []) (omega arith) in omega (arith, full)
+
+-- rolls of one switch, which is taken by itself
+abbrev roll_with : List Batch → List Stuck → List ℕ → Roll
+roll_with batches stuck same = record { batches = batches; stuck = stuck; same = same }
+
+one_switch : roll_of q opening te (2 ∷ []) 2 ≡ roll_with (batch (2 ∷ []) [] ∷ []) [] []
+one_switch = refl
+
+-- its target has another firmware
+not_the_same : IsRoll q opening te (2 ∷ []) 2 (roll_with [] [] (2 ∷ [])) → ⊥
+not_the_same is = let same : false ≡ true = is.same 0 0 (omega arith) in cc
+
+-- it is not stuck
+not_stuck : IsRoll q opening te (2 ∷ []) 2 (roll_with [] (is_stuck 2 (0 ∷ []) ∷ []) []) → ⊥
+not_stuck is = let stuck : None ≡ Some (broken_cause (cut_off (0 ∷ []))) = is.stuck 0 (is_stuck 0 []) (omega arith) in cc
+
+-- it is in one part, and there once
+not_left_out : IsRoll q opening te (2 ∷ []) 2 (roll_with [] [] []) → ⊥
+not_left_out is = let each : 0 ≡ 1 = is.each 2 in omega (arith, each)
+
+not_twice : IsRoll q opening te (2 ∷ []) 2 (roll_with (batch (2 ∷ []) [] ∷ batch (2 ∷ []) [] ∷ []) [] []) → ⊥
+not_twice is = let each : 2 ≡ 1 = is.each 2 in omega (arith, each)
+
+-- both switches are no batch of a roll
+not_at_once : IsRoll q opening te (2 ∷ 3 ∷ []) 2 (roll_with (batch (2 ∷ 3 ∷ []) [] ∷ []) [] []) → ⊥
+not_at_once is = let both = is.batches 0 (batch [] []) (omega arith) in not_both both

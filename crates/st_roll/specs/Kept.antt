@@ -1,11 +1,14 @@
 -- What is true of every roll.
 use Rattle.std.specs.Prelude.{◌≡◌, ◌≢◌, ℕ, ◌<◌, ◌≤◌, ◌==◌, true, false, List, [], ◌∷◌, ◌++◌, length, map, All, count_by, Some, None, flat_map}
 use Rattle.st_net.specs.declared.entity.AppId.{AppId}
+use Rattle.st_net.specs.declared.entity.Entity.{Entity}
+use Rattle.st_net.specs.declared.entity.Prio.{Prio}
 use Rattle.st_net.specs.declared.entity.Row.{Row}
 use Rattle.st_net.specs.declared.promise.Broken.{Broken}
 use Rattle.st_net.specs.declared.topo.TheConstants.{MAX_ROWS}
 use Rattle.st_net.specs.Demands.{demand_count, is_held_in}
 use Rattle.st_net.specs.Groups.{Group, IsSound}
+use Rattle.st_net.specs.Holders.{is_held_by}
 use Rattle.st_event.specs.declared.reply.Cause.{Cause}
 use Rattle.st_event.specs.declared.reply.Cause.TheVariants.{NotControllable, Locked, Broken as broken_cause}
 use Rattle.st_event.specs.Judge.{refusal_or_version}
@@ -17,7 +20,7 @@ use Rattle.st_roll.specs.declared.plan.Stuck.{Stuck}
 use Rattle.st_roll.specs.declared.plan.Why.{Why}
 use Rattle.st_roll.specs.declared.plan.Why.TheVariants.{Cause as for_cause, Full}
 use Rattle.st_roll.specs.Firmware.{firmware_rows}
-use Rattle.st_roll.specs.Refusal.{left_up, refusal, device_refusal}
+use Rattle.st_roll.specs.Refusal.{left_up, refusal_in, device_refusal}
 use Rattle.st_roll.specs.Roll.{is_at, roll_of}
 
 -- the demand holds of the sure entities, and fails without these devices; so whoever asks them all is refused
@@ -67,7 +70,15 @@ pub record IsRoll (g : Group) (st : Standing) (app : AppId) (devices : List ℕ)
 
 -- the verdict on rows is their refusal, or else Accepted with the next version
 abbrev pub TellsVerdicts : Type 0
-TellsVerdicts = (g : Group) (st : Standing) (app : AppId) (rows : List Row) → verdict_in g st app rows ≡ refusal_or_version (refusal g st app rows) st.version
+TellsVerdicts = (g : Group) (st : Standing) (app : AppId) (rows : List Row) → verdict_in g st app rows ≡ refusal_or_version (refusal_in g st app rows) st.version
+
+-- the application holds no lock
+abbrev pub HoldsNone : Standing → AppId → Type 0
+HoldsNone st app = (e : Entity) (prio : Prio) → is_held_by app (st.holder e prio) ≡ false
+
+-- rows that would be accepted of an application that holds no lock would be accepted of every application
+abbrev pub AcceptedOfAll : Type 0
+AcceptedOfAll = (g : Group) (st : Standing) (app other : AppId) (rows : List Row) → HoldsNone st app → refusal_in g st app rows ≡ None → refusal_in g st other rows ≡ None
 
 -- the plan for a sound group is such a roll, however the group stands
 abbrev pub PlansAreRolls : Type 0

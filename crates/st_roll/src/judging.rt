@@ -8,7 +8,7 @@ ghost use Rattle.st_roll.specs.Firmware.{firmware_row as firmware_row_lem, firmw
 ghost use Rattle.st_roll.specs.Judging.{AreGroundsOf};
 ghost use Rattle.st_event.specs.Standing.{sure_in};
 ghost use Rattle.st_control.specs.Control.{standing_in};
-ghost use Rattle.st_roll.specs.Refusal.{left_up, refusal};
+ghost use Rattle.st_roll.specs.Refusal.{left_up, refusal_in};
 
 use st_control::Control;
 use st_event::Cause;
@@ -94,7 +94,7 @@ impl Grounds {
     ) -> Result<Option<Cause>, AllocError>
         requires grounds { AreGroundsOf control.now self.old }
         requires rows { All (RowFits control.now.group) rows.now }
-        ensures cause { IfOk result (λ cause. cause ≡ refusal control.now.group (standing_in control.now) app rows.now) }
+        ensures cause { IfOk result (λ cause. cause ≡ refusal_in control.now.group (standing_in control.now) app rows.now) }
         ensures grounds { AreGroundsOf control.now self.new }
     {
         let store = control.store();

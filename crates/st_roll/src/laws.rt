@@ -1,6 +1,6 @@
 //! What follows of refusals, and of plans. The crates above cite it.
 
-ghost use Rattle.st_roll.specs.Kept.{PlansAreRolls, TellsVerdicts};
+ghost use Rattle.st_roll.specs.Kept.{AcceptedOfAll, PlansAreRolls, TellsVerdicts};
 
 /// Where rows are refused for a cause, the verdict on them as the control stands is that refusal; where they are refused for none, they are
 /// accepted as the next version. So a batch that is proposed while nothing waits is accepted, if it is decided before anything else happens.
@@ -12,4 +12,10 @@ pub fn refusals_are_verdicts()
 /// it stands, but a journal leads there.
 pub fn plans_are_rolls()
     ensures { PlansAreRolls }
+{}
+
+/// Rows that would be accepted of an application that holds no lock would be accepted of every application. So may be proposed the batches of
+/// a plan for such a one, whoever proposes them.
+pub fn accepted_of_all()
+    ensures { AcceptedOfAll }
 {}

@@ -7,5 +7,5 @@ mod laws;
 mod pass;
 mod plan;
 
-pub use laws::{plans_are_rolls, refusals_are_verdicts};
+pub use laws::{accepted_of_all, plans_are_rolls, refusals_are_verdicts};
 pub use plan::{Batch, Left, Roll, Stuck, Why, plan_roll};

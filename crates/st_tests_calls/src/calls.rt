@@ -15,6 +15,7 @@ use st_io::{SureSink, SureSource};
 use st_top::{Outcome, Status, statesman};
 use std::alloc::{AllocError, Global};
 use std::sync::Wait;
+use std::test::Fail;
 use std::thread::Threads;
 
 /// Two ToRs that two switches join, without promises and scripts.
@@ -72,11 +73,55 @@ struct Told {
 }
 
 impl Called {
+    /// What a call ended with, where there was memory for a copy of what it wrote.
+    fn of(outcome: Outcome, text: Result<Vec<u8>, AllocError>) -> Result<Called, AllocError> {
+        match text {
+            Ok(text) => Ok(Called { outcome, text }),
+            Err(AllocError) => {
+                drop(outcome);
+                Err(AllocError)
+            }
+        }
+    }
+
     fn into_told(self) -> Told {
         let Called { outcome, text } = self;
         let status = outcome.status;
         drop(outcome);
         Told { status, text }
+    }
+}
+
+impl Told {
+    /// Whether this is the status, and this the text.
+    fn is(&self, status: Status, text: &[u8]) -> bool {
+        self.status == status && self.text.as_slice() == text
+    }
+}
+
+/// Whether what a call told is this.
+fn tells(told: Result<Told, AllocError>, status: Status, text: &[u8]) -> Result<bool, AllocError> {
+    let told = told?;
+    let is = told.is(status, text);
+    drop(told);
+    Ok(is)
+}
+
+/// Ends a test: what it found has to hold.
+fn holds(found: Result<bool, AllocError>) -> Result<(), Fail> {
+    if found? {
+        Ok(())
+    } else {
+        Err(Fail::new("it does not hold"))
+    }
+}
+
+/// Ends a test over a gate, which has to be kept.
+fn kept(was_kept: bool, found: Result<bool, AllocError>) -> Result<(), Fail> {
+    if was_kept {
+        holds(found)
+    } else {
+        Err(Fail::new("the gate was not kept"))
     }
 }
 
@@ -92,12 +137,29 @@ fn joined(alloc: Global, parts: &[&[u8]]) -> Result<Vec<u8>, AllocError> {
 fn words_of(alloc: Global, words: &[&str]) -> Result<Vec<String>, AllocError> {
     let mut list = Vec::new(alloc);
     for word in words {
-        list.push(format!(in alloc; "{word}")?)?;
+        list.push(String::from_str(alloc, *word)?)?;
     }
     Ok(list)
 }
 
-/// A call over a source and a sink that never fail, with a gate.
+/// A call over a source of these bytes and a sink that never fail, with a gate.
+fn called_at<R: Threads + Wait + Sync, G: Gate + Sync>(
+    rt: &R,
+    alloc: Global,
+    words: &[String],
+    bytes: Vec<u8>,
+    gate: &G,
+) -> Result<Called, AllocError> {
+    let mut source = SureSource::new(bytes);
+    let mut sink = SureSink::new(alloc);
+    let outcome = statesman(rt, alloc, words, &mut source, &mut sink, gate);
+    drop(source);
+    let text = sink.bytes().to_vec(alloc);
+    drop(sink);
+    Called::of(outcome, text)
+}
+
+/// The same of words and of parts of a text.
 fn call_at<R: Threads + Wait + Sync, G: Gate + Sync>(
     rt: &R,
     alloc: Global,
@@ -105,14 +167,11 @@ fn call_at<R: Threads + Wait + Sync, G: Gate + Sync>(
     parts: &[&[u8]],
     gate: &G,
 ) -> Result<Called, AllocError> {
+    let bytes = joined(alloc, parts)?;
     let words = words_of(alloc, words)?;
-    let mut source = SureSource::new(joined(alloc, parts)?);
-    let mut sink = SureSink::new(alloc);
-    let outcome = statesman(rt, alloc, words.as_slice(), &mut source, &mut sink, gate);
-    Ok(Called {
-        outcome,
-        text: sink.bytes().to_vec(alloc)?,
-    })
+    let called = called_at(rt, alloc, words.as_slice(), bytes, gate);
+    drop(words);
+    called
 }
 
 /// A call over a source and a sink that never fail.

@@ -4,8 +4,14 @@
 #[cfg(test)]
 mod commits;
 #[cfg(test)]
+mod drawn;
+#[cfg(test)]
 mod flows;
 #[cfg(test)]
 mod nets;
 #[cfg(test)]
 mod promises;
+#[cfg(test)]
+mod reverts;
+#[cfg(test)]
+mod rolls;

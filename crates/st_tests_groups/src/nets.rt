@@ -3,8 +3,8 @@
 ghost use Rattle.st_net.specs.Sets.{MarksOf};
 
 use st_net::{Entity, EntitySet, GroupTopo, Name};
-use st_samples::groups;
-use std::alloc::Global;
+use st_samples::group;
+use std::alloc::{AllocError, Global};
 use std::test::Fail;
 
 /// Two devices that are joined by a link: the second and the link have the value 7.
@@ -18,21 +18,27 @@ open d2.firmware=7
 open l.iface=7
 ";
 
+/// Texts, and whether each is a name.
+const NAMES: [(&str, bool); 8] = [
+    ("a", true),
+    ("Z-_9", true),
+    ("abcdefghijklmnopqrstuvwxyzabcdef", true),
+    ("abcdefghijklmnopqrstuvwxyzabcdefg", false),
+    ("", false),
+    ("9a", false),
+    ("_a", false),
+    ("a/b", false),
+];
+
+/// Whether this is read as a name.
+fn is_name(alloc: Global, text: &str) -> Result<bool, AllocError> {
+    Ok(Name::read(alloc, text.as_bytes())?.is_some())
+}
+
 #[test]
 fn names_of_1_to_32_bytes(rt: HostRuntime) -> Result<(), Fail> {
-    let cases = [
-        ("a", true),
-        ("Z-_9", true),
-        ("abcdefghijklmnopqrstuvwxyzabcdef", true),
-        ("abcdefghijklmnopqrstuvwxyzabcdefg", false),
-        ("", false),
-        ("9a", false),
-        ("_a", false),
-        ("a/b", false),
-    ];
-    for (text, is_right) in cases {
-        let read = Name::read(rt.alloc(), text.as_bytes())?;
-        assert_eq!(rt; read.is_some(), is_right, "{text}");
+    for (text, is_right) in NAMES {
+        assert_eq!(rt; is_name(rt.alloc(), text)?, is_right, "{text}");
     }
     Ok(())
 }
@@ -56,19 +62,41 @@ fn has_just(
     Ok(members.as_slice() == expected)
 }
 
+/// Whether a set has just the second device and the link, just the device once the link is taken out, and the same once it is taken out again.
+fn taken_out(
+    alloc: Global,
+    topo: &GroupTopo,
+    set: &mut EntitySet,
+    links: &EntitySet,
+) -> Result<[bool; 3], Fail>
+    requires set { MarksOf topo.now set.old }
+    requires links { MarksOf topo.now links.now }
+{
+    let (second, link) = (Entity::Device(1), Entity::Link(0));
+    let first = has_just(alloc, topo, &*set, &[second, link])?;
+    set.remove_all(links);
+    let then = has_just(alloc, topo, &*set, &[second])?;
+    set.remove_all(links);
+    let again = has_just(alloc, topo, &*set, &[second])?;
+    Ok([first, then, again])
+}
+
+/// The same of the entities of a group that have the value 7, and of its link.
+fn passing_taken_out(alloc: Global, topo: &GroupTopo) -> Result<[bool; 3], Fail> {
+    let links = EntitySet::passing(alloc, topo, |entity| entity.is_same(Entity::Link(0)))?;
+    let mut set = EntitySet::passing(alloc, topo, |entity| topo.opening(entity).v1 == 7)?;
+    let taken = taken_out(alloc, topo, &mut set, &links);
+    drop(set);
+    drop(links);
+    taken
+}
+
 #[test]
 fn entities_that_pass_a_test_are_taken_out_again(rt: HostRuntime) -> Result<(), Fail> {
-    let alloc = rt.alloc();
-    let topos = groups(alloc, JOINED)?;
-    let topo = topos.first().ok_or("no group")?;
-    let (second, link) = (Entity::Device(1), Entity::Link(0));
-    let mut set = EntitySet::passing(alloc, topo, |entity| topo.opening(entity).v1 == 7)?;
-    assert!(rt; has_just(alloc, topo, &set, &[second, link])?);
-    let links = EntitySet::passing(alloc, topo, |entity| entity.is_same(link))?;
-    set.remove_all(&links);
-    assert!(rt; has_just(alloc, topo, &set, &[second])?);
-    set.remove_all(&links);
-    assert!(rt; has_just(alloc, topo, &set, &[second])?);
+    let topo = group(rt.alloc(), JOINED)?;
+    let taken = passing_taken_out(rt.alloc(), &topo);
+    drop(topo);
+    assert_eq!(rt; taken?, [true, true, true]);
     Ok(())
 }
 

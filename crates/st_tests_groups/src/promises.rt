@@ -17,10 +17,12 @@ use std::test::Fail;
 /// A fat tree of ten pods.
 pub fn fat_tree(alloc: Global) -> Result<GroupTopo, Fail> {
     let doc = generate(alloc, 10, 0)?;
-    match doc.groups.as_slice().first() {
-        Some(parts) => Ok(topo_of(alloc, parts)?),
-        None => Err(Fail::new("no group")),
-    }
+    let topo = match doc.groups.as_slice().first() {
+        Some(parts) => topo_of(alloc, parts),
+        None => Err(AllocError),
+    };
+    drop(doc);
+    Ok(topo?)
 }
 
 /// Every entity of a group.
@@ -107,10 +109,12 @@ fn only_flows_that_lost_too_much_are_found_again(rt: HostRuntime) -> Result<(), 
     let seen = seen_in(rt.alloc(), &topo);
     drop(topo);
     let seen = seen?;
-    assert_eq!(rt; seen.promises, 1225);
-    assert!(rt; !seen.link_breaks && seen.tor_cut_off);
-    assert!(rt; seen.runs <= 98);
-    assert!(rt; seen.more_runs > seen.runs);
+    let few = seen.runs <= 98;
+    let more = seen.more_runs > seen.runs;
+    assert_eq!(rt;
+        (seen.promises, seen.link_breaks, seen.tor_cut_off, few, more),
+        (1225, false, true, true, true)
+    );
     Ok(())
 }
 
@@ -162,7 +166,9 @@ fn promises_that_fail_already_take_no_more_flows(rt: HostRuntime) -> Result<(), 
     let seen = repeated_in(rt.alloc(), &topo);
     drop(topo);
     let seen = seen?;
-    assert!(rt; !seen.breaks && seen.first >= 49);
-    assert_eq!(rt; seen.second, 0);
+    assert_eq!(rt;
+        (seen.breaks, seen.first >= 49, seen.second),
+        (false, true, 0)
+    );
     Ok(())
 }

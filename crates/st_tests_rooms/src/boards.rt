@@ -3,6 +3,7 @@
 ghost use Rattle.std.specs.Prelude.{◌≡◌, ◌+◌, ◌<◌, ◌^◌, [], false, All, IfOk, length};
 ghost use Rattle.st_net.specs.Groups.{IsEntityOf};
 ghost use Rattle.st_net.specs.Ranges.{RowFits};
+ghost use Rattle.st_board.specs.Published.{IsMergeOf};
 
 use st_board::{Board, Line, MAX_READERS, Note, Seen, TargetReader};
 use st_net::{Entity, GroupTopo, Row, Var};
@@ -37,6 +38,22 @@ const MERGED: Seen = Seen {
     value: 2,
 };
 
+const OTHER_GROUP: &str = "the rows or the entity are of another group";
+
+/// What was seen, where there was memory for the note.
+fn noted<T: Drop>(note: Result<Note, AllocError>, seen: T) -> Result<T, Fail> {
+    match note {
+        Ok(note) => {
+            drop(note);
+            Ok(seen)
+        }
+        Err(AllocError) => {
+            drop(seen);
+            Err(Fail::new("no memory"))
+        }
+    }
+}
+
 /// Publishes the rows and reads, with no note between.
 fn published_and_read<R: Wait>(
     rt: &R,
@@ -44,56 +61,24 @@ fn published_and_read<R: Wait>(
     topo: &GroupTopo,
     rows: &[Row],
     at: Entity,
-) -> Result<Seen, AllocError>
-    requires { All (RowFits topo.now) rows.now × IsEntityOf topo.now at }
-{
+) -> Result<Seen, Fail> {
+    if !topo.rows_fit(rows) || !topo.has(at) {
+        return Err(Fail::new(OTHER_GROUP));
+    }
     let (mut board, mut readers) = Board::start(rt, alloc, Line::new(), topo, 1)?;
     let note = board.publish(rt, alloc, rows);
     let seen = readers[0].read(at, Var::Firmware);
     board.give_up(rt);
-    let _note = note?;
-    Ok(seen)
+    drop(readers);
+    noted(note, seen)
 }
 
 #[test]
 fn a_read_sees_what_its_reader_was_not_told_of(rt: HostRuntime) -> Result<(), Fail> {
     let topo = group(rt.alloc(), LONE)?;
-    assert!(rt; topo.rows_fit(&[FIRMWARE]) && topo.has(A1));
-    let seen = published_and_read(&rt, rt.alloc(), &topo, &[FIRMWARE], A1)?;
-    assert_eq!(rt; seen, MERGED);
-    Ok(())
-}
-
-/// Ends a board after one merge, gives it up, and lets a reader learn what was published.
-fn ended_and_learned<R: Wait>(
-    rt: &R,
-    alloc: Global,
-    topo: &GroupTopo,
-    rows: &[Row],
-    at: Entity,
-) -> Result<Seen, AllocError>
-    requires { All (RowFits topo.now) rows.now × IsEntityOf topo.now at }
-{
-    let (mut board, mut readers) = Board::start(rt, alloc, Line::new(), topo, 1)?;
-    if board.publish(rt, alloc, rows).is_err() {
-        board.give_up(rt);
-        return Err(AllocError);
-    }
-    let end = board.end(rt, alloc);
-    if let Ok(note) = &end {
-        readers[0].learn(note, board.target());
-    }
-    board.give_up(rt);
-    let _end = end?;
-    Ok(readers[0].read(at, Var::Firmware))
-}
-
-#[test]
-fn a_reader_that_learned_the_end_has_the_whole_front(rt: HostRuntime) -> Result<(), Fail> {
-    let topo = group(rt.alloc(), LONE)?;
-    assert!(rt; topo.rows_fit(&[FIRMWARE]) && topo.has(A1));
-    let seen = ended_and_learned(&rt, rt.alloc(), &topo, &[FIRMWARE], A1)?;
-    assert_eq!(rt; seen, MERGED);
+    let seen = published_and_read(&rt, rt.alloc(), &topo, &[FIRMWARE], A1);
+    drop(topo);
+    assert_eq!(rt; seen?, MERGED);
     Ok(())
 }
 
@@ -116,6 +101,62 @@ fn start_one<R: Wait>(
     }
 }
 
+/// Ends a board, and lets its first reader learn what was published, and read.
+fn learned_end<R: Wait>(
+    rt: &R,
+    alloc: Global,
+    mut board: Board,
+    mut reader: TargetReader,
+    at: Entity,
+) -> Result<Seen, Fail>
+    requires going { board.ended ≡ false }
+    requires reader { (reader.group ≡ board.group) × (reader.book ≡ board.book) }
+    requires entity { IsEntityOf board.group at }
+{
+    let end = board.end(rt, alloc);
+    if let Ok(note) = &end {
+        reader.learn(note, board.target());
+    }
+    board.give_up(rt);
+    let seen = reader.read(at, Var::Firmware);
+    drop(reader);
+    noted(end, seen)
+}
+
+/// Ends a board after one merge, gives it up, and lets a reader learn what was published.
+fn ended_and_learned<R: Wait>(
+    rt: &R,
+    alloc: Global,
+    topo: &GroupTopo,
+    rows: &[Row],
+    at: Entity,
+) -> Result<Seen, Fail> {
+    if !topo.rows_fit(rows) || !topo.has(at) {
+        return Err(Fail::new(OTHER_GROUP));
+    }
+    let (mut board, reader) = start_one(rt, alloc, topo)?;
+    match board.publish(rt, alloc, rows) {
+        Ok(note) => {
+            drop(note);
+            learned_end(rt, alloc, board, reader, at)
+        }
+        Err(AllocError) => {
+            board.give_up(rt);
+            drop(reader);
+            Err(Fail::new("no memory"))
+        }
+    }
+}
+
+#[test]
+fn a_reader_that_learned_the_end_has_the_whole_front(rt: HostRuntime) -> Result<(), Fail> {
+    let topo = group(rt.alloc(), LONE)?;
+    let seen = ended_and_learned(&rt, rt.alloc(), &topo, &[FIRMWARE], A1);
+    drop(topo);
+    assert_eq!(rt; seen?, MERGED);
+    Ok(())
+}
+
 /// Reads, and gives the reader back.
 fn read_once(mut reader: TargetReader, at: Entity) -> (Seen, TargetReader)
     requires { IsEntityOf reader.group at }
@@ -131,9 +172,10 @@ fn read_beside<R: Threads + Wait + Sync>(
     topo: &GroupTopo,
     rows: &[Row],
     at: Entity,
-) -> Result<(Seen, Seen), AllocError>
-    requires { All (RowFits topo.now) rows.now × IsEntityOf topo.now at }
-{
+) -> Result<(Seen, Seen), Fail> {
+    if !topo.rows_fit(rows) || !topo.has(at) {
+        return Err(Fail::new(OTHER_GROUP));
+    }
     let (mut board, reader) = start_one(rt, alloc, topo)?;
     let ((first, mut reader), note) = join(
         rt,
@@ -147,15 +189,16 @@ fn read_beside<R: Threads + Wait + Sync>(
     );
     let then = reader.read(at, Var::Firmware);
     board.give_up(rt);
-    let _note = note?;
-    Ok((first, then))
+    drop(reader);
+    noted(note, (first, then))
 }
 
 #[test]
 fn a_thread_reads_one_version_or_the_other(rt: HostRuntime) -> Result<(), Fail> {
     let topo = group(rt.alloc(), LONE)?;
-    assert!(rt; topo.rows_fit(&[FIRMWARE]) && topo.has(A1));
-    let (first, then) = read_beside(&rt, rt.alloc(), &topo, &[FIRMWARE], A1)?;
+    let seen = read_beside(&rt, rt.alloc(), &topo, &[FIRMWARE], A1);
+    drop(topo);
+    let (first, then) = seen?;
     let is_one = first == OPENING || first == MERGED;
     assert_eq!(rt; (is_one, then), (true, MERGED));
     Ok(())
@@ -184,55 +227,97 @@ fn read_by_all<R: Wait>(
     topo: &GroupTopo,
     rows: &[Row],
     at: Entity,
-) -> Result<Vec<Seen>, AllocError>
+) -> Result<Vec<Seen>, Fail>
     requires { All (RowFits topo.now) rows.now × IsEntityOf topo.now at }
 {
     let (mut board, readers) = Board::start(rt, alloc, Line::new(), topo, MAX_READERS)?;
     let note = board.publish(rt, alloc, rows);
     let seen = read_each(alloc, readers, at);
     board.give_up(rt);
-    let _note = note?;
-    seen
+    Ok(noted(note, seen)??)
+}
+
+/// The same of rows and an entity that the group is to have.
+fn all_seen<R: Wait>(
+    rt: &R,
+    alloc: Global,
+    topo: &GroupTopo,
+    rows: &[Row],
+    at: Entity,
+) -> Result<Vec<Seen>, Fail> {
+    if !topo.rows_fit(rows) || !topo.has(at) {
+        return Err(Fail::new(OTHER_GROUP));
+    }
+    read_by_all(rt, alloc, topo, rows, at)
+}
+
+/// How many have seen the merge.
+fn merged_count(all: &[Seen]) -> u32 {
+    let mut count = 0u32;
+    for seen in all {
+        if *seen == MERGED {
+            count = count.wrapping_add(1);
+        }
+    }
+    count
 }
 
 #[test]
 fn each_of_512_readers_sees_the_merge(rt: HostRuntime) -> Result<(), Fail> {
     let topo = group(rt.alloc(), LONE)?;
-    assert!(rt; topo.rows_fit(&[FIRMWARE]) && topo.has(A1));
-    let all = read_by_all(&rt, rt.alloc(), &topo, &[FIRMWARE], A1)?;
-    assert_eq!(rt; all.len(), 512);
-    for seen in all {
-        assert_eq!(rt; seen, MERGED);
-    }
+    let all = all_seen(&rt, rt.alloc(), &topo, &[FIRMWARE], A1);
+    drop(topo);
+    let all = all?;
+    let merged = merged_count(all.as_slice());
+    assert_eq!(rt; (all.len(), merged), (512, 512));
     Ok(())
 }
 
 /// Lets a reader learn a note of the opening after it has read a merge.
+fn learned_by<R: Wait>(
+    rt: &R,
+    alloc: Global,
+    topo: &GroupTopo,
+    rows: &[Row],
+    at: Entity,
+    opening: &Table,
+) -> Result<Seen, Fail>
+    requires { IsMergeOf topo.now [] opening.now }
+{
+    if !topo.rows_fit(rows) || !topo.has(at) {
+        return Err(Fail::new(OTHER_GROUP));
+    }
+    let (mut board, mut reader) = start_one(rt, alloc, topo)?;
+    let early = board.note();
+    let note = board.publish(rt, alloc, rows);
+    let _seen = reader.read(at, Var::Firmware);
+    reader.learn(&early, opening);
+    drop(early);
+    board.give_up(rt);
+    let seen = reader.read(at, Var::Firmware);
+    drop(reader);
+    noted(note, seen)
+}
+
+/// The same, by the table of the group's opening.
 fn learned_late<R: Wait>(
     rt: &R,
     alloc: Global,
     topo: &GroupTopo,
     rows: &[Row],
     at: Entity,
-) -> Result<Seen, AllocError>
-    requires { All (RowFits topo.now) rows.now × IsEntityOf topo.now at }
-{
+) -> Result<Seen, Fail> {
     let opening = Table::opening(alloc, topo)?;
-    let (mut board, mut reader) = start_one(rt, alloc, topo)?;
-    let early = board.note();
-    let note = board.publish(rt, alloc, rows);
-    let _seen = reader.read(at, Var::Firmware);
-    reader.learn(&early, &opening);
-    board.give_up(rt);
-    let _note = note?;
-    Ok(reader.read(at, Var::Firmware))
+    let seen = learned_by(rt, alloc, topo, rows, at, &opening);
+    drop(opening);
+    seen
 }
 
 #[test]
 fn an_early_note_takes_nothing_back(rt: HostRuntime) -> Result<(), Fail> {
     let topo = group(rt.alloc(), LONE)?;
-    assert!(rt; topo.rows_fit(&[FIRMWARE]) && topo.has(A1));
-    let seen = learned_late(&rt, rt.alloc(), &topo, &[FIRMWARE], A1)?;
-    assert_eq!(rt; seen, MERGED);
+    let seen = learned_late(&rt, rt.alloc(), &topo, &[FIRMWARE], A1);
+    drop(topo);
+    assert_eq!(rt; seen?, MERGED);
     Ok(())
 }

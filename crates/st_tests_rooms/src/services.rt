@@ -2,9 +2,9 @@
 
 ghost use Rattle.std.specs.Prelude.{◌≡◌, ◌+◌, ◌≤◌, [], IfOk, length};
 
-use scenario::{InTurn, Scenario, play};
+use scenario::{Scenario, play};
 use st_net::GroupTopo;
-use st_samples::{TWO_PATH, groups};
+use st_samples::{TWO_PATH, group};
 use st_service::{Closed, Naming, Pass, RoomLines, Service};
 use st_wire::LossPlan;
 use st_world::World;
@@ -55,10 +55,32 @@ fn closed<J: Naming, L: Ledger, H: Wait + Drop>(
     requires room { length service.rooms.items ≡ 1 }
     requires all { service.passes ≡ all }
 {
-    if !are_passes_of(&passes, all) {
-        return Err(Fail::new("not the service's passes"));
+    if are_passes_of(&passes, all) {
+        Ok(service.close(alloc, passes)?)
+    } else {
+        drop(passes);
+        drop(service);
+        Err(Fail::new("not the service's passes"))
     }
-    Ok(service.close(alloc, passes)?)
+}
+
+/// The same of what was played, where that came to its end.
+fn closed_behind<J: Naming, L: Ledger, H: Wait + Drop>(
+    alloc: Global,
+    service: Service<J, L, H>,
+    played: Result<Vec<Pass<J, L>>, Fail>,
+    all: usize,
+) -> Result<Closed, Fail>
+    requires room { length service.rooms.items ≡ 1 }
+    requires all { service.passes ≡ all }
+{
+    match played {
+        Ok(passes) => closed(alloc, service, passes, all),
+        Err(fail) => {
+            drop(service);
+            Err(fail)
+        }
+    }
 }
 
 /// Plays a scenario on a service, and closes it.
@@ -88,8 +110,9 @@ fn played_on<
         topo,
         apps,
     };
-    let passes = play(rt, &stage, passes, scenario)?;
-    closed(alloc, service, passes, all)
+    let played = play(rt, &stage, passes, scenario);
+    drop(stage);
+    closed_behind(alloc, service, played, all)
 }
 
 /// A service over one group, with so many applications and workers, on which a scenario is played; and what it hands out at its close.
@@ -126,6 +149,7 @@ fn opening(alloc: Global, topo: &GroupTopo) -> Result<World, AllocError>
 fn played<R: Threads + Wait + Sync>(
     rt: &R,
     alloc: Global,
+    topo: &GroupTopo,
     apps: u32,
     workers: u32,
     scenario: Scenario,
@@ -133,8 +157,6 @@ fn played<R: Threads + Wait + Sync>(
     requires { apps + workers ≤ 512 }
 {
     let blank = Blank::new(u64::from(apps) + u64::from(workers) + 2);
-    let topos = groups(alloc, TWO_PATH)?;
-    let topo = topos.first().ok_or("no group")?;
     let world = opening(alloc, topo)?;
     day::<Brand, Brand, R>(
         rt,
@@ -162,6 +184,13 @@ fn counts(closed: &Closed) -> (usize, usize) {
     (entries, lines)
 }
 
+/// The same of what is not needed any more.
+fn counts_once(closed: Closed) -> (usize, usize) {
+    let counts = counts(&closed);
+    drop(closed);
+    counts
+}
+
 /// The same counts of a scenario that is played, and whose service closes.
 fn counted<R: Threads + Wait + Sync>(
     rt: &R,
@@ -172,8 +201,10 @@ fn counted<R: Threads + Wait + Sync>(
 ) -> Result<(usize, usize), Fail>
     requires { apps + workers ≤ 512 }
 {
-    let closed = played(rt, alloc, apps, workers, scenario)?;
-    Ok(counts(&closed))
+    let topo = group(alloc, TWO_PATH)?;
+    let closed = played(rt, alloc, &topo, apps, workers, scenario);
+    drop(topo);
+    Ok(counts_once(closed?))
 }
 
 /// What each scenario shows, the scenario, how many applications and workers there are, how many entries the journal has then, and how
@@ -190,7 +221,7 @@ const PLAYED: [(&str, Scenario, u32, u32, usize, usize); 9] = [
     ),
     (
         "a settle follows another's await",
-        Scenario::InTurn(InTurn::SettleAfterAwait),
+        Scenario::InTurn(scenario::SETTLE_AFTER_AWAIT),
         2,
         0,
         7,
@@ -198,7 +229,7 @@ const PLAYED: [(&str, Scenario, u32, u32, usize, usize); 9] = [
     ),
     (
         "a worker does a round",
-        Scenario::InTurn(InTurn::WorkerRound),
+        Scenario::InTurn(scenario::WORKER_ROUND),
         1,
         1,
         7,
@@ -206,7 +237,7 @@ const PLAYED: [(&str, Scenario, u32, u32, usize, usize); 9] = [
     ),
     (
         "workers do a round by halves",
-        Scenario::InTurn(InTurn::WorkerHalves),
+        Scenario::InTurn(scenario::WORKER_HALVES),
         1,
         2,
         7,
@@ -214,7 +245,7 @@ const PLAYED: [(&str, Scenario, u32, u32, usize, usize); 9] = [
     ),
     (
         "workers check off the lock and do halves",
-        Scenario::InTurn(InTurn::WorkerCalls),
+        Scenario::InTurn(scenario::WORKER_CALLS),
         1,
         3,
         7,
@@ -222,7 +253,7 @@ const PLAYED: [(&str, Scenario, u32, u32, usize, usize); 9] = [
     ),
     (
         "a settle follows a worker's check",
-        Scenario::InTurn(InTurn::SettleAfterCheck),
+        Scenario::InTurn(scenario::SETTLE_AFTER_CHECK),
         1,
         3,
         7,
@@ -240,7 +271,7 @@ const PLAYED: [(&str, Scenario, u32, u32, usize, usize); 9] = [
     // Lock, unlock, failure; a report and its hearing.
     (
         "each act enters its events",
-        Scenario::InTurn(InTurn::EachAct),
+        Scenario::InTurn(scenario::EACH_ACT),
         1,
         0,
         5,
@@ -261,7 +292,13 @@ fn each_scenario_leaves_its_entries_and_lines(rt: HostRuntime) -> Result<(), Fai
 
 #[test]
 fn a_full_journal_is_told(rt: HostRuntime) -> Result<(), Fail> {
-    let counts = counted(&rt, rt.alloc(), 1, 0, Scenario::InTurn(InTurn::FullJournal))?;
+    let counts = counted(
+        &rt,
+        rt.alloc(),
+        1,
+        0,
+        Scenario::InTurn(scenario::FULL_JOURNAL),
+    )?;
     assert_eq!(rt; counts, (200_000, 1));
     Ok(())
 }

@@ -3,6 +3,7 @@
 ghost use Rattle.std.specs.Prelude.{◌<◌, length};
 ghost use Rattle.st_gen.specs.Generated.{IsPods};
 
+use crate::outcome::holds;
 use st_doc::{DocRead, print_doc, read_doc};
 use st_gen::generate;
 use st_text::Text;
@@ -112,8 +113,11 @@ unlock dc1 c0 high
 fn printed(alloc: Global, pods: u32, seed: u32) -> Result<Text, AllocError>
     requires { IsPods pods }
 {
+    let doc = generate(alloc, pods, seed)?;
     let mut text = Text::new(alloc);
-    print_doc(&generate(alloc, pods, seed)?, &mut text)?;
+    let printed = print_doc(&doc, &mut text);
+    drop(doc);
+    printed?;
     Ok(text)
 }
 
@@ -121,35 +125,55 @@ fn printed(alloc: Global, pods: u32, seed: u32) -> Result<Text, AllocError>
 fn printed_again(alloc: Global, bytes: &[u8]) -> Result<Text, AllocError>
     requires { length bytes.now < 4294967295 }
 {
-    let mut text = Text::new(alloc);
     match read_doc(alloc, bytes, false)? {
-        DocRead::Doc(doc) => print_doc(&doc, &mut text)?,
-        DocRead::Fault(_) => {}
+        DocRead::Doc(doc) => {
+            let mut text = Text::new(alloc);
+            let printed = print_doc(&doc, &mut text);
+            drop(doc);
+            printed?;
+            Ok(text)
+        }
+        DocRead::Fault(_) => Ok(Text::new(alloc)),
     }
-    Ok(text)
+}
+
+/// Whether a text is that of four pods.
+fn is_four_pods(text: Result<Text, AllocError>) -> Result<bool, AllocError> {
+    let text = text?;
+    let is = text.bytes() == FOUR_PODS;
+    drop(text);
+    Ok(is)
 }
 
 #[test]
 fn four_pods_are_printed_as_written(rt: HostRuntime) -> Result<(), Fail> {
-    let text = printed(rt.alloc(), 4, 7)?;
-    assert_eq!(rt; text.bytes(), FOUR_PODS);
-    Ok(())
+    holds(is_four_pods(printed(rt.alloc(), 4, 7)))
 }
 
 #[test]
 fn four_pods_are_read_back(rt: HostRuntime) -> Result<(), Fail> {
-    let text = printed_again(rt.alloc(), FOUR_PODS)?;
-    assert_eq!(rt; text.bytes(), FOUR_PODS);
-    Ok(())
+    holds(is_four_pods(printed_again(rt.alloc(), FOUR_PODS)))
+}
+
+/// How many groups the generated document of ten pods has, and how many devices, links and promises the first.
+fn counts(alloc: Global) -> Result<[usize; 4], AllocError> {
+    let doc = generate(alloc, 10, 0)?;
+    let groups = doc.groups.as_slice();
+    let counts = match groups.first() {
+        Some(parts) => [
+            groups.len(),
+            parts.devices.as_slice().len(),
+            parts.links.as_slice().len(),
+            parts.promises.as_slice().len(),
+        ],
+        None => [0, 0, 0, 0],
+    };
+    drop(doc);
+    Ok(counts)
 }
 
 #[test]
 fn ten_pods_have_as_many_parts_as_a_fat_tree(rt: HostRuntime) -> Result<(), Fail> {
-    let doc = generate(rt.alloc(), 10, 0)?;
-    let groups = doc.groups.as_slice();
-    assert_eq!(&rt; groups.len(), 1);
-    assert_eq!(&rt; groups[0].devices.as_slice().len(), 125);
-    assert_eq!(&rt; groups[0].links.as_slice().len(), 500);
-    assert_eq!(&rt; groups[0].promises.as_slice().len(), 1225);
+    assert_eq!(&rt; counts(rt.alloc())?, [1, 125, 500, 1225]);
     Ok(())
 }

@@ -13,6 +13,8 @@ mod generated;
 #[cfg(test)]
 mod journals;
 #[cfg(test)]
+mod outcome;
+#[cfg(test)]
 mod outside;
 #[cfg(test)]
 mod pages;

@@ -1,7 +1,8 @@
 //! Sources and sinks, in memory and over std's readers and writers: whole, interrupted, and failing in mid-stream.
 
+use crate::outcome::holds;
 use st_io::{
-    MAX_BYTES, MemorySink, MemorySource, ReadEnd, StdSink, StdSource, SureSink, SureSource,
+    MAX_BYTES, MemorySink, MemorySource, ReadEnd, Source, StdSink, StdSource, SureSink, SureSource,
     Written, read_all, write_all,
 };
 use std::alloc::{AllocError, Global};
@@ -31,62 +32,86 @@ fn one_byte_more_than_the_most_is_too_long(rt: HostRuntime) -> Result<(), Fail> 
     Ok(())
 }
 
+/// Whether reading ends so, with these bytes.
+fn reads<S: Source>(
+    alloc: Global,
+    source: &mut S,
+    end: ReadEnd,
+    bytes: &[u8],
+) -> Result<bool, AllocError> {
+    let input = read_all(alloc, source)?;
+    let is = input.end == end && input.bytes.as_slice() == bytes;
+    drop(input);
+    Ok(is)
+}
+
+/// A source that never fails is read to its end.
 #[test]
-fn a_text_goes_through_whole(rt: HostRuntime) -> Result<(), Fail> {
-    let alloc = rt.alloc();
-    let input = read_all(alloc, &mut SureSource::new(LINE.to_vec(alloc)?))?;
-    let mut sink = SureSink::new(alloc);
-    sink.reserve(4)?;
-    let text = write_all(&mut sink, input.bytes.as_slice());
-    let nothing = write_all(&mut sink, b"");
-    assert_eq!(rt;
-        (input.end, text, nothing, sink.bytes()),
-        (ReadEnd::End, Written::All, Written::All, LINE)
-    );
+fn a_text_is_read_whole(rt: HostRuntime) -> Result<(), Fail> {
+    let mut source = SureSource::new(LINE.to_vec(rt.alloc())?);
+    let is_read = reads(rt.alloc(), &mut source, ReadEnd::End, LINE);
+    drop(source);
+    holds(is_read)
+}
+
+/// How a text and nothing are written, and whether the sink holds the text then.
+fn written_once(sink: &mut SureSink, text: &[u8]) -> (Written, Written, bool) {
+    let whole = write_all(sink, text);
+    let nothing = write_all(sink, b"");
+    (whole, nothing, sink.bytes() == text)
+}
+
+#[test]
+fn a_text_is_written_whole(rt: HostRuntime) -> Result<(), Fail> {
+    let mut sink = SureSink::new(rt.alloc());
+    let reserved = sink.reserve(4);
+    let written = written_once(&mut sink, LINE);
+    drop(sink);
+    reserved?;
+    assert_eq!(rt; written, (Written::All, Written::All, true));
     Ok(())
+}
+
+/// A source of 16 bytes a read, whose second read fails, and that behind it too.
+fn faulty(alloc: Global) -> Result<MemorySource, AllocError> {
+    let fails = [2, 2].to_vec(alloc)?;
+    Ok(MemorySource::new(TEXT.to_vec(alloc)?, 16, fails))
+}
+
+/// Whether it is read to its fault, and then to its end.
+fn read_twice(alloc: Global, source: &mut MemorySource) -> Result<(bool, bool), AllocError> {
+    let first = reads(alloc, source, ReadEnd::Failed, b"accepted 1 entry")?;
+    let second = reads(alloc, source, ReadEnd::End, b" 4\naccepted 2 entry 9\n")?;
+    Ok((first, second))
 }
 
 #[test]
 fn a_fault_ends_reading_and_loses_nothing(rt: HostRuntime) -> Result<(), Fail> {
-    let alloc = rt.alloc();
-    let fails = [2, 2].to_vec(alloc)?;
-    let mut source = MemorySource::new(TEXT.to_vec(alloc)?, 16, fails);
-    let first = read_all(alloc, &mut source)?;
-    let second = read_all(alloc, &mut source)?;
-    assert_eq!(rt;
-        (
-            first.end,
-            first.bytes.as_slice(),
-            second.end,
-            second.bytes.as_slice()
-        ),
-        (
-            ReadEnd::Failed,
-            b"accepted 1 entry".as_slice(),
-            ReadEnd::End,
-            b" 4\naccepted 2 entry 9\n".as_slice()
-        )
-    );
+    let mut source = faulty(rt.alloc())?;
+    let read = read_twice(rt.alloc(), &mut source);
+    drop(source);
+    assert_eq!(rt; read?, (true, true));
     Ok(())
+}
+
+/// How a text is written, how much of it the sink holds then, how a byte behind it is written, and whether the sink holds both.
+fn written_twice(sink: &mut MemorySink) -> (Written, usize, Written, bool) {
+    let first = write_all(sink, TEXT);
+    let held = sink.bytes().len();
+    let second = write_all(sink, b"!");
+    let is_held = sink.bytes() == b"accepted 1 entry 4\naccepted 2 en!".as_slice();
+    (first, held, second, is_held)
 }
 
 #[test]
 fn a_fault_ends_writing_at_a_prefix(rt: HostRuntime) -> Result<(), Fail> {
-    let alloc = rt.alloc();
-    let mut sink = MemorySink::new(alloc, 16, [3].to_vec(alloc)?);
-    sink.reserve(100)?;
-    let first = write_all(&mut sink, TEXT);
-    let held = sink.bytes().len();
-    let second = write_all(&mut sink, b"!");
-    assert_eq!(rt;
-        (first, held, second, sink.bytes()),
-        (
-            Written::Failed,
-            32,
-            Written::All,
-            b"accepted 1 entry 4\naccepted 2 en!".as_slice()
-        )
-    );
+    let fails = [3].to_vec(rt.alloc())?;
+    let mut sink = MemorySink::new(rt.alloc(), 16, fails);
+    let reserved = sink.reserve(100);
+    let written = written_twice(&mut sink);
+    drop(sink);
+    reserved?;
+    assert_eq!(rt; written, (Written::Failed, 32, Written::All, true));
     Ok(())
 }
 
@@ -126,11 +151,10 @@ impl Read for NeverReady {
 
 #[test]
 fn a_reader_is_read_to_its_end(rt: HostRuntime) -> Result<(), Fail> {
-    let alloc = rt.alloc();
-    let mut source = StdSource::new(Cursor::new(LINE.to_vec(alloc)?));
-    let input = read_all(alloc, &mut source)?;
-    assert_eq!(rt; (input.end, input.bytes.as_slice()), (ReadEnd::End, LINE));
-    Ok(())
+    let mut source = StdSource::new(Cursor::new(LINE.to_vec(rt.alloc())?));
+    let is_read = reads(rt.alloc(), &mut source, ReadEnd::End, LINE);
+    drop(source);
+    holds(is_read)
 }
 
 #[test]
@@ -140,17 +164,10 @@ fn an_interrupted_read_is_tried_again(rt: HostRuntime) -> Result<(), Fail> {
         good: 3,
         interrupts: false,
     });
-    let three = read_all(alloc, &mut uneven)?;
-    let none = read_all(alloc, &mut StdSource::new(NeverReady))?;
-    assert_eq!(rt;
-        (
-            three.end,
-            three.bytes.as_slice(),
-            none.end,
-            none.bytes.len()
-        ),
-        (ReadEnd::Failed, b"xxx".as_slice(), ReadEnd::Failed, 0)
-    );
+    let three = reads(alloc, &mut uneven, ReadEnd::Failed, b"xxx")?;
+    let mut never = StdSource::new(NeverReady);
+    let none = reads(alloc, &mut never, ReadEnd::Failed, b"")?;
+    assert_eq!(rt; (three, none), (true, true));
     Ok(())
 }
 
@@ -176,22 +193,30 @@ impl Write for Narrow {
 }
 
 #[test]
-fn a_text_is_written_piece_by_piece(rt: HostRuntime) -> Result<(), Fail> {
+fn a_text_is_written_piece_by_piece(rt: HostRuntime) {
     let mut held = Vec::new(rt.alloc());
     let written = write_all(&mut StdSink::new(Cursor::new(&mut held)), LINE);
-    assert_eq!(rt; (written, held.as_slice()), (Written::All, LINE));
-    Ok(())
+    let is_held = held.as_slice() == LINE;
+    drop(held);
+    assert_eq!(rt; (written, is_held), (Written::All, true));
+}
+
+/// How many bytes of a piece a sink takes, whether it can be flushed, and how a text is written to it.
+const NARROW: [(usize, bool, Written); 3] = [
+    (1, true, Written::All),
+    (0, true, Written::Failed),
+    (1, false, Written::Failed),
+];
+
+/// How a text is written to such a sink.
+fn written_narrowly(most: usize, flushes: bool) -> Written {
+    write_all(&mut StdSink::new(Narrow { most, flushes }), b"text")
 }
 
 #[test]
-fn no_byte_taken_and_a_refused_flush_are_faults(rt: HostRuntime) {
-    let cases = [
-        (1, true, Written::All),
-        (0, true, Written::Failed),
-        (1, false, Written::Failed),
-    ];
-    for (most, flushes, want) in cases {
-        let mut sink = StdSink::new(Narrow { most, flushes });
-        assert_eq!(rt; write_all(&mut sink, b"text"), want);
+fn no_byte_taken_and_a_refused_flush_are_faults(_rt: HostRuntime) -> Result<(), Fail> {
+    for (most, flushes, want) in NARROW {
+        holds(Ok(written_narrowly(most, flushes) == want))?;
     }
+    Ok(())
 }

@@ -1,6 +1,7 @@
 //! Small texts are played, and what they come to is compared whole: the data of the pages, and the lines of faults. The whole page is the
 //! stored run of the program.
 
+use crate::outcome::holds;
 use st_io::MAX_BYTES;
 use st_player::{Played, Status, play};
 use std::alloc::{AllocError, Global};
@@ -106,29 +107,38 @@ journal dc1
 const LOST_DATA: &str =
     r#"{"apps":["up"],"groups":[{"devices":[{"name":"t1","tor":1},{"name":"t2","tor":1},{"name":"a1"},{"name":"a2"}],"entries":[{"line":"deliver 1 : begun","network":{"lost":[0]},"on":[2],"set":[{"entity":2,"is":"busy","works":1},{"entity":4,"open":0},{"entity":6,"open":0}]},{"line":"finish a1 : done","on":[2],"set":[{"entity":2,"is":"drained","real":[1,1,1,0],"works":5}]},{"line":"report a1 : reported 1","on":[2]},{"line":"hear 1 : taken","on":[2],"set":[{"entity":2,"fence":3,"known":"settled","seen":[1,1,1,0],"told":7}]},{"line":"fail a2 5 power=1 firmware=1 config=1 routing=1 : changed","network":{"back":[0]},"on":[3],"set":[{"entity":3,"is":"up","works":5},{"entity":5,"open":1},{"entity":7,"open":1}]}],"first":4,"links":[{"capacity":10,"ends":[0,2],"name":"l1"},{"capacity":10,"ends":[0,3],"name":"l2"},{"capacity":10,"ends":[1,2],"name":"l3"},{"capacity":10,"ends":[1,3],"name":"l4"}],"name":"dc1","opening":{"causes":{"failed":[{"entity":3,"entry":1}],"set":[{"app":0,"entity":2,"var":3,"version":1}]},"network":{"lost":[]},"of":[0,0,1,2,3,4,3,4],"pending":0,"states":[{"fence":0,"health":5,"high":null,"is":"up","known":"sure","level":5,"low":null,"real":[1,1,1,1],"seen":[1,1,1,1],"stamp":0,"target":[1,1,1,1],"told":0,"untold":0,"works":5},{"fence":0,"health":5,"high":null,"is":"up","known":"waiting","level":5,"low":null,"real":[1,1,1,1],"seen":[1,1,1,1],"stamp":3,"target":[1,1,1,0],"told":0,"untold":0,"works":5},{"fence":0,"health":5,"high":null,"is":"failed","known":"sure","level":5,"low":null,"real":[1,1,1,1],"seen":[1,1,1,1],"stamp":0,"target":[1,1,1,1],"told":0,"untold":1,"works":0},{"fence":0,"health":1,"high":null,"is":"up","known":"sure","level":1,"low":null,"open":1,"real":[1,1],"seen":[1,1],"stamp":0,"target":[1,1],"told":0,"untold":0,"works":1},{"fence":0,"health":1,"high":null,"is":"up","known":"sure","level":1,"low":null,"open":0,"real":[1,1],"seen":[1,1],"stamp":0,"target":[1,1],"told":0,"untold":0,"works":1}],"sure":{"lost":[]},"version":1},"promises":[{"ends":[0,1],"need":10,"percent":50,"start":1}],"total":9}],"statesman":1}"#;
 
+/// Adds a line to a text.
+fn add_line(text: &mut String, line: Result<String, AllocError>) -> Result<(), AllocError> {
+    text.push_str(line?.as_str())
+}
+
 /// A document of 16 groups of one switch each. The first group's journal has so many reports.
 fn reports(alloc: Global, count: u32) -> Result<String, AllocError> {
     let mut text = format!(in alloc; "statesman 1\n")?;
     for n in 0..16 {
-        let group = format!(in alloc; "group g{n}\ndevice a switch\n")?;
-        text.push_str(group.as_str())?;
+        add_line(
+            &mut text,
+            format!(in alloc; "group g{n}\ndevice a switch\n"),
+        )?;
     }
     text.push_str("journal g0\n")?;
     for n in 0..count {
         let number = n + 1;
-        let line = format!(in alloc; "{number} report a : reported {number}\n")?;
-        text.push_str(line.as_str())?;
+        add_line(
+            &mut text,
+            format!(in alloc; "{number} report a : reported {number}\n"),
+        )?;
     }
     Ok(text)
 }
 
 /// Plays a text that is not too long.
-fn played(alloc: Global, text: &str, from: u32) -> Result<Played, Fail> {
+fn played(alloc: Global, text: &str, from: u32) -> Result<Played, AllocError> {
     let bytes = text.as_bytes();
     if bytes.len() > MAX_BYTES {
-        return Err(Fail::new("too long"));
+        return Err(AllocError);
     }
-    Ok(play(alloc, bytes, from)?)
+    play(alloc, bytes, from)
 }
 
 /// The data of a page: what stands in its element of that kind.
@@ -138,27 +148,28 @@ fn data_of(page: &str) -> Option<&str> {
     Some(data)
 }
 
+/// Whether a page was made, with this data.
+fn is_page(played: &Played, data: &str) -> bool {
+    match str::from_utf8(played.text.bytes()) {
+        Ok(page) => played.status == Status::Ok && data_of(page) == Some(data),
+        Err(_) => false,
+    }
+}
+
 /// Plays a text, which is to come to a page with this data.
 fn shows(alloc: Global, text: &str, from: u32, data: &str) -> Result<(), Fail> {
     let played = played(alloc, text, from)?;
-    let Ok(page) = str::from_utf8(played.text.bytes()) else {
-        return Err(Fail::new("no text"));
-    };
-    if played.status == Status::Ok && data_of(page) == Some(data) {
-        Ok(())
-    } else {
-        Err(Fail::new("another page"))
-    }
+    let is_page = is_page(&played, data);
+    drop(played);
+    holds(Ok(is_page))
 }
 
 /// Plays a text, which is to come to this fault and this line.
 fn fails(alloc: Global, text: &str, status: Status, line: &str) -> Result<(), Fail> {
     let played = played(alloc, text, 0)?;
-    if played.status == status && played.text.bytes() == line.as_bytes() {
-        Ok(())
-    } else {
-        Err(Fail::new("another fault"))
-    }
+    let is_told = played.status == status && played.text.bytes() == line.as_bytes();
+    drop(played);
+    holds(Ok(is_told))
 }
 
 #[test]
@@ -171,19 +182,33 @@ fn an_accepted_check_tells_what_it_alters(rt: HostRuntime) -> Result<(), Fail> {
     shows(rt.alloc(), ALONE, 2, ALONE_DATA)
 }
 
+/// Whether the first group of a page shows entries up to this one, which is not the last of its journal.
+fn shows_up_to(played: &Played, last: &str, rest: &str) -> bool {
+    match str::from_utf8(played.text.bytes()) {
+        Ok(page) => match page.split_once(last) {
+            Some((_, behind)) => behind.split_once(rest).is_some(),
+            None => false,
+        },
+        Err(_) => false,
+    }
+}
+
+/// The same of the page of so many reports.
+fn reports_shown(alloc: Global, count: u32, last: &str, rest: &str) -> Result<bool, AllocError> {
+    let text = reports(alloc, count)?;
+    let played = played(alloc, text.as_str(), 0);
+    drop(text);
+    let played = played?;
+    let shows = shows_up_to(&played, last, rest);
+    drop(played);
+    Ok(shows)
+}
+
 /// Of 16 groups each has 262,144 bytes. An entry whose number has d digits takes 41 + d of them with its comma, so 5,850 take 262,143.
 #[test]
 fn a_group_shows_as_many_entries_as_its_share_has_room_for(rt: HostRuntime) -> Result<(), Fail> {
-    let text = reports(rt.alloc(), 5_860)?;
-    let played = played(rt.alloc(), text.as_str(), 0)?;
-    let Ok(page) = str::from_utf8(played.text.bytes()) else {
-        return Err(Fail::new("no text"));
-    };
     let last = r#"{"line":"report a : reported 5850","on":[0]}],"first":0,"#;
-    match page.split_once(last) {
-        Some((_, rest)) if rest.split_once(r#","total":5860}"#).is_some() => Ok(()),
-        _ => Err(Fail::new("another last entry")),
-    }
+    holds(reports_shown(rt.alloc(), 5_860, last, r#","total":5860}"#))
 }
 
 #[test]

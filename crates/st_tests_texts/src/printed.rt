@@ -2,6 +2,7 @@
 
 ghost use Rattle.std.specs.Prelude.{◌<◌, length};
 
+use crate::outcome::holds;
 use st_doc::{DocRead, print_doc, read_doc};
 use st_text::Text;
 use std::alloc::{AllocError, Global};
@@ -197,34 +198,50 @@ propose dc1 a1.firmware=2
 fn printed(alloc: Global, bytes: &[u8]) -> Result<Text, AllocError>
     requires { length bytes.now < 4294967295 }
 {
-    let mut text = Text::new(alloc);
     match read_doc(alloc, bytes, false)? {
-        DocRead::Doc(doc) => print_doc(&doc, &mut text)?,
-        DocRead::Fault(_) => {}
+        DocRead::Doc(doc) => {
+            let mut text = Text::new(alloc);
+            let printed = print_doc(&doc, &mut text);
+            drop(doc);
+            printed?;
+            Ok(text)
+        }
+        DocRead::Fault(_) => Ok(Text::new(alloc)),
     }
-    Ok(text)
+}
+
+/// Whether the document that these bytes declare is printed so.
+fn is_printed(alloc: Global, bytes: &[u8], want: &[u8]) -> Result<bool, AllocError>
+    requires { length bytes.now < 4294967295 }
+{
+    let text = printed(alloc, bytes)?;
+    let is = text.bytes() == want;
+    drop(text);
+    Ok(is)
 }
 
 #[test]
 fn every_kind_of_line_is_printed_in_order(rt: HostRuntime) -> Result<(), Fail> {
-    let text = printed(rt.alloc(), WRITTEN)?;
-    assert_eq!(rt; text.bytes(), PRINTED);
-    Ok(())
+    holds(is_printed(rt.alloc(), WRITTEN, PRINTED))
 }
 
 #[test]
 fn what_is_printed_is_read_and_printed_again(rt: HostRuntime) -> Result<(), Fail> {
-    let text = printed(rt.alloc(), PRINTED)?;
-    assert_eq!(rt; text.bytes(), PRINTED);
-    Ok(())
+    holds(is_printed(rt.alloc(), PRINTED, PRINTED))
+}
+
+/// Whether these bytes declare the document of the two ToRs. No text here is too long to be read.
+fn is_spelled_so(alloc: Global, bytes: &[u8]) -> Result<bool, AllocError> {
+    if bytes.len() >= 4294967295 {
+        return Err(AllocError);
+    }
+    is_printed(alloc, bytes, JOINED)
 }
 
 #[test]
 fn other_spellings_are_read_as_the_same_document(rt: HostRuntime) -> Result<(), Fail> {
     for bytes in SPELLINGS {
-        assert!(&rt; bytes.len() < 4294967295);
-        let text = printed(rt.alloc(), bytes)?;
-        assert_eq!(&rt; text.bytes(), JOINED);
+        holds(is_spelled_so(rt.alloc(), bytes))?;
     }
     Ok(())
 }

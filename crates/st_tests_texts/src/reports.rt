@@ -1,6 +1,7 @@
 //! What a report says of what is not there. Whole reports are tested where documents are read: in `st_top`, and as stored runs of the
 //! program.
 
+use crate::outcome::holds;
 use st_event::{Log, LogEntry, LogSaw};
 use st_net::{AppId, Entity, Items, Name, Var};
 use st_report::report_text;
@@ -18,7 +19,7 @@ fn seen(group: u32, entity: Entity, var: Var, saw: LogSaw) -> LogEntry {
     }
 }
 
-fn log(alloc: Global, app: AppId, entries: &[LogEntry]) -> Result<Log, Fail> {
+fn log(alloc: Global, app: AppId, entries: &[LogEntry]) -> Result<Log, AllocError> {
     let mut lines = Items::none(alloc);
     for entry in entries {
         lines.add(*entry)?;
@@ -27,15 +28,6 @@ fn log(alloc: Global, app: AppId, entries: &[LogEntry]) -> Result<Log, Fail> {
         app,
         entries: lines,
     })
-}
-
-/// A text is to be this one.
-fn is(text: &Text, bytes: &str) -> Result<(), Fail> {
-    if text.bytes() == bytes.as_bytes() {
-        Ok(())
-    } else {
-        Err(Fail::new("another text"))
-    }
 }
 
 /// The report as a text.
@@ -50,22 +42,27 @@ fn printed(
     Ok(out)
 }
 
+/// Whether a report on these logs is this text.
+fn is_printed(alloc: Global, logs: &[Log], text: &[u8]) -> Result<bool, AllocError> {
+    let out = printed(alloc, &[], &[], logs)?;
+    let is = out.bytes() == text;
+    drop(out);
+    Ok(is)
+}
+
 /// An entry of a log on a group that there is not: no bytes stand for its names.
 #[test]
 fn what_is_not_there_has_no_bytes(rt: HostRuntime) -> Result<(), Fail> {
-    let alloc = rt.alloc();
     let latest = LogSaw::Seen {
         version: 0,
         value: 1,
     };
-    let entries = [seen(7, Entity::Device(2), Var::Power, latest)];
-    let mut logs = Vec::new(alloc);
-    logs.push(log(alloc, AppId(1), entries.as_slice())?)?;
-    let out = printed(alloc, &[], &[], logs.as_slice())?;
-    let text = "\
+    let entry = seen(7, Entity::Device(2), Var::Power, latest);
+    let log = log(rt.alloc(), AppId(1), &[entry])?;
+    let text = b"\
 statesman report 1
 read   .power version 0 value 1
 end
 ";
-    is(&out, text)
+    holds(is_printed(rt.alloc(), &[log], text))
 }

@@ -1,11 +1,13 @@
 //! Runs whose journals get full while others work.
 
 use super::gates::{Behind, BehindReads};
-use super::{Called, HALF, TWO_PATHS, call_at};
+use super::{Called, HALF, TWO_PATHS, call_at, kept};
+use st_crew::Gate;
 use st_top::{Outcome, Status};
 use std::alloc::{AllocError, Global};
-use std::process::Abort;
+use std::sync::Wait;
 use std::test::Fail;
+use std::thread::Threads;
 
 /// An application whose switch fails before anything was sent to it, so that it can't settle.
 pub const FAILING: &[u8] = b"\
@@ -42,21 +44,25 @@ fn counts_of(alloc: Global, outcome: &Outcome) -> Result<Vec<usize>, AllocError>
     Ok(counts)
 }
 
-/// What a run is to end with whose first group's journal gets full, in counts of its journals and its logs.
-fn is_full(
-    rt: &impl Abort,
-    alloc: Global,
-    called: Called,
-    counts: &[usize],
-) -> Result<(), AllocError> {
+/// Whether a run ended as one whose first group's journal is full, with these counts of its journals and its logs.
+fn ended_full(alloc: Global, called: Called, counts: &[usize]) -> Result<bool, AllocError> {
     let found = counts_of(alloc, &called.outcome);
     let told = called.into_told();
-    let status = Status::JournalFull { group: 0 };
-    assert_eq!(rt;
-        (told.status, told.text.as_slice(), found?.as_slice()),
-        (status, b"fault full dc1\n".as_slice(), counts)
-    );
-    Ok(())
+    let is_told = told.is(Status::JournalFull { group: 0 }, b"fault full dc1\n");
+    drop(told);
+    Ok(is_told && found?.as_slice() == counts)
+}
+
+/// The same of a document of these parts that is run.
+fn runs_full<R: Threads + Wait + Sync, G: Gate + Sync>(
+    rt: &R,
+    alloc: Global,
+    parts: &[&[u8]],
+    gate: &G,
+    counts: &[usize],
+) -> Result<bool, AllocError> {
+    let called = call_at(rt, alloc, &["run"], parts, gate)?;
+    ended_full(alloc, called, counts)
 }
 
 /// A second group.
@@ -84,20 +90,26 @@ poll dc1 a1
 read dc1 a1.firmware
 ";
 
+/// What the second application does behind the full journal.
+const LAST: &[u8] = b"read dc2 a1.config\n";
+
 #[test]
 fn a_full_journal_stops_who_meets_it_alone(rt: HostRuntime) -> Result<(), Fail> {
     let alloc = rt.alloc();
     let scripts = filling(alloc, FAILING_BESIDE)?;
-    let last = b"read dc2 a1.config\n";
-    let parts = [TWO_PATHS, HALF, SMALLER, scripts.as_slice(), last];
     // The updater and the monitor come behind the failure.
     let gate = Behind::halves(1);
-    let called = call_at(&rt, alloc, &["run"], &parts, &gate)?;
-    assert!(&rt; gate.was_kept());
     // The other application did all of its commands, and nothing is left pending in the other group. The one that met the full journal did
     // nothing behind it.
-    is_full(&rt, alloc, called, &[200_000, 4, 1, 1])?;
-    Ok(())
+    let is_full = runs_full(
+        &rt,
+        alloc,
+        &[TWO_PATHS, HALF, SMALLER, scripts.as_slice(), LAST],
+        &gate,
+        &[200_000, 4, 1, 1],
+    );
+    drop(scripts);
+    kept(gate.was_kept(), is_full)
 }
 
 /// The two paths once more, as a second group.
@@ -138,16 +150,21 @@ fn the_lowest_of_two_full_groups_is_named(rt: HostRuntime) -> Result<(), Fail> {
     let alloc = rt.alloc();
     let second = filling_by(alloc, FAILING_SECOND, b"settle dc2 64\n")?;
     let first = filling(alloc, FAILING_FIRST)?;
-    let parts = [
-        TWO_PATHS,
-        TWO_MORE_PATHS,
-        second.as_slice(),
-        first.as_slice(),
-    ];
     // The updaters and the monitors come behind both failures.
     let gate = BehindReads::of(2);
-    let called = call_at(&rt, alloc, &["run"], &parts, &gate)?;
-    assert!(&rt; gate.was_kept());
-    is_full(&rt, alloc, called, &[200_000, 200_000, 1, 1])?;
-    Ok(())
+    let is_full = runs_full(
+        &rt,
+        alloc,
+        &[
+            TWO_PATHS,
+            TWO_MORE_PATHS,
+            second.as_slice(),
+            first.as_slice(),
+        ],
+        &gate,
+        &[200_000, 200_000, 1, 1],
+    );
+    drop(second);
+    drop(first);
+    kept(gate.was_kept(), is_full)
 }

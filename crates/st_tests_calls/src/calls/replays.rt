@@ -2,9 +2,12 @@
 
 ghost use Rattle.std.specs.Prelude.{◌<◌, length};
 
-use super::{Called, call, entry_count, joined, tell};
+use super::{Called, call, entry_count, holds, joined, tell, tells};
 use st_top::Status;
+use std::alloc::{AllocError, Global};
+use std::sync::Wait;
 use std::test::Fail;
+use std::thread::Threads;
 
 /// The document of the two paths with two proposals, as it is printed.
 pub const PRINTED: &str = "\
@@ -60,16 +63,42 @@ fn is_beginning(called: &Called, text: &[u8], bytes: usize) -> bool
     }
 }
 
+/// Whether the call on these first bytes ends so.
+fn ends_at<R: Threads + Wait + Sync>(
+    rt: &R,
+    alloc: Global,
+    text: &[u8],
+    bytes: usize,
+) -> Result<bool, AllocError>
+    requires { bytes < length text.now }
+{
+    let called = call(rt, alloc, &["replay"], &[&text[..bytes]])?;
+    let is_beginning = is_beginning(&called, text, bytes);
+    drop(called);
+    Ok(is_beginning)
+}
+
+/// The first number of bytes on which it does not.
+fn first_wrong<R: Threads + Wait + Sync>(
+    rt: &R,
+    alloc: Global,
+    text: &[u8],
+) -> Result<Option<usize>, AllocError> {
+    for n in 0..text.len() {
+        if !ends_at(rt, alloc, text, n)? {
+            return Ok(Some(n));
+        }
+    }
+    Ok(None)
+}
+
 #[test]
 fn every_beginning_of_a_printed_run_is_replayed_or_refused(rt: HostRuntime) -> Result<(), Fail> {
     let alloc = rt.alloc();
     let text = joined(alloc, &[PRINTED.as_bytes(), JOURNAL.as_bytes()])?;
-    let text = text.as_slice();
-    for n in 0..text.len() {
-        let called = call(&rt, alloc, &["replay"], &[&text[..n]])?;
-        assert!(&rt; is_beginning(&called, text, n), "{n}");
-        drop(called);
-    }
+    let wrong = first_wrong(&rt, alloc, text.as_slice());
+    drop(text);
+    assert_eq!(&rt; wrong?, None);
     Ok(())
 }
 
@@ -98,21 +127,64 @@ promises 28 start 28 now 28
 
 const COUNTED: &[u8] = b"ok groups 1 devices 20 links 32 promises 28 apps 2 commands 11\n";
 
+/// The rest of the report of the run, and of what is replayed, which has nothing of what was read.
+const READ: &[u8] = b"read te dc1 p0a0.firmware version 1 value 2\nend\n";
+
+const END: &[u8] = b"end\n";
+
+/// Whether a text is the report with this rest.
+fn is_report(text: &[u8], rest: &[u8]) -> bool {
+    text.len() == OF_A_FAT_TREE.len().saturating_add(rest.len())
+        && text.starts_with(OF_A_FAT_TREE)
+        && text.ends_with(rest)
+}
+
+/// What one call wrote on what another one wrote.
+fn text_of<R: Threads + Wait + Sync>(
+    rt: &R,
+    alloc: Global,
+    words: &[&str],
+    input: &[u8],
+) -> Result<Vec<u8>, AllocError> {
+    Ok(tell(rt, alloc, words, &[input])?.text)
+}
+
+/// Whether a generated document is counted so, and whether its run has this report.
+fn counted_and_run<R: Threads + Wait + Sync>(
+    rt: &R,
+    alloc: Global,
+    made: &[u8],
+) -> Result<(bool, bool), AllocError> {
+    let counted = tells(tell(rt, alloc, &["check"], &[made]), Status::Ok, COUNTED)?;
+    let run = text_of(rt, alloc, &["serial"], made)?;
+    Ok((counted, is_report(run.as_slice(), READ)))
+}
+
+/// Whether its printed run is replayed to this report.
+fn printed_and_replayed<R: Threads + Wait + Sync>(
+    rt: &R,
+    alloc: Global,
+    made: &[u8],
+) -> Result<bool, AllocError> {
+    let printed = text_of(rt, alloc, &["serial", "--form=replay"], made)?;
+    let again = text_of(rt, alloc, &["replay"], printed.as_slice());
+    drop(printed);
+    Ok(is_report(again?.as_slice(), END))
+}
+
 #[test]
-fn a_generated_document_is_counted_run_and_replayed(rt: HostRuntime) -> Result<(), Fail> {
-    let alloc = rt.alloc();
-    let made = tell(&rt, alloc, &["gen", "--seed", "0"], &[])?.text;
-    let made = [made.as_slice()];
-    let counted = tell(&rt, alloc, &["check"], &made)?.text;
-    let run = tell(&rt, alloc, &["serial"], &made)?.text;
-    let printed = tell(&rt, alloc, &["serial", "--form=replay"], &made)?.text;
-    let again = tell(&rt, alloc, &["replay"], &[printed.as_slice()])?.text;
-    let read = b"read te dc1 p0a0.firmware version 1 value 2\n";
-    let whole = joined(alloc, &[OF_A_FAT_TREE, read, b"end\n"])?;
-    let rest = joined(alloc, &[OF_A_FAT_TREE, b"end\n"])?;
-    assert_eq!(&rt;
-        (counted.as_slice(), run.as_slice(), again.as_slice()),
-        (COUNTED, whole.as_slice(), rest.as_slice())
-    );
+fn a_generated_document_is_counted_and_run(rt: HostRuntime) -> Result<(), Fail> {
+    let made = text_of(&rt, rt.alloc(), &["gen", "--seed", "0"], b"")?;
+    let told = counted_and_run(&rt, rt.alloc(), made.as_slice());
+    drop(made);
+    assert_eq!(&rt; told?, (true, true));
     Ok(())
+}
+
+#[test]
+fn the_run_of_a_generated_document_is_printed_and_replayed(rt: HostRuntime) -> Result<(), Fail> {
+    let made = text_of(&rt, rt.alloc(), &["gen", "--seed", "0"], b"")?;
+    let is_replayed = printed_and_replayed(&rt, rt.alloc(), made.as_slice());
+    drop(made);
+    holds(is_replayed)
 }

@@ -50,29 +50,47 @@ fn is_alone(found: &Reached) -> bool {
     }
 }
 
+/// How many links the walk to a device has, if there is one, and whether the first ToR reaches itself alone.
+fn walk(
+    alloc: Global,
+    topo: &GroupTopo,
+    down: &[u32],
+    to: u32,
+) -> Result<(Option<usize>, bool), Fail> {
+    let found = reached(alloc, topo, down, to)?;
+    let told = (link_count(&found), is_alone(&found));
+    drop(found);
+    Ok(told)
+}
+
+/// The same in the group of the two paths.
+fn walked(alloc: Global, down: &[u32], to: u32) -> Result<(Option<usize>, bool), Fail> {
+    let topo = group(alloc, TWO_PATH)?;
+    let told = walk(alloc, &topo, down, to);
+    drop(topo);
+    told
+}
+
+/// The devices that are down, a device, and how many links the walk to it has.
+const WALKS: [(&[u32], u32, usize); 5] = [
+    (&[], 1, 2),
+    (&[2], 1, 2),
+    (&[3], 1, 2),
+    (&[], 3, 1),
+    (&[], 0, 0),
+];
+
 #[test]
 fn a_walk_goes_by_either_switch(rt: HostRuntime) -> Result<(), Fail> {
-    let alloc = rt.alloc();
-    let topo = group(alloc, TWO_PATH)?;
-    for (down, to, links) in [
-        ([].as_slice(), 1, 2),
-        ([2].as_slice(), 1, 2),
-        ([3].as_slice(), 1, 2),
-        ([].as_slice(), 3, 1),
-        ([].as_slice(), 0, 0),
-    ] {
-        let found = reached(alloc, &topo, down, to)?;
-        assert_eq!(rt; link_count(&found), Some(links), "{to}");
+    for (down, to, links) in WALKS {
+        assert_eq!(rt; walked(rt.alloc(), down, to)?, (Some(links), false), "{to}");
     }
     Ok(())
 }
 
 #[test]
 fn without_both_switches_a_rack_stands_alone(rt: HostRuntime) -> Result<(), Fail> {
-    let alloc = rt.alloc();
-    let topo = group(alloc, TWO_PATH)?;
-    let found = reached(alloc, &topo, [2, 3].as_slice(), 1)?;
-    assert!(rt; is_alone(&found));
+    assert_eq!(rt; walked(rt.alloc(), &[2, 3], 1)?, (None, true));
     Ok(())
 }
 
@@ -110,8 +128,9 @@ fn held(alloc: Global, topo: &GroupTopo) -> Result<[bool; 3], Fail> {
 
 #[test]
 fn half_the_capacity_holds_while_a_switch_is_up(rt: HostRuntime) -> Result<(), Fail> {
-    let alloc = rt.alloc();
-    let topo = group(alloc, TWO_PATH)?;
-    assert_eq!(rt; held(alloc, &topo)?, [true, false, true]);
+    let topo = group(rt.alloc(), TWO_PATH)?;
+    let held = held(rt.alloc(), &topo);
+    drop(topo);
+    assert_eq!(rt; held?, [true, false, true]);
     Ok(())
 }

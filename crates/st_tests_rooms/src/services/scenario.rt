@@ -3,6 +3,10 @@
 use super::gate::{HeldJudge, Meeting};
 use super::jobs::{Played, Script};
 use super::stage::{Stage, has_latest};
+use Asks::{Await, Fail as Fails, Lock, Poll, Propose, Read, ReadAt, Settle, Unlock};
+use Deed::{
+    DecidesFirst, Does, FindsFull, FindsNone, HasLatest, HasReadTwo, Monitor, Round, Update,
+};
 use st_crew::{Gate, NoGate, crew_run};
 use st_event::{Act, LogSaw, Rows, Verdict};
 use st_net::{Entity, Prio, Row, Var};
@@ -24,27 +28,115 @@ pub enum Scenario {
     /// Each application reads, and waits until all have read.
     AllRead,
     /// What one thread does, a pass behind another.
-    InTurn(InTurn),
+    InTurn(&'static [Turn]),
 }
 
-/// What one thread plays.
+/// A pass, by its number, and what is done with it.
+pub type Turn = (usize, Deed);
+
+/// What one thread does with a pass, and what is to come of it.
 #[derive(Clone, Copy)]
-pub enum InTurn {
-    /// One application proposes and awaits; the other settles, and reads.
-    SettleAfterAwait,
-    /// A worker does a round.
-    WorkerRound,
-    /// One worker updates, and another monitors.
-    WorkerHalves,
-    /// A worker checks off the lock, twice; then one updates, and another monitors.
-    WorkerCalls,
-    /// A worker checks off the lock, and the application settles.
-    SettleAfterCheck,
-    /// An application does an act of each other kind.
-    EachAct,
-    /// An application settles a switch that stays down, until the journal is full.
-    FullJournal,
+pub enum Deed {
+    /// An application does an act to its end.
+    Does(Asks),
+    /// An application finds the journal full.
+    FindsFull(Asks),
+    /// A worker does a round, which leaves so many entities unsettled.
+    Round(u32),
+    /// A worker does the half of a round that updates, behind which so many are unsettled.
+    Update(u32),
+    /// A worker does the half that monitors, which leaves so many unsettled.
+    Monitor(u32),
+    /// A worker checks off the lock, and so decides ticket 1 by entry 2, which accepts it as version 1.
+    DecidesFirst,
+    /// A worker checks off the lock, and nothing waits.
+    FindsNone,
+    /// This is the ticket of the application's last proposal.
+    HasLatest(Option<u32>),
+    /// The application has logged one line, of value 2 at version 1.
+    HasReadTwo,
 }
+
+/// An act on the one group, and on its first switch.
+#[derive(Clone, Copy)]
+pub enum Asks {
+    /// To propose another firmware.
+    Propose,
+    Await,
+    /// To settle with so many rounds at the most.
+    Settle(u32),
+    Lock,
+    Unlock,
+    Read,
+    /// To read at a version.
+    ReadAt(u32),
+    /// That the switch comes to have this health, of itself.
+    Fail(u32),
+    Poll,
+}
+
+/// One application proposes and awaits; the other settles, and reads.
+pub const SETTLE_AFTER_AWAIT: &[Turn] = &[
+    (0, Does(Propose)),
+    (0, Does(Await)),
+    (0, HasLatest(Some(1))),
+    (1, Does(Settle(2))),
+    (1, Does(Read)),
+    (1, HasLatest(None)),
+];
+
+/// A worker does a round.
+pub const WORKER_ROUND: &[Turn] = &[(0, Does(Propose)), (0, Does(Await)), (1, Round(0))];
+
+/// One worker updates, which sends, and another monitors, which settles all.
+pub const WORKER_HALVES: &[Turn] = &[
+    (0, Does(Propose)),
+    (0, Does(Await)),
+    (1, Update(1)),
+    (2, Monitor(0)),
+    (0, Does(ReadAt(1))),
+];
+
+/// A worker checks off the lock, twice; then one updates, and another monitors.
+pub const WORKER_CALLS: &[Turn] = &[
+    (0, Does(Propose)),
+    (1, DecidesFirst),
+    (1, FindsNone),
+    (2, Update(1)),
+    (3, Monitor(0)),
+    (0, Does(ReadAt(1))),
+    (0, HasReadTwo),
+];
+
+/// A worker checks off the lock, and the application settles.
+pub const SETTLE_AFTER_CHECK: &[Turn] = &[
+    (0, Does(Propose)),
+    (1, DecidesFirst),
+    (0, Does(Settle(1))),
+];
+
+/// An application does an act of each other kind.
+pub const EACH_ACT: &[Turn] = &[
+    (0, Does(Lock)),
+    (0, Does(Unlock)),
+    (0, Does(Fails(4))),
+    (0, Does(Poll)),
+    (0, Does(Await)),
+    (0, Does(ReadAt(9))),
+    (0, Does(Read)),
+];
+
+/// An application settles a switch that fails at its target, and so is sent to in each round and settled in none, until the journal is full.
+/// A read needs no room in the journal.
+pub const FULL_JOURNAL: &[Turn] = &[
+    (0, Does(Propose)),
+    (0, Does(Await)),
+    (0, Does(Fails(0))),
+    (0, Does(Poll)),
+    (0, FindsFull(Settle(200_000))),
+    (0, Does(Read)),
+    (0, FindsFull(Poll)),
+];
 
 const A1: Entity = Entity::Device(2);
 
@@ -56,7 +148,8 @@ const READ: Act = Act::Read {
     var: Var::Firmware,
 };
 
-fn propose(alloc: Global, entity: Entity) -> Result<Act, Fail> {
+/// A proposal of another firmware.
+fn propose(alloc: Global, entity: Entity) -> Result<Act, AllocError> {
     let mut rows = Vec::new(alloc);
     rows.push(Row {
         entity,
@@ -83,23 +176,37 @@ fn has_read_two<J: Naming, L: Ledger>(pass: &Pass<J, L>) -> bool {
 
 const AWAIT: Act = Act::Await { group: 0 };
 
-const SETTLE: Act = Act::Settle {
-    group: 0,
-    rounds: 2,
-};
-
-const POLL: Act = Act::Poll {
-    group: 0,
-    entity: A1,
-};
-
-/// The first switch comes to have this health, of itself.
-fn fail(alloc: Global, health: u32) -> Act {
-    Act::Fail {
-        group: 0,
-        entity: A1,
-        health,
-        rows: Rows::new(Vec::new(alloc)),
+/// The act that is asked for.
+fn act_of(alloc: Global, asks: Asks) -> Result<Act, AllocError> {
+    let (group, entity, prio, var) = (0, A1, Prio::Low, Var::Firmware);
+    match asks {
+        Propose => propose(alloc, entity),
+        Await => Ok(AWAIT),
+        Settle(rounds) => Ok(Act::Settle { group, rounds }),
+        Lock => Ok(Act::Lock {
+            group,
+            entity,
+            prio,
+        }),
+        Unlock => Ok(Act::Unlock {
+            group,
+            entity,
+            prio,
+        }),
+        Read => Ok(READ),
+        ReadAt(version) => Ok(Act::ReadAt {
+            group,
+            version,
+            entity,
+            var,
+        }),
+        Fails(health) => Ok(Act::Fail {
+            group,
+            entity,
+            health,
+            rows: Rows::new(Vec::new(alloc)),
+        }),
+        Poll => Ok(Act::Poll { group, entity }),
     }
 }
 
@@ -127,28 +234,128 @@ pub fn play<
         Scenario::TwoPropose => two_propose(rt, stage, passes),
         Scenario::JudgedAway => judged_away(rt, stage, passes),
         Scenario::AllRead => all_read(rt, stage, passes),
-        Scenario::InTurn(scenario) => {
-            let mut passes = passes;
-            play_in_turn(rt, stage, &mut passes, scenario)?;
-            Ok(passes)
-        }
+        Scenario::InTurn(turns) => played_in_turn(rt, stage, passes, turns),
     }
 }
 
-fn play_in_turn<J: Naming, L: Ledger, H: Wait + Drop, R: Threads + Wait + Sync>(
+/// Does an act for an application.
+fn acted<J: Naming, L: Ledger, H: Wait + Drop, R: Threads + Wait + Sync>(
+    rt: &R,
+    stage: &Stage<'_, J, L, H>,
+    app: &mut Pass<J, L>,
+    asks: Asks,
+) -> Result<Acted, AllocError> {
+    let act = act_of(stage.alloc, asks)?;
+    let acted = stage.act(rt, app, &act, &NoGate);
+    drop(act);
+    acted
+}
+
+/// What a check off the lock came to.
+#[derive(Clone, Copy, PartialEq, Eq)]
+enum Found {
+    /// It decided ticket 1 by entry 2, which accepted it as version 1.
+    First,
+    None,
+    Other,
+}
+
+fn found_by(checked: &OffLock) -> Found {
+    match checked {
+        OffLock::Decided(receipt) => {
+            let first = matches!(receipt.verdict, Verdict::Accepted { version: 1 });
+            if receipt.ticket == 1 && receipt.entry == 2 && first {
+                Found::First
+            } else {
+                Found::Other
+            }
+        }
+        OffLock::Idle => Found::None,
+        OffLock::Gone { .. } | OffLock::JournalFull { .. } => Found::Other,
+    }
+}
+
+/// Lets a worker check off the lock.
+fn checked<J: Naming, L: Ledger, H: Wait + Drop, R: Threads + Wait + Sync>(
+    rt: &R,
+    stage: &Stage<'_, J, L, H>,
+    checker: &mut Pass<J, L>,
+) -> Result<Found, AllocError> {
+    let checked = stage.check(rt, checker, &NoGate)?;
+    let found = found_by(&checked);
+    drop(checked);
+    Ok(found)
+}
+
+/// Lets a worker do a round, or a half of one, and says whether it leaves so many entities unsettled.
+fn leaves(rounded: Result<Rounded, AllocError>, unsettled: u32) -> Result<bool, AllocError> {
+    Ok(rounded? == Rounded::Did { unsettled })
+}
+
+/// Does with a pass what is to be done, and says whether what is to come of it came.
+fn comes<J: Naming, L: Ledger, H: Wait + Drop, R: Threads + Wait + Sync>(
+    rt: &R,
+    stage: &Stage<'_, J, L, H>,
+    pass: &mut Pass<J, L>,
+    deed: Deed,
+) -> Result<bool, AllocError> {
+    match deed {
+        Does(asks) => Ok(acted(rt, stage, pass, asks)? == Acted::Done),
+        FindsFull(asks) => Ok(acted(rt, stage, pass, asks)? == Acted::JournalFull { group: 0 }),
+        Round(unsettled) => leaves(stage.round(rt, pass), unsettled),
+        Update(unsettled) => leaves(stage.update(rt, pass), unsettled),
+        Monitor(unsettled) => leaves(stage.monitor(rt, pass), unsettled),
+        DecidesFirst => Ok(checked(rt, stage, pass)? == Found::First),
+        FindsNone => Ok(checked(rt, stage, pass)? == Found::None),
+        HasLatest(ticket) => Ok(has_latest(pass, ticket)),
+        HasReadTwo => Ok(has_read_two(pass)),
+    }
+}
+
+/// Does one deed behind another, until something else comes of one. Says how many came to what they are to come to.
+fn turns_kept<J: Naming, L: Ledger, H: Wait + Drop, R: Threads + Wait + Sync>(
     rt: &R,
     stage: &Stage<'_, J, L, H>,
     passes: &mut [Pass<J, L>],
-    scenario: InTurn,
-) -> Result<(), Fail> {
-    match scenario {
-        InTurn::SettleAfterAwait => settle_after_await(rt, stage, passes),
-        InTurn::WorkerRound => worker_round(rt, stage, passes),
-        InTurn::WorkerHalves => worker_halves(rt, stage, passes),
-        InTurn::WorkerCalls => worker_calls(rt, stage, passes),
-        InTurn::SettleAfterCheck => settle_after_check(rt, stage, passes),
-        InTurn::EachAct => each_act(rt, stage, passes),
-        InTurn::FullJournal => full_journal(rt, stage, passes),
+    turns: &[Turn],
+) -> Result<usize, AllocError> {
+    for n in 0..turns.len() {
+        let (number, deed) = turns[n];
+        match passes.get_mut(number) {
+            Some(pass) => {
+                if !comes(rt, stage, pass, deed)? {
+                    return Ok(n);
+                }
+            }
+            None => return Ok(n),
+        }
+    }
+    Ok(turns.len())
+}
+
+fn played_in_turn<J: Naming, L: Ledger, H: Wait + Drop, R: Threads + Wait + Sync>(
+    rt: &R,
+    stage: &Stage<'_, J, L, H>,
+    passes: Vec<Pass<J, L>>,
+    turns: &[Turn],
+) -> Result<Vec<Pass<J, L>>, Fail> {
+    let mut passes = passes;
+    let kept = turns_kept(rt, stage, passes.as_mut_slice(), turns);
+    kept_passes(passes, kept, turns.len())
+}
+
+/// These values, where as many turns were kept as there are.
+fn kept_passes<T: Drop>(
+    values: Vec<T>,
+    kept: Result<usize, AllocError>,
+    all: usize,
+) -> Result<Vec<T>, Fail> {
+    match kept {
+        Ok(count) if count == all => Ok(values),
+        _ => {
+            drop(values);
+            Err(Fail::new("another turn, or no memory"))
+        }
     }
 }
 
@@ -163,17 +370,6 @@ fn passes_of<J: Naming, L: Ledger>(
         passes.push(end.pass)?;
     }
     Ok(passes)
-}
-
-/// The pass of this number.
-fn pass_at<J: Naming, L: Ledger>(
-    passes: &mut [Pass<J, L>],
-    number: usize,
-) -> Result<&mut Pass<J, L>, Fail> {
-    match passes.get_mut(number) {
-        Some(pass) => Ok(pass),
-        None => Err(Fail::new("no such pass")),
-    }
 }
 
 /// The ends of as many threads as there are passes, of which the first does the first acts, and each other one the others.
@@ -243,185 +439,4 @@ fn all_read<
     let ends = all_do(rt, &*stage, passes, &[READ], &[READ], &gate)?;
     expect(gate.was_kept())?;
     passes_of(stage.alloc, ends)
-}
-
-/// Does an act to its end.
-fn do_one<J: Naming, L: Ledger, H: Wait + Drop, R: Threads + Wait + Sync>(
-    rt: &R,
-    stage: &Stage<'_, J, L, H>,
-    app: &mut Pass<J, L>,
-    act: Act,
-) -> Result<(), Fail> {
-    let acted = stage.act(rt, app, &act, &NoGate);
-    drop(act);
-    expect(acted? == Acted::Done)
-}
-
-fn settle_after_await<J: Naming, L: Ledger, H: Wait + Drop, R: Threads + Wait + Sync>(
-    rt: &R,
-    stage: &Stage<'_, J, L, H>,
-    passes: &mut [Pass<J, L>],
-) -> Result<(), Fail> {
-    let app = pass_at(passes, 0)?;
-    do_one(rt, stage, app, propose(stage.alloc, A1)?)?;
-    do_one(rt, stage, app, AWAIT)?;
-    expect(has_latest(app, Some(1)))?;
-    let app = pass_at(passes, 1)?;
-    do_one(rt, stage, app, SETTLE)?;
-    do_one(rt, stage, app, READ)?;
-    expect(has_latest(app, None))
-}
-
-fn worker_round<J: Naming, L: Ledger, H: Wait + Drop, R: Threads + Wait + Sync>(
-    rt: &R,
-    stage: &Stage<'_, J, L, H>,
-    passes: &mut [Pass<J, L>],
-) -> Result<(), Fail> {
-    let app = pass_at(passes, 0)?;
-    do_one(rt, stage, app, propose(stage.alloc, A1)?)?;
-    do_one(rt, stage, app, AWAIT)?;
-    let round = stage.round(rt, pass_at(passes, 1)?)?;
-    expect(round == Rounded::Did { unsettled: 0 })
-}
-
-/// Lets one worker update, which sends, and another monitor, which settles all.
-fn both_halves<J: Naming, L: Ledger, H: Wait + Drop, R: Threads + Wait + Sync>(
-    rt: &R,
-    stage: &Stage<'_, J, L, H>,
-    passes: &mut [Pass<J, L>],
-    updater: usize,
-    monitor: usize,
-) -> Result<(), Fail> {
-    let updated = stage.update(rt, pass_at(passes, updater)?)?;
-    expect(updated == Rounded::Did { unsettled: 1 })?;
-    let monitored = stage.monitor(rt, pass_at(passes, monitor)?)?;
-    expect(monitored == Rounded::Did { unsettled: 0 })
-}
-
-fn worker_halves<J: Naming, L: Ledger, H: Wait + Drop, R: Threads + Wait + Sync>(
-    rt: &R,
-    stage: &Stage<'_, J, L, H>,
-    passes: &mut [Pass<J, L>],
-) -> Result<(), Fail> {
-    let app = pass_at(passes, 0)?;
-    do_one(rt, stage, app, propose(stage.alloc, A1)?)?;
-    do_one(rt, stage, app, AWAIT)?;
-    both_halves(rt, stage, passes, 1, 2)?;
-    do_one(rt, stage, pass_at(passes, 0)?, READ_FIRST)
-}
-
-/// Whether a check decided ticket 1 by entry 2, which accepted it as version 1.
-fn has_decided_first(checked: &OffLock) -> bool {
-    match checked {
-        OffLock::Decided(receipt) => {
-            let first = matches!(receipt.verdict, Verdict::Accepted { version: 1 });
-            receipt.ticket == 1 && receipt.entry == 2 && first
-        }
-        OffLock::Gone { .. } | OffLock::Idle | OffLock::JournalFull { .. } => false,
-    }
-}
-
-/// Lets a worker check off the lock, and says whether it decided the first ticket so.
-fn decides_first<J: Naming, L: Ledger, H: Wait + Drop, R: Threads + Wait + Sync>(
-    rt: &R,
-    stage: &Stage<'_, J, L, H>,
-    checker: &mut Pass<J, L>,
-) -> Result<bool, Fail> {
-    let checked = stage.check(rt, checker, &NoGate)?;
-    let is_first = has_decided_first(&checked);
-    drop(checked);
-    Ok(is_first)
-}
-
-const READ_FIRST: Act = Act::ReadAt {
-    group: 0,
-    version: 1,
-    entity: A1,
-    var: Var::Firmware,
-};
-
-fn worker_calls<J: Naming, L: Ledger, H: Wait + Drop, R: Threads + Wait + Sync>(
-    rt: &R,
-    stage: &Stage<'_, J, L, H>,
-    passes: &mut [Pass<J, L>],
-) -> Result<(), Fail> {
-    do_one(rt, stage, pass_at(passes, 0)?, propose(stage.alloc, A1)?)?;
-    let checker = pass_at(passes, 1)?;
-    expect(decides_first(rt, stage, checker)?)?;
-    let again = stage.check(rt, checker, &NoGate)?;
-    let is_idle = matches!(again, OffLock::Idle);
-    drop(again);
-    expect(is_idle)?;
-    both_halves(rt, stage, passes, 2, 3)?;
-    let app = pass_at(passes, 0)?;
-    do_one(rt, stage, app, READ_FIRST)?;
-    expect(has_read_two(app))
-}
-
-fn settle_after_check<J: Naming, L: Ledger, H: Wait + Drop, R: Threads + Wait + Sync>(
-    rt: &R,
-    stage: &Stage<'_, J, L, H>,
-    passes: &mut [Pass<J, L>],
-) -> Result<(), Fail> {
-    do_one(rt, stage, pass_at(passes, 0)?, propose(stage.alloc, A1)?)?;
-    expect(decides_first(rt, stage, pass_at(passes, 1)?)?)?;
-    let settle = Act::Settle {
-        group: 0,
-        rounds: 1,
-    };
-    do_one(rt, stage, pass_at(passes, 0)?, settle)
-}
-
-fn each_act<J: Naming, L: Ledger, H: Wait + Drop, R: Threads + Wait + Sync>(
-    rt: &R,
-    stage: &Stage<'_, J, L, H>,
-    passes: &mut [Pass<J, L>],
-) -> Result<(), Fail> {
-    let app = pass_at(passes, 0)?;
-    let lock = Act::Lock {
-        group: 0,
-        entity: A1,
-        prio: Prio::Low,
-    };
-    do_one(rt, stage, app, lock)?;
-    let unlock = Act::Unlock {
-        group: 0,
-        entity: A1,
-        prio: Prio::Low,
-    };
-    do_one(rt, stage, app, unlock)?;
-    do_one(rt, stage, app, fail(stage.alloc, 4))?;
-    do_one(rt, stage, app, POLL)?;
-    do_one(rt, stage, app, AWAIT)?;
-    let read_none = Act::ReadAt {
-        group: 0,
-        version: 9,
-        entity: A1,
-        var: Var::Firmware,
-    };
-    do_one(rt, stage, app, read_none)?;
-    do_one(rt, stage, app, READ)
-}
-
-/// A switch that fails at its target is sent to in each round, and settled in none.
-fn full_journal<J: Naming, L: Ledger, H: Wait + Drop, R: Threads + Wait + Sync>(
-    rt: &R,
-    stage: &Stage<'_, J, L, H>,
-    passes: &mut [Pass<J, L>],
-) -> Result<(), Fail> {
-    let app = pass_at(passes, 0)?;
-    do_one(rt, stage, app, propose(stage.alloc, A1)?)?;
-    do_one(rt, stage, app, AWAIT)?;
-    do_one(rt, stage, app, fail(stage.alloc, 0))?;
-    do_one(rt, stage, app, POLL)?;
-    let settle = Act::Settle {
-        group: 0,
-        rounds: 200_000,
-    };
-    let settled = stage.act(rt, app, &settle, &NoGate)?;
-    expect(settled == Acted::JournalFull { group: 0 })?;
-    // A read needs no room in the journal.
-    do_one(rt, stage, app, READ)?;
-    let again = stage.act(rt, app, &POLL, &NoGate)?;
-    expect(again == Acted::JournalFull { group: 0 })
 }

@@ -22,8 +22,16 @@ fn proposed(alloc: Global, control: &mut Control) -> Result<(), Fail>
     Ok(())
 }
 
+/// Checks as entry number `entry`, unless there are more versions than were made.
+fn checked(control: &mut Control, entry: u32) -> Result<Check, Fail> {
+    if control.store().version() > 1 {
+        return Err(Fail::new("more versions than were made"));
+    }
+    Ok(control.check(entry)?)
+}
+
 fn decided(control: &mut Control) -> Result<(), Fail> {
-    match control.check(2)? {
+    match checked(control, 2)? {
         Check::Decided(
             Receipt {
                 ticket: 1,
@@ -33,7 +41,7 @@ fn decided(control: &mut Control) -> Result<(), Fail> {
         ) => {}
         _ => return Err(Fail::new("not accepted as ticket 1 and version 1")),
     }
-    match control.check(3)? {
+    match checked(control, 3)? {
         Check::Idle => Ok(()),
         Check::Decided(_) => Err(Fail::new("nothing was pending")),
     }
@@ -68,11 +76,19 @@ fn judged(rt: &(impl Threads + Sync), alloc: Global, control: &Control) -> Resul
     }
 }
 
-fn accepts(control: &mut Control, judged: &Judged) -> Result<(), Fail> {
+/// Commits as entry number `entry`, unless there are more versions than were made.
+fn commits(control: &mut Control, entry: u32, judged: &Judged) -> Result<Commit, Fail> {
     if !control.may_commit(judged) {
         return Err(Fail::new("the ticket may not be committed"));
     }
-    match control.commit(2, judged)? {
+    if control.store().version() > 1 {
+        return Err(Fail::new("more versions than were made"));
+    }
+    Ok(control.commit(entry, judged)?)
+}
+
+fn accepts(control: &mut Control, judged: &Judged) -> Result<(), Fail> {
+    match commits(control, 2, judged)? {
         Commit::Decided(
             Receipt {
                 ticket: 1,
@@ -85,10 +101,7 @@ fn accepts(control: &mut Control, judged: &Judged) -> Result<(), Fail> {
 }
 
 fn is_gone(control: &mut Control, judged: &Judged) -> Result<(), Fail> {
-    if !control.may_commit(judged) {
-        return Err(Fail::new("a decided ticket may not be committed"));
-    }
-    match control.commit(3, judged)? {
+    match commits(control, 3, judged)? {
         Commit::Gone { entry: 2 } => Ok(()),
         _ => Err(Fail::new("not gone")),
     }

@@ -6,7 +6,7 @@ use Rattle.st_net.specs.Ranges.{RowFits}
 use Rattle.st_control.specs.Control.{standing_in}
 use Rattle.st_roll.specs.Firmware.{firmware_rows}
 use Rattle.st_roll.specs.Passes.{PassView}
-use Rattle.st_roll.specs.Refusal.{refusal, device_refusal}
+use Rattle.st_roll.specs.Refusal.{refusal_in, device_refusal}
 use Rattle.st_roll.proofs.JudgingLaws.{rows_fit}
 use Rattle.st_roll.proofs.PassLaws.{with_room}
 use Rattle.st_roll.proofs.pass.Pass.take.Goals as goal
@@ -24,6 +24,6 @@ returns-clause-passed c =
     let k = c.args.control.now in
     let batch_is : c.as_slice.result.now ≡ c.args.self.now.batch = c.as_slice.ensures.value ∙ ap (λ (p : PassView). p.batch) c.self.view_is in
     let rows_are : c.as_slice-2.result.now ≡ firmware_rows c.args.firmware (c.args.self.now.batch ++ c.args.device ∷ []) = c.as_slice-2.ensures.value ∙ c.in_ok-rows.ensures ∙ ap (λ (batch : List ℕ). firmware_rows c.args.firmware (batch ++ c.args.device ∷ [])) batch_is in
-    let refused = c.in_ok-refusal.ensures.cause ∙ ap (λ (rows : List Row). refusal k.group (standing_in k) c.args.app rows) rows_are in
+    let refused = c.in_ok-refusal.ensures.cause ∙ ap (λ (rows : List Row). refusal_in k.group (standing_in k) c.args.app rows) rows_are in
     let placed_is = with_room (device_refusal k.group (standing_in k) c.args.app c.args.firmware) c.args.self.now c.args.device c.in_ok-refusal.refusal (sym c.has_room.ensures ∙ c.if-not-has_room.false) refused in
     subst (λ (p : PassView). OnOk c.place.result (c.place.new.self ≡ p)) placed_is c.place.ensures

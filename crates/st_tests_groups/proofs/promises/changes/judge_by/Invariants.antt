@@ -1,5 +1,5 @@
 use Rattle.st_promise.specs.Book.{IsBookOf}
-use Rattle.st_tests_groups.proofs.promises.changes.judge_changes.Given as goal
+use Rattle.st_tests_groups.proofs.promises.changes.judge_by.Given as goal
 
 abbrev pub invariant-loop : goal.invariant-loop
 invariant-loop g l = IsBookOf l.topo l.book.of
