@@ -1,5 +1,5 @@
 #!/usr/bin/env python3
-"""Measures calls by themselves: `tools/bench.py NAME`, where NAME is cuts, promises, checks, world, threads or reads.
+"""Measures calls by themselves: `tools/bench.py NAME`, where NAME is cuts, promises, checks, roll, world, threads or reads.
 
 tools/bench/NAME.rt.txt is a program without contracts; its head says what it measures, and its words. It is laid into a copy of the crates and built there
 without proofs, in some three minutes, by tools/unproved_program.py. It is kept in ~/.cache/statesman/programs until the code changes. It works on the fat tree
@@ -33,6 +33,7 @@ RUNS = {
     "cuts": ("cuts 5", (50,)),
     "promises": ("start 5 checks 200 checks-links-down 200 checks-tor-down 200 wide 20", ALL),
     "checks": ("begin 200 basis 200 check 200 commit 200 parts 200", (50, 100)),
+    "roll": ("kept 1 anew 1", (50, 90)),
     "world": ("locks 200000 reports 100000 rounds 5", (50,)),
     "threads": ("off-lock-1 200 under-lock-1 200 off-lock-2 200 under-lock-2 200 off-lock-4 200 under-lock-4 200", (50, 100)),
     "reads": ("paused-1 5000000 paused-2 5000000 paused-3 5000000 busy-1 1000000 busy-2 1000000 busy-3 1000000", (50,)),
@@ -43,6 +44,8 @@ BY_THEMSELVES = ("parts", "off-lock-", "under-lock-", "paused-", "busy-")
 LESS = {"rounds": "failures"}
 # The works that have peers which are asked for something, and for what.
 ASKED = {"cuts": "cuts", "start": "tree"}
+# These take minutes, and are run once.
+ONCE = ("anew",)
 # These are measured on the group at every limit alone.
 LARGE_ALONE = ("world", "threads", "reads")
 
@@ -88,8 +91,9 @@ def measure(options, program, peers, words, document):
 def measure_work(options, program, work, times, document):
     """Prints what a work counted, and what one of it takes, and answers the milliseconds of the processor of one."""
     less = [LESS[work], str(times)] if work in LESS else [work, "0"]
-    done = measuring.Least(options.times, [program, work, str(times)], document)
-    none = measuring.Least(options.times, [program, *less], document)
+    runs = 1 if work in ONCE else options.times
+    done = measuring.Least(runs, [program, work, str(times)], document)
+    none = measuring.Least(runs, [program, *less], document)
     each, clock = ((more - fewer) * 1e6 / times for more, fewer in ((done.seconds, none.seconds), (done.clock, none.clock)))
     print("  %s: each %.2f us, by the clock %.2f us; %s, without %s" % (done.text.decode().strip(), each, clock, done.memory.strip(), none.memory.strip()), flush=True)
     return each / 1e3

@@ -22,7 +22,7 @@ class Built:
 
 
 def built(source, graphs, options):
-    """The document of some graphs, each of which is a group."""
+    """The document of some graphs, each of which is a group, and some of which have nodes."""
     made, groups = Built(), Naming()
     originals = [options.group or graph.name or "dc1" for graph in graphs]
     again = [name for at, name in enumerate(originals) if name in originals[:at]]
@@ -31,6 +31,9 @@ def built(source, graphs, options):
     groups.give(originals)
     for original, graph in zip(originals, graphs):
         GroupBuilder(source, made, options, original, groups.given[original]).build(graph)
+    # A group may be without devices, but not all of them: then the source is hardly what was meant.
+    if not any(kind == "device" for kind, *_ in made.names):
+        source.refuse(1, "no node, and so no device of group %s" % originals[0])
     return made
 
 
@@ -46,8 +49,6 @@ class GroupBuilder:
         self.tell_name(self.name, self.original, 1)
         self.made.add("group " + self.name, 1)
         self.leave_out("of the graph", graph.attributes, 1)
-        if not graph.nodes:
-            self.source.refuse(1, "no node, and so no device of group %s" % self.original)
         self.naming.give(list(graph.nodes))
         tors = [self.device(node) for node in graph.nodes.values()]
         self.links(graph)
