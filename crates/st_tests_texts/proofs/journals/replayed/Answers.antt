@@ -4,4 +4,4 @@ use Rattle.st_journal.specs.Replaying.{EventFits}
 use Rattle.st_tests_texts.proofs.journals.replayed.Goals as goal
 
 pub replay-requires-clause-fits : goal.replay-requires-clause-fits
-replay-requires-clause-fits g c = subst (λ (topo : Group). All (EventFits topo) c.args.entries.now) (c.in_ok-opened.ensures ∙ sym c.in_ok-copy.ensures) (c.if-fit_once.ensures.0 refl)
+replay-requires-clause-fits c = subst (λ (topo : Group). All (EventFits topo) c.args.entries.now) (c.in_ok-opened.ensures ∙ sym c.in_ok-copy.ensures) (c.if-fit_once.ensures.0 refl)
