@@ -3,7 +3,8 @@ use Rattle.std.proofs.Common.{◌≡◌, ℕ, zero, suc, ◌<◌, List, [], ◌�
 use Rattle.std.specs.Prelude.{Bool, true, false, slice_index_or}
 use Rattle.st_net.specs.declared.promise.Promise.{Promise}
 use Rattle.st_net.specs.declared.topo.DeviceOpening.{DeviceOpening}
-use Rattle.st_net.specs.Groups.{Group, promise_of, no_promise, IsPromiseAmong, ArePromises, IsSound}
+use Rattle.st_net.specs.Groups.{Group, no_promise, IsPromiseAmong, ArePromises, IsSound}
+use Rattle.st_net.specs.Asks.{ask_count, ask_of}
 use Rattle.st_net.specs.Cuts.{is_in_least_side}
 use Rattle.st_net.specs.Promises.{need_of}
 use Rattle.st_net.specs.Laws.{KeepsWithMore, TellsKept, HasLeastCuts, WalksWhereCut, TellsLeastSide, HasOneLeastSide}
@@ -20,11 +21,15 @@ promise_at devices [] i are low = absurd (omega arith)
 promise_at devices (p ∷ ps) zero are low = are.0
 promise_at devices (p ∷ ps) (suc i) are low = promise_at devices ps i are.1 (omega arith)
 
+-- ask number i of a sound group is between two of its ToRs
+pub ask_at : (g : Group) (i : ℕ) → IsSound g → i < ask_count g → IsPromiseAmong g.devices (ask_of g i)
+ask_at g i sound low = promise_at g.devices g.promises i sound.promises low
+
 pub tells_kept : (g : Group) → IsSound g → TellsKept g
 tells_kept g sound up i low =
-    let apart = (promise_at g.devices g.promises i sound.promises low).apart in (
-      is_held-holds (length g.devices) g.links (need_of g (promise_of g i)) (promise_of g i).a (promise_of g i).b up sound.links apart,
-      holds-is_held (length g.devices) g.links (need_of g (promise_of g i)) (promise_of g i).a (promise_of g i).b up sound.links apart,
+    let apart = (ask_at g i sound low).apart in (
+      is_held-holds (length g.devices) g.links (need_of g (ask_of g i)) (ask_of g i).a (ask_of g i).b up sound.links apart,
+      holds-is_held (length g.devices) g.links (need_of g (ask_of g i)) (ask_of g i).a (ask_of g i).b up sound.links apart,
     )
 
 pub has_least_cuts : (g : Group) → IsSound g → HasLeastCuts g

@@ -16,7 +16,7 @@ use Rattle.st_net.specs.declared.promise.Promise.{Promise}
 use Rattle.st_net.specs.declared.topo.TheConstants.{MAX_DEVICES, MAX_LINKS, MAX_TORS, MAX_PROMISES, MAX_CAPACITY, MAX_PERCENT}
 use Rattle.st_net.specs.declared.range.TheConstants.{DEVICE_HEALTH, LINK_HEALTH}
 use Rattle.st_net.specs.Names.{place_of, is_among, is_name}
-use Rattle.st_net.specs.Groups.{are_names, are_device_vals, are_link_vals, no_device, tor_count, IsDevice, IsLink, AreDevices, AreLinks, IsPromiseAmong, ArePromises, is_on_pair, is_promised, are_other_pairs, IsSound, Group}
+use Rattle.st_net.specs.Groups.{are_names, are_device_vals, are_link_vals, no_device, tor_count, IsDevice, IsLink, AreDevices, AreLinks, IsPromiseAmong, ArePromises, is_on_pair, is_promised, are_other_pairs, IsSound, plain_group}
 use Rattle.std.proofs.lemmas.List.{length-map}
 use Rattle.st_net.specs.Faults.{device_names, link_names, first_twice, first_link, first_promise, is_own, is_unknown_end, has_unknown_end, has_unknown_tor, is_loop, is_cross, device_limit, link_limit, promise_limit, limit_or, tors_with, first_device_limit, first_link_limit, first_promise_limit, is_tor, is_tor_name, is_on_names, was_promised, is_bad_pair, first_bad_pair, place_or, fault_or, promises_at, number_of, device_opening, link_opening, promise_opening, twice_of, unknown_of, loop_of, cross_of, limit_of, pair_of, fault_of, group_of}
 use Rattle.st_net.proofs.NameSteps.{all_new}
@@ -323,11 +323,8 @@ sound parts name names right =
       pairs = promises.pairs;
     }
 
-abbrev group_made : List ℕ → List (List ℕ) → List (List ℕ) → List DeviceOpening → List LinkOpening → List Promise → Group
-group_made name device_names link_names devices links promises = record { name = name; device_names = device_names; link_names = link_names; devices = devices; links = links; promises = promises }
-
 -- so what is made of them, field by field, is sound
-pub sound_made : (parts : Parts) (name : List ℕ) (names more : List (List ℕ)) (devices : List DeviceOpening) (links : List LinkOpening) (promises : List Promise) → name ≡ parts.name → names ≡ device_names parts.devices → more ≡ link_names parts.links → devices ≡ map device_opening parts.devices → links ≡ map (link_opening names) parts.links → promises ≡ map (promise_opening names) parts.promises → is_name parts.name ≡ true → are_names (names ++ more) ≡ true → fault_of parts ≡ None → IsSound (group_made name names more devices links promises)
+pub sound_made : (parts : Parts) (name : List ℕ) (names more : List (List ℕ)) (devices : List DeviceOpening) (links : List LinkOpening) (promises : List Promise) → name ≡ parts.name → names ≡ device_names parts.devices → more ≡ link_names parts.links → devices ≡ map device_opening parts.devices → links ≡ map (link_opening names) parts.links → promises ≡ map (promise_opening names) parts.promises → is_name parts.name ≡ true → are_names (names ++ more) ≡ true → fault_of parts ≡ None → IsSound (plain_group name names more devices links promises)
 sound_made parts name names more devices links promises n a b d l p spelled named right =
     let all : are_names (device_names parts.devices ++ link_names parts.links) ≡ true = rw (a, b) at named in
     rw (l, p, n, a, b, d) (sound parts spelled all right)

@@ -1,6 +1,8 @@
 -- The demands of a group: what it asks of the network. Each is a promise, and has its number.
 use Rattle.std.specs.Prelude.{ℕ, Bool, List, length, map, Option}
 use Rattle.st_net.specs.declared.entity.Entity.{Entity}
+use Rattle.st_net.specs.declared.promise.BrokenOf.{BrokenOf}
+use Rattle.st_net.specs.declared.promise.BrokenOf.TheVariants.{Promise as of_promise}
 use Rattle.st_net.specs.declared.promise.Broken.{Broken}
 use Rattle.st_net.specs.Groups.{Group, promise_of}
 use Rattle.st_net.specs.Promises.{Keeps, is_kept, first_broken}
@@ -24,6 +26,16 @@ held_list g up = map (is_kept g up) g.promises
 abbrev pub first_broken_of : Group → (Entity → Bool) → (Entity → Bool) → Option Broken
 first_broken_of g before after = first_broken g before after 0 g.promises
 
--- the two devices between which a demand is broken, as it was declared
+-- the number of the demand that breaks: of a promise its own
+abbrev pub number_of_broken : Group → BrokenOf → ℕ
+number_of_broken g (of_promise i) = i
+
+abbrev pub broken_demand : Group → Broken → ℕ
+broken_demand g broken = number_of_broken g broken.of
+
+-- the two devices between which it breaks, as they were declared
+abbrev pub pair_of_broken : Group → BrokenOf → ℕ × ℕ
+pair_of_broken g (of_promise i) = ((promise_of g i).a, (promise_of g i).b)
+
 abbrev pub broken_pair : Group → Broken → ℕ × ℕ
-broken_pair g broken = ((promise_of g broken.promise).a, (promise_of g broken.promise).b)
+broken_pair g broken = pair_of_broken g broken.of

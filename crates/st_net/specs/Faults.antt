@@ -18,7 +18,15 @@ use Rattle.st_net.specs.declared.topo.TheConstants.{MAX_DEVICES, MAX_LINKS, MAX_
 use Rattle.st_net.specs.declared.range.TheConstants.{DEVICE_HEALTH, LINK_HEALTH}
 use Rattle.st_net.specs.declared.promise.Promise.{Promise}
 use Rattle.st_net.specs.Names.{place_of, is_among}
-use Rattle.st_net.specs.Groups.{Group, are_device_vals, are_link_vals}
+use Rattle.st_net.specs.Groups.{Group, plain_group, are_device_vals, are_link_vals}
+
+-- just these parts of a group
+abbrev pub plain_parts : List ℕ → List DevicePart → List LinkPart → List PromisePart → Parts
+plain_parts name devices links promises = record { name = name; devices = devices; links = links; promises = promises }
+
+-- the parts of a group of no name and no entities
+abbrev pub no_parts : Parts
+no_parts = plain_parts [] [] [] []
 
 abbrev pub device_names : List DevicePart → List (List ℕ)
 device_names devices = map (λ d. d.name) devices
@@ -184,14 +192,11 @@ promise_opening devices p = record { a = number_of devices p.a; b = number_of de
 
 -- the group of these parts
 abbrev pub group_of : Parts → Group
-group_of parts = record {
-  name = parts.name;
-  device_names = device_names parts.devices;
-  link_names = link_names parts.links;
-  devices = map device_opening parts.devices;
-  links = map (link_opening (device_names parts.devices)) parts.links;
-  promises = map (promise_opening (device_names parts.devices)) parts.promises;
-}
+group_of parts =
+    plain_group parts.name (device_names parts.devices) (link_names parts.links)
+    (map device_opening parts.devices)
+    (map (link_opening (device_names parts.devices)) parts.links)
+    (map (promise_opening (device_names parts.devices)) parts.promises)
 
 -- what parts are built into: the group where nothing is wrong, or what is
 abbrev pub IsBuiltOf : Parts → Built → Type 0

@@ -20,6 +20,14 @@ pub record Group : Type 0 where
   pub links : List LinkOpening
   pub promises : List Promise
 
+-- the group of just these
+abbrev pub plain_group : List ℕ → List (List ℕ) → List (List ℕ) → List DeviceOpening → List LinkOpening → List Promise → Group
+plain_group name device_names link_names devices links promises = record { name = name; device_names = device_names; link_names = link_names; devices = devices; links = links; promises = promises }
+
+-- a group of no name and no entities
+abbrev pub no_group : Group
+no_group = plain_group [] [] [] [] [] []
+
 abbrev pub no_vals : Vals
 no_vals = record { v0 = 0; v1 = 0; v2 = 0; v3 = 0 }
 

@@ -3,7 +3,8 @@ use Rattle.std.specs.Prelude.{◌≡◌, ◌≢◌, ◌↔◌, ℕ, ◌<◌, ◌
 use Rattle.st_net.specs.declared.entity.Entity.{Entity}
 use Rattle.st_net.specs.declared.topo.LinkOpening.{LinkOpening}
 use Rattle.st_net.specs.declared.promise.Promise.{Promise}
-use Rattle.st_net.specs.Groups.{Group, promise_of}
+use Rattle.st_net.specs.Groups.{Group}
+use Rattle.st_net.specs.Asks.{ask_count, ask_of}
 use Rattle.st_net.specs.Sets.{IsWithin}
 use Rattle.st_net.specs.UpGraph.{IsWalk}
 use Rattle.st_net.specs.Cuts.{IsCut, cut_value, least_cut, is_in_least_side}
@@ -14,9 +15,9 @@ use Rattle.st_net.specs.Demands.{demand_count, HoldsIn, is_held_in, held_list, f
 abbrev pub KeepsWithMore : Group → Type 0
 KeepsWithMore g = (up more : Entity → Bool) (p : Promise) → IsWithin up more → Keeps g up p → Keeps g more p
 
--- the test tells of each promise whether it holds
+-- the test tells of each ask whether it is kept
 abbrev pub TellsKept : Group → Type 0
-TellsKept g = (up : Entity → Bool) (i : ℕ) → i < length g.promises → (is_kept g up (promise_of g i) ≡ true) ↔ Keeps g up (promise_of g i)
+TellsKept g = (up : Entity → Bool) (i : ℕ) → i < ask_count g → (is_kept g up (ask_of g i) ≡ true) ↔ Keeps g up (ask_of g i)
 
 -- a demand that holds goes on to hold with more entities up
 abbrev pub DemandsHoldWithMore : Group → Type 0

@@ -10,6 +10,7 @@ pub mod Merge
 pub mod UpGraph
 pub mod Cuts
 pub mod Promises
+pub mod Asks
 pub mod Demands
 pub mod Faults
 pub mod Pairs

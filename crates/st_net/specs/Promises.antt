@@ -4,6 +4,7 @@ use Rattle.st_net.specs.declared.entity.Entity.{Entity}
 use Rattle.st_net.specs.declared.topo.LinkOpening.{LinkOpening}
 use Rattle.st_net.specs.declared.promise.Promise.{Promise}
 use Rattle.st_net.specs.declared.promise.BrokenKind.TheVariants.{CutOff, Short}
+use Rattle.st_net.specs.declared.promise.BrokenOf.TheVariants.{Promise as of_promise}
 use Rattle.st_net.specs.declared.promise.Broken.{Broken}
 use Rattle.st_net.specs.Groups.{Group}
 use Rattle.st_net.specs.UpGraph.{IsWalk}
@@ -34,7 +35,7 @@ is_kept g up p = is_held (length g.devices) g.links (need_of g p) p.a p.b up
 -- how promise number i is broken with these entities up
 abbrev pub broken_at : Group → (Entity → Bool) → ℕ → Promise → Broken
 broken_at g up i p = record {
-  promise = i;
+  of = of_promise i;
   kind = if least_cut (length g.devices) g.links up p.a p.b == 0 then CutOff else Short;
   need = need_of g p;
   has = least_cut (length g.devices) g.links up p.a p.b;

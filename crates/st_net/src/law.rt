@@ -15,7 +15,7 @@ impl GroupTopo {
         self.is_sound()
     }
 
-    /// A promise holds exactly where the least cut of its pair is at least 1 and at least what the promise needs.
+    /// What is asked is kept, and with it a promise, exactly where the least cut of its pair is at least 1 and at least the need.
     pub fn held_means_kept(&self)
         ensures { TellsKept self.now }
     {

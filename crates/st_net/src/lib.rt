@@ -28,7 +28,7 @@ pub use name_index::NameIndex;
 pub use names::Names;
 pub use pairs::{Pair, Pairs};
 pub use parts::{Built, DevicePart, EndPart, Limit, LinkPart, Parts, PromisePart, TopoFault};
-pub use promise::{Broken, BrokenKind, Promise, Side};
+pub use promise::{Broken, BrokenKind, BrokenOf, Promise, Side};
 pub use range::{
     DEVICE_HEALTH, LINK_HEALTH, are_in_range, health_limits, is_health_of, is_in_range, most_health,
 };

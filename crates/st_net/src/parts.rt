@@ -1,6 +1,9 @@
 //! The parts of a group as a document declares them, by names, and what can be wrong with them. `GroupTopo::build` turns them
 //! into a topology.
 
+ghost use Rattle.std.specs.Prelude.{◌≡◌};
+ghost use Rattle.st_net.specs.Faults.{plain_parts};
+
 use crate::entity::Vals;
 use crate::items::Items;
 use crate::name::Name;
@@ -48,6 +51,25 @@ pub struct Parts {
     pub devices: Items<DevicePart>,
     pub links: Items<LinkPart>,
     pub promises: Items<PromisePart>,
+}
+
+impl Parts {
+    /// Just these parts of a group.
+    pub fn of(
+        name: Name,
+        devices: Items<DevicePart>,
+        links: Items<LinkPart>,
+        promises: Items<PromisePart>,
+    ) -> Parts
+        ensures { result ≡ plain_parts name devices links promises }
+    {
+        Parts {
+            name,
+            devices,
+            links,
+            promises,
+        }
+    }
 }
 
 /// The limits of a group's parts: 512 devices, 64 ToRs, 4,096 links, 2,016 promises, a capacity of 1 to 1,000,000, a

@@ -1,4 +1,4 @@
-//! Promises between two ToRs of a group, and what is said of a promise that breaks.
+//! Promises between two ToRs of a group, and what is said of a demand that breaks.
 
 ghost use Rattle.std.specs.Prelude.{◌≡◌, IfOk};
 ghost use Rattle.std.specs.List.Sorted.{IsStrictlyIncreasing};
@@ -39,11 +39,17 @@ impl Model for Side {
     ghost invariant = { λ s. IsStrictlyIncreasing s.devices.items };
 }
 
-/// A promise that breaks: its number, how, the capacity that it needs, the value of the least cut that is left, and the
+/// Which demand breaks: a promise, by its number.
+#[derive(Clone, Copy, Debug, PartialEq, Eq)]
+pub enum BrokenOf {
+    Promise(u32),
+}
+
+/// A demand that breaks: which, how, the capacity that its pair needs, the value of the least cut that is left, and the
 /// least side of that value.
 #[derive(Drop)]
 pub struct Broken {
-    pub promise: u32,
+    pub of: BrokenOf,
     pub kind: BrokenKind,
     pub need: u64,
     pub has: u64,
@@ -85,7 +91,7 @@ impl Broken {
         ensures { IfOk result (λ copy. copy ≡ self.now) }
     {
         Ok(Broken {
-            promise: self.promise,
+            of: self.of,
             kind: self.kind,
             need: self.need,
             has: self.has,

@@ -4,6 +4,7 @@
 ghost use Rattle.std.specs.Prelude.{◌≡◌, ℕ, ◌<◌, ◌^◌, length, slice_index_or, slice_get, Some, IfOk, IfSome, IfNone};
 ghost use Rattle.st_net.specs.InOrder.{place_in, entity_count, entities_of};
 ghost use Rattle.st_net.specs.TopoFields.{group_in};
+ghost use Rattle.st_net.specs.Asks.{ask_count, ask_of};
 ghost use Rattle.st_net.specs.Groups.{Group, IsEntityOf, find_in, name_of as name_of_lem, no_device, no_link, no_promise, opening_of, health_of, IsSound};
 
 mod same;
@@ -139,6 +140,13 @@ impl GroupTopo {
         self.openings.promises.len() as u32
     }
 
+    /// How many pairs are asked of the network: one for each promise.
+    pub fn ask_count(&self) -> u32
+        ensures { result ≡ ask_count self.now }
+    {
+        self.promise_count()
+    }
+
     /// The two devices that a link joins, as it was declared.
     pub fn ends(&self, link: u32) -> (u32, u32)
         requires { link < length self.now.links }
@@ -171,6 +179,15 @@ impl GroupTopo {
         ensures { result ≡ slice_index_or self.now.promises i no_promise }
     {
         self.openings.promises[i as usize]
+    }
+
+    /// Ask number `i`, from 0: a pair of devices, and a percentage of what they can exchange with everything up. It is the
+    /// promise of this number.
+    pub fn ask(&self, i: u32) -> Promise
+        requires { i < ask_count self.now }
+        ensures { result ≡ ask_of self.now i }
+    {
+        self.promise(i)
     }
 
     /// The values that an entity opens with.

@@ -1,12 +1,13 @@
--- What a book's fields tell of its group: its promises, their needs, and the flows that are kept of them.
+-- What a book's fields tell of its group: its asks, their needs, and the flows that are kept of them.
 use Rattle.std.proofs.Common.{◌≡◌, ℕ, ◌<◌, ◌≤◌, max, Bool, true, List, length, map, All, get_or, ℤ, Option, Some, None, IfSome, ap, ◌∙◌, sym, arith}
 use Rattle.std.specs.Prelude.{slice_index_or, slice_set}
 use Rattle.std.proofs.lemmas.Int.{ints}
 use Rattle.std.proofs.lemmas.List.{get_or_read, get_or-map}
 use Rattle.st_net.specs.declared.entity.Entity.{Entity}
 use Rattle.st_net.specs.declared.promise.Promise.{Promise}
-use Rattle.st_net.specs.Groups.{Group, no_promise, promise_of, IsSound}
+use Rattle.st_net.specs.Groups.{Group, no_promise, IsSound}
 use Rattle.st_net.specs.Promises.{need_of}
+use Rattle.st_net.specs.Asks.{asks, ask_count, ask_of}
 use Rattle.st_flow.specs.declared.edge.Edge.{Edge}
 use Rattle.st_flow.specs.Network.{Network, FitsEdge, Sends}
 use Rattle.st_flow.specs.Residual.{no_edge}
@@ -19,36 +20,36 @@ use Rattle.st_promise.specs.Book.{BookView, IsBookOf}
 use Rattle.st_promise.proofs.KeptLaws.{edges_fit, edges_count, sends_more, flows_with}
 
 -- the fields of a book of this group
-pub record AreFieldsOf (g : Group) (promises : List Promise) (needs : List ℕ) (whole : Network) : Type 0 where
-  pub promises_are : promises ≡ g.promises
-  pub needs_are : needs ≡ map (need_of g) g.promises
+pub record AreFieldsOf (g : Group) (pairs : List Promise) (needs : List ℕ) (whole : Network) : Type 0 where
+  pub asks_are : pairs ≡ asks g
+  pub needs_are : needs ≡ map (need_of g) (asks g)
   pub whole_is : whole ≡ up_network g (λ e. true)
 
-pub fields_of : (g : Group) (promises : List Promise) (needs : List ℕ) (whole : Network) (runs : ℕ) (view : BookView) → record { of = record { needs = needs; promises = promises; whole = whole }; flows_run = runs } ≡ view → IsBookOf g view.of → AreFieldsOf g promises needs whole
-fields_of g promises needs whole runs view is book = record {
-  promises_are = ap (λ (v : BookView). v.of.promises) is ∙ book.promises_are;
+pub fields_of : (g : Group) (pairs : List Promise) (needs : List ℕ) (whole : Network) (runs : ℕ) (view : BookView) → record { of = record { needs = needs; asks = pairs; whole = whole }; flows_run = runs } ≡ view → IsBookOf g view.of → AreFieldsOf g pairs needs whole
+fields_of g pairs needs whole runs view is book = record {
+  asks_are = ap (λ (v : BookView). v.of.asks) is ∙ book.asks_are;
   needs_are = ap (λ (v : BookView). v.of.needs) is ∙ book.needs_are;
   whole_is = ap (λ (v : BookView). v.of.whole) is ∙ book.whole_is;
 }
 
 -- what is read of them
-pub promise_read : (g : Group) (promises : List Promise) (needs : List ℕ) (whole : Network) (i : ℕ) (p : Promise) → AreFieldsOf g promises needs whole → i < length g.promises → p ≡ get_or promises i p → p ≡ promise_of g i
-promise_read g promises needs whole i p are low read = get_or_read g.promises i p low (read ∙ ap (λ (ps : List Promise). get_or ps i p) are.promises_are) no_promise
+pub ask_read : (g : Group) (pairs : List Promise) (needs : List ℕ) (whole : Network) (i : ℕ) (p : Promise) → AreFieldsOf g pairs needs whole → i < ask_count g → p ≡ get_or pairs i p → p ≡ ask_of g i
+ask_read g pairs needs whole i p are low read = get_or_read (asks g) i p low (read ∙ ap (λ (ps : List Promise). get_or ps i p) are.asks_are) no_promise
 
-pub need_at : (g : Group) (promises : List Promise) (needs : List ℕ) (whole : Network) (i : ℕ) → AreFieldsOf g promises needs whole → i < length g.promises → slice_index_or needs i 0 ≡ need_of g (promise_of g i)
-need_at g promises needs whole i are low = ap (λ (ns : List ℕ). slice_index_or ns i 0) are.needs_are ∙ get_or-map (need_of g) g.promises i no_promise 0 low
+pub need_at : (g : Group) (pairs : List Promise) (needs : List ℕ) (whole : Network) (i : ℕ) → AreFieldsOf g pairs needs whole → i < ask_count g → slice_index_or needs i 0 ≡ need_of g (ask_of g i)
+need_at g pairs needs whole i are low = ap (λ (ns : List ℕ). slice_index_or ns i 0) are.needs_are ∙ get_or-map (need_of g) (asks g) i no_promise 0 low
 
-pub need_read : (g : Group) (promises : List Promise) (needs : List ℕ) (whole : Network) (i n : ℕ) → AreFieldsOf g promises needs whole → length needs ≡ length promises → i < length g.promises → n ≡ get_or needs i n → n ≡ need_of g (promise_of g i)
-need_read g promises needs whole i n are each low read =
-    get_or_read needs i n (omega (arith, each, low, ap (λ (ps : List Promise). length ps) are.promises_are)) read 0 ∙ need_at g promises needs whole i are low
+pub need_read : (g : Group) (pairs : List Promise) (needs : List ℕ) (whole : Network) (i n : ℕ) → AreFieldsOf g pairs needs whole → length needs ≡ length pairs → i < ask_count g → n ≡ get_or needs i n → n ≡ need_of g (ask_of g i)
+need_read g pairs needs whole i n are each low read =
+    get_or_read needs i n (omega (arith, each, low, ap (λ (ps : List Promise). length ps) are.asks_are)) read 0 ∙ need_at g pairs needs whole i are low
 
--- the flow that is kept of promise number i
-pub flow_read : (g : Group) (promises : List Promise) (needs : List ℕ) (whole : Network) (flows : List (Option KeptFlow)) (i : ℕ) (read : Option KeptFlow) (k : KeptFlow) → AreFieldsOf g promises needs whole → AreKeptFlows whole promises needs flows → i < length g.promises → read ≡ get_or flows i read → read ≡ Some k → IsEnough (up_network g (λ e. true)) (promise_of g i) (need_of g (promise_of g i)) k
-flow_read g promises needs whole flows i read k are kept low here is =
-    let count = ap (λ (ps : List Promise). length ps) are.promises_are in
+-- the flow that is kept of ask number i
+pub flow_read : (g : Group) (pairs : List Promise) (needs : List ℕ) (whole : Network) (flows : List (Option KeptFlow)) (i : ℕ) (read : Option KeptFlow) (k : KeptFlow) → AreFieldsOf g pairs needs whole → AreKeptFlows whole pairs needs flows → i < ask_count g → read ≡ get_or flows i read → read ≡ Some k → IsEnough (up_network g (λ e. true)) (ask_of g i) (need_of g (ask_of g i)) k
+flow_read g pairs needs whole flows i read k are kept low here is =
+    let count = ap (λ (ps : List Promise). length ps) are.asks_are in
     let at : slice_index_or flows i None ≡ Some k = sym (get_or_read flows i read (omega (arith, low, count, kept.flows_each)) here None) ∙ is in
-    let each : IfSome (Some k) (IsEnough whole (slice_index_or promises i no_promise) (slice_index_or needs i 0)) = rw at at (kept.each i (omega (arith, low, count))) in
-    rw (are.promises_are, need_at g promises needs whole i are low, are.whole_is) at each
+    let each : IfSome (Some k) (IsEnough whole (slice_index_or pairs i no_promise) (slice_index_or needs i 0)) = rw at at (kept.each i (omega (arith, low, count))) in
+    rw (are.asks_are, need_at g pairs needs whole i are low, are.whole_is) at each
 
 -- its links and devices have marks
 pub links_marked : (n m marks : ℕ) (shares : List Share) → All (λ s. (s.link < m) × (s.head < n)) shares → marks ≡ m → All (λ s. s.link < marks) shares
@@ -75,30 +76,30 @@ flow_small g up fs a b amount sound sends = λ k d low.
 pub flow_count : (g : Group) (up : Entity → Bool) (fs : List ℤ) (a b amount : ℕ) → Sends (up_network g up) fs a b amount → length fs ≡ length g.links
 flow_count g up fs a b amount sends = AllZip-length FitsEdge (up_edges 0 g.links up) fs sends.flow.fits ∙ edges_count 0 g.links up
 
--- a flow that was found of promise number i, as it is kept
-pub kept_with : (g : Group) (promises : List Promise) (needs : List ℕ) (whole : Network) (flows : List (Option KeptFlow)) (up : Entity → Bool) (fs : List ℤ) (i amount : ℕ) (k : KeptFlow) → AreFieldsOf g promises needs whole → AreKeptFlows whole promises needs flows → i < length g.promises → Sends (up_network g up) fs (promise_of g i).a (promise_of g i).b amount → max (need_of g (promise_of g i)) 1 ≤ amount → k.sent ≡ amount → All (λ s. (s.link < length g.links) × (s.head < length g.devices)) k.shares.items → All (IsEndIn (up_edges 0 g.links (λ e. true))) k.shares.items → amounts_from 0 (up_edges 0 g.links (λ e. true)) k.shares.items ≡ fs → AreKeptFlows whole promises needs (slice_set flows i (Some k))
-kept_with g promises needs whole flows up fs i amount k are kept low sends enough same in_range ends amounts =
-    let count = ap (λ (ps : List Promise). length ps) are.promises_are in
-    let here : IsEnough (up_network g (λ e. true)) (promise_of g i) (need_of g (promise_of g i)) k = record {
+-- a flow that was found of ask number i, as it is kept
+pub kept_with : (g : Group) (pairs : List Promise) (needs : List ℕ) (whole : Network) (flows : List (Option KeptFlow)) (up : Entity → Bool) (fs : List ℤ) (i amount : ℕ) (k : KeptFlow) → AreFieldsOf g pairs needs whole → AreKeptFlows whole pairs needs flows → i < ask_count g → Sends (up_network g up) fs (ask_of g i).a (ask_of g i).b amount → max (need_of g (ask_of g i)) 1 ≤ amount → k.sent ≡ amount → All (λ s. (s.link < length g.links) × (s.head < length g.devices)) k.shares.items → All (IsEndIn (up_edges 0 g.links (λ e. true))) k.shares.items → amounts_from 0 (up_edges 0 g.links (λ e. true)) k.shares.items ≡ fs → AreKeptFlows whole pairs needs (slice_set flows i (Some k))
+kept_with g pairs needs whole flows up fs i amount k are kept low sends enough same in_range ends amounts =
+    let count = ap (λ (ps : List Promise). length ps) are.asks_are in
+    let here : IsEnough (up_network g (λ e. true)) (ask_of g i) (need_of g (ask_of g i)) k = record {
       flow = record {
         in_range = rw (edges_count 0 g.links (λ e. true)) in_range;
         ends = ends;
-        sends = rw (amounts, same) (sends_more g up fs (promise_of g i).a (promise_of g i).b amount sends);
+        sends = rw (amounts, same) (sends_more g up fs (ask_of g i).a (ask_of g i).b amount sends);
       };
       enough = omega (arith, enough, same);
     } in
-    flows_with whole promises needs flows i (Some k) kept (omega (arith, low, count)) (rw (are.promises_are, need_at g promises needs whole i are low, are.whole_is) here)
+    flows_with whole pairs needs flows i (Some k) kept (omega (arith, low, count)) (rw (are.asks_are, need_at g pairs needs whole i are low, are.whole_is) here)
 
 -- and a flow that is given up
-pub kept_without : (g : Group) (promises : List Promise) (needs : List ℕ) (whole : Network) (flows : List (Option KeptFlow)) (i : ℕ) → AreFieldsOf g promises needs whole → AreKeptFlows whole promises needs flows → i < length g.promises → AreKeptFlows whole promises needs (slice_set flows i None)
-kept_without g promises needs whole flows i are kept low =
-    let count = ap (λ (ps : List Promise). length ps) are.promises_are in
-    flows_with whole promises needs flows i None kept (omega (arith, low, count)) tt
+pub kept_without : (g : Group) (pairs : List Promise) (needs : List ℕ) (whole : Network) (flows : List (Option KeptFlow)) (i : ℕ) → AreFieldsOf g pairs needs whole → AreKeptFlows whole pairs needs flows → i < ask_count g → AreKeptFlows whole pairs needs (slice_set flows i None)
+kept_without g pairs needs whole flows i are kept low =
+    let count = ap (λ (ps : List Promise). length ps) are.asks_are in
+    flows_with whole pairs needs flows i None kept (omega (arith, low, count)) tt
 
 -- the links of a flow have lists
-pub lists_for : (g : Group) (promises : List Promise) (needs : List ℕ) (whole : Network) (n : ℕ) (shares : List Share) → AreFieldsOf g promises needs whole → n ≡ length whole.edges → All (λ s. (s.link < length g.links) × (s.head < length g.devices)) shares → All (λ s. s.link < n) shares
-lists_for g promises needs whole n shares are count in_range =
+pub lists_for : (g : Group) (pairs : List Promise) (needs : List ℕ) (whole : Network) (n : ℕ) (shares : List Share) → AreFieldsOf g pairs needs whole → n ≡ length whole.edges → All (λ s. (s.link < length g.links) × (s.head < length g.devices)) shares → All (λ s. s.link < n) shares
+lists_for g pairs needs whole n shares are count in_range =
     links_marked (length g.devices) (length g.links) n shares in_range (count ∙ ap (λ (net : Network). length net.edges) are.whole_is ∙ edges_count 0 g.links (λ e. true))
 
-pub lists_count : (g : Group) (promises : List Promise) (needs : List ℕ) (whole : Network) (n : ℕ) → AreFieldsOf g promises needs whole → n ≡ length whole.edges → n ≡ length g.links
-lists_count g promises needs whole n are count = count ∙ ap (λ (net : Network). length net.edges) are.whole_is ∙ edges_count 0 g.links (λ e. true)
+pub lists_count : (g : Group) (pairs : List Promise) (needs : List ℕ) (whole : Network) (n : ℕ) → AreFieldsOf g pairs needs whole → n ≡ length whole.edges → n ≡ length g.links
+lists_count g pairs needs whole n are count = count ∙ ap (λ (net : Network). length net.edges) are.whole_is ∙ edges_count 0 g.links (λ e. true)

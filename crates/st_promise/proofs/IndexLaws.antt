@@ -1,4 +1,4 @@
--- The index from links to promises: entries that stay, and what holds of a promise that no lost link has in its list.
+-- The index from links to asks: entries that stay, and what holds of an ask that no lost link has in its list.
 use Rattle.std.proofs.Common.{◌≡◌, ◌≢◌, ℕ, zero, suc, ◌+◌, ◌<◌, ◌≤◌, ◌==◌, ◌&&◌, ◌||◌, not, List, [], ◌∷◌, ◌++◌, length, take, drop, All, get_or, set, Vec, Option, Some, None, IfSome, refl, ap, ◌∙◌, sym, arith, inl, inr}
 use Rattle.std.specs.Prelude.{Bool, true, false, is_some, slice_index_or, ◌⊎◌}
 use Rattle.std.specs.List.{filter, list_any}
@@ -13,9 +13,10 @@ use Rattle.std.proofs.lemmas.Map.Views.{any-filter_same}
 use Rattle.st_net.specs.declared.entity.Entity.{Entity}
 use Rattle.st_net.specs.declared.entity.Entity.TheVariants.{Device, Link}
 use Rattle.st_net.specs.declared.promise.Promise.{Promise}
-use Rattle.st_net.specs.Groups.{Group, no_link, promise_of, IsSound, IsPromiseAmong}
+use Rattle.st_net.specs.Groups.{Group, no_link, IsSound, IsPromiseAmong}
 use Rattle.st_net.specs.UpGraph.{is_up_link}
 use Rattle.st_net.specs.Promises.{is_kept, need_of}
+use Rattle.st_net.specs.Asks.{ask_count, ask_of}
 use Rattle.st_flow.specs.Rows.{row_at}
 use Rattle.st_flow.proofs.Rows.{row_at-set_same, row_at-set_other}
 use Rattle.st_promise.specs.declared.kept_flow.Share.{Share}
@@ -26,7 +27,7 @@ use Rattle.st_promise.specs.KeptFlow.{IsEndIn, lost_share, lost, IsEnough, AreKe
 use Rattle.st_promise.specs.Reach.{is_member}
 use Rattle.st_promise.specs.FlowIndex.{IsEntered, AreEntered, AreUntouched}
 use Rattle.st_promise.proofs.KeptLaws.{left_holds, edges_count}
-use Rattle.st_net.proofs.GroupLaws.{promise_at}
+use Rattle.st_net.proofs.GroupLaws.{ask_at}
 use Rattle.st_promise.proofs.BookLaws.{AreFieldsOf, flow_read}
 use Rattle.st_promise.proofs.ShareLaws.{edge_read}
 
@@ -39,14 +40,14 @@ row_low (row ∷ lists) (suc x) j is = let low = row_low lists x j is in omega (
 pub entered_links : (lists : List (Vec ℕ Global)) (i : ℕ) (shares : List Share) → All (IsEntered lists i) shares → All (λ s. s.link < length lists) shares
 entered_links lists i shares all = All-weaker (IsEntered lists i) (λ s. s.link < length lists) (λ s here. row_low lists s.link i here) shares all
 
--- one list is written anew, with all that promise j has in it
+-- one list is written anew, with all that ask j has in it
 pub entered_with : (lists : List (Vec ℕ Global)) (x : ℕ) (new : Vec ℕ Global) (j : ℕ) → x < length lists → (is_member (row_at lists x) j ≡ true → is_member new.items j ≡ true) → (s : Share) → IsEntered lists j s → IsEntered (set lists x new) j s
 entered_with lists x new j low more s here = elim (eqb_tells s.link x) [
   | inl e ↦ (let at : row_at (set lists x new) x ≡ new.items = row_at-set_same lists x new low in rw (e.1, at) (more (rw e.1 at here)))
   | inr e ↦ rw (row_at-set_other lists x s.link new e.1) here
 ]
 
--- the list with one promise more
+-- the list with one ask more
 or_true : (b : Bool) → (b || true) ≡ true
 or_true true = refl
 or_true false = refl
@@ -59,20 +60,20 @@ member_here row i =
     let same : (i == i) ≡ true = grind (arith, nat_tests) in
     rw (list_any-append (λ x. x == i) row (i ∷ []), same) (or_true (list_any (λ x. x == i) row))
 
--- and with promise i taken out
+-- and with ask i taken out
 pub member_filter : (row : List ℕ) (i j : ℕ) → j ≢ i → is_member row j ≡ true → is_member (filter (λ x. not (x == i)) row) j ≡ true
 member_filter row i j other here = rw (any-filter_same (λ x. x == j) (λ x. not (x == i)) true (λ k is. apart k is) row) here
   where
     apart : (k : ℕ) → (k == j) ≡ true → not (k == i) ≡ true
     apart k is = let same : k ≡ j = grind (arith, nat_tests) in let no : (k == i) ≡ false = grind (arith, nat_tests, same, other) in rw no refl
 
--- what the flow that is kept of promise i has in the index
+-- what the flow that is kept of ask i has in the index
 pub entered_at : (lists : List (Vec ℕ Global)) (flows : List (Option KeptFlow)) (i : ℕ) (read : Option KeptFlow) (k : KeptFlow) → AreEntered lists flows → i < length flows → read ≡ get_or flows i read → read ≡ Some k → All (IsEntered lists i) k.shares.items
 entered_at lists flows i read k are low here is =
     let at : slice_index_or flows i None ≡ Some k = sym (get_or_read flows i read low here None) ∙ is in
     rw at at (are i)
 
--- all but promise i are entered
+-- all but ask i are entered
 abbrev pub AreOthersEntered : List (Vec ℕ Global) → List (Option KeptFlow) → ℕ → Type 0
 AreOthersEntered lists flows i = (j : ℕ) → j ≢ i → IfSome (slice_index_or flows j None) (λ k. All (IsEntered lists j) k.shares.items)
 
@@ -94,13 +95,13 @@ entered_new lists flows i flow low others this j = elim (eqb_tells j i) [
 
 -- marks with one link more: what is not marked is in no list of a link that is not up
 abbrev pub AreMarkedTo : Group → (Entity → Bool) → List (Vec ℕ Global) → List Bool → ℕ → Type 0
-AreMarkedTo g up lists marks m = (i link : ℕ) → i < length g.promises → slice_index_or marks i false ≡ false → link < m → is_member (row_at lists link) i ≡ true → is_up_link up link (slice_index_or g.links link no_link) ≡ true
+AreMarkedTo g up lists marks m = (i link : ℕ) → i < ask_count g → slice_index_or marks i false ≡ false → link < m → is_member (row_at lists link) i ≡ true → is_up_link up link (slice_index_or g.links link no_link) ≡ true
 
 still_false : (b c : Bool) → (b ≡ true → c ≡ true) → c ≡ false → b ≡ false
 still_false true c more is = sym (more refl) ∙ is
 still_false false c more is = refl
 
-pub marked_to : (g : Group) (up : Entity → Bool) (lists : List (Vec ℕ Global)) (old new : List Bool) (m : ℕ) → AreMarkedTo g up lists old m → ((i : ℕ) → slice_index_or old i false ≡ true → slice_index_or new i false ≡ true) → ((i : ℕ) → i < length g.promises → slice_index_or new i false ≡ false → is_member (row_at lists m) i ≡ true → is_up_link up m (slice_index_or g.links m no_link) ≡ true) → AreMarkedTo g up lists new (m + 1)
+pub marked_to : (g : Group) (up : Entity → Bool) (lists : List (Vec ℕ Global)) (old new : List Bool) (m : ℕ) → AreMarkedTo g up lists old m → ((i : ℕ) → slice_index_or old i false ≡ true → slice_index_or new i false ≡ true) → ((i : ℕ) → i < ask_count g → slice_index_or new i false ≡ false → is_member (row_at lists m) i ≡ true → is_up_link up m (slice_index_or g.links m no_link) ≡ true) → AreMarkedTo g up lists new (m + 1)
 marked_to g up lists old new m before kept here i link low unmarked less member = elim (cases_lt link m) [
   | inl earlier ↦ before i link low (still_false (slice_index_or old i false) (slice_index_or new i false) (kept i) unmarked) earlier member
   | inr last ↦ (let same : link ≡ m = omega (arith, last, less) in rw same (here i low unmarked (rw same at member)))
@@ -128,7 +129,7 @@ none_lost up shares all =
     let least = sum_by-le (lost_share up) 0 shares (All-weaker (λ s. lost_share up s ≡ 0) (λ s. lost_share up s ≤ 0) (λ s is. omega (arith, is)) shares all) in
     omega (arith, least)
 
--- so a promise holds whose flow goes over links that are up alone, where its first ToR is up
+-- so an ask holds whose flow goes over links that are up alone, where its first ToR is up
 pub untouched_holds : (g : Group) (up : Entity → Bool) (p : Promise) (lists : List (Vec ℕ Global)) (i : ℕ) (k : KeptFlow) → IsSound g → IsPromiseAmong g.devices p → IsEnough (up_network g (λ e. true)) p (need_of g p) k → All (IsEntered lists i) k.shares.items → AreUntouched g up lists i → up (Device p.a) ≡ true → is_kept g up p ≡ true
 untouched_holds g up p lists i k sound promise enough entered untouched first =
     let none = none_lost up k.shares.items (λ j d low.
@@ -137,13 +138,13 @@ untouched_holds g up p lists i k sound promise enough entered untouched first =
     share_stays g up lists i (get_or k.shares.items j d) (rw (edges_count 0 g.links (λ e. true)) at at.0) end untouched (entered j d low)) in
     left_holds g up p k (need_of g p) k.sent sound promise enough.flow refl (rw none (omega arith)) enough.enough first
 
-pub shown_whole : (g : Group) (promises : List Promise) (needs : List ℕ) (whole : Network) (flows : List (Option KeptFlow)) (lists : List (Vec ℕ Global)) (up : Entity → Bool) (i : ℕ) (read : Option KeptFlow) → IsSound g → AreFieldsOf g promises needs whole → AreKeptFlows whole promises needs flows → AreEntered lists flows → i < length g.promises → read ≡ get_or flows i read → AreUntouched g up lists i → is_some read ≡ true → up (Device (promise_of g i).a) ≡ true → is_kept g up (promise_of g i) ≡ true
-shown_whole g promises needs whole flows lists up i None sound are kept entered low here untouched some first = absurd cc
-shown_whole g promises needs whole flows lists up i (Some k) sound are kept entered low here untouched some first =
-    let count = ap (λ (ps : List Promise). length ps) are.promises_are in
-    let enough = flow_read g promises needs whole flows i (Some k) k are kept low here refl in
+pub shown_whole : (g : Group) (pairs : List Promise) (needs : List ℕ) (whole : Network) (flows : List (Option KeptFlow)) (lists : List (Vec ℕ Global)) (up : Entity → Bool) (i : ℕ) (read : Option KeptFlow) → IsSound g → AreFieldsOf g pairs needs whole → AreKeptFlows whole pairs needs flows → AreEntered lists flows → i < ask_count g → read ≡ get_or flows i read → AreUntouched g up lists i → is_some read ≡ true → up (Device (ask_of g i).a) ≡ true → is_kept g up (ask_of g i) ≡ true
+shown_whole g pairs needs whole flows lists up i None sound are kept entered low here untouched some first = absurd cc
+shown_whole g pairs needs whole flows lists up i (Some k) sound are kept entered low here untouched some first =
+    let count = ap (λ (ps : List Promise). length ps) are.asks_are in
+    let enough = flow_read g pairs needs whole flows i (Some k) k are kept low here refl in
     let all = entered_at lists flows i (Some k) k entered (omega (arith, low, count, kept.flows_each)) here refl in
-    untouched_holds g up (promise_of g i) lists i k sound (promise_at _ _ i sound.promises low) enough all untouched first
+    untouched_holds g up (ask_of g i) lists i k sound (ask_at g i sound low) enough all untouched first
 
 pub both_so : (x y : Bool) → (x && y) ≡ true → (x ≡ true) × (y ≡ true)
 both_so true true is = (refl, refl)

@@ -165,7 +165,7 @@ flow_within i (link ∷ links) (sh ∷ shares) up s fits = flow_step i link link
 cut_enough : (sent lost_all cut need : ℕ) (out set_out : ℤ) → pos sent ≤ℤ out → set_out ≡ out → set_out ≤ℤ pos (cut + lost_all) → max need 1 ≤ sent - lost_all → max 1 need ≤ cut
 cut_enough sent lost_all cut need out set_out sends same within left = omega (arith, ints)
 
--- what is left of a kept flow is enough: the promise holds
+-- what is left of a kept flow is enough: the ask holds
 pub left_holds : (g : Group) (up : Entity → Bool) (p : Promise) (k : KeptFlow) (need left : ℕ) → IsSound g → IsPromiseAmong g.devices p → IsKeptFlow (up_network g (λ e. true)) p.a p.b k → need ≡ need_of g p → left ≡ k.sent - lost up k.shares.items → max need 1 ≤ left → up (Device p.a) ≡ true → is_kept g up p ≡ true
 left_holds g up p k need left sound promise kept needs is enough first =
     let least = least_cut-attained (length g.devices) g.links up p.a p.b promise.apart in

@@ -3,9 +3,11 @@ use Rattle.std.proofs.Common.{◌≡◌, ℕ, zero, suc, ◌+◌, ◌*◌, ◌/�
 use Rattle.std.specs.Prelude.{Bool, true, not, ◌&&◌, ◌==◌, Some, slice_index_or, if◌then◌else◌}
 use Rattle.st_net.specs.declared.entity.Entity.{Entity}
 use Rattle.st_net.specs.declared.promise.BrokenKind.TheVariants.{CutOff, Short}
+use Rattle.st_net.specs.declared.promise.BrokenOf.TheVariants.{Promise as of_promise}
 use Rattle.st_net.specs.declared.promise.Promise.{Promise}
 use Rattle.st_net.specs.Cuts.{least_cut, is_in_least_side, numbers_in}
 use Rattle.st_net.specs.Groups.{Group}
+use Rattle.st_net.specs.Asks.{asks}
 use Rattle.st_net.specs.Promises.{is_held, is_kept, broken_at, first_broken}
 use Rattle.st_promise.specs.Same.{HasSameNetwork}
 
@@ -20,14 +22,18 @@ same_by_place past_end (x ∷ xs) (y ∷ ys) (suc n) count past same =
     let rest = same_by_place past_end xs ys n (omega (arith, count)) (omega (arith, past)) (λ k low. same (suc k) (omega (arith, low))) in
     λ i. first i ∷ rest i
 
--- a promise holds in the one exactly where it does in the other
+-- the same is asked of both
+pub same_asks : (g h : Group) → HasSameNetwork g h → asks g ≡ asks h
+same_asks g h same = same.promises
+
+-- an ask holds in the one exactly where it does in the other
 pub same_kept : (g h : Group) (up : Entity → Bool) (p : Promise) → HasSameNetwork g h → is_kept g up p ≡ is_kept h up p
 same_kept g h up p same = λ i. is_held (same.devices i) (same.links i) ((p.percent * least_cut (same.devices i) (same.links i) (λ e. true) p.a p.b + 99) / 100) p.a p.b up
 
 -- and is broken in the same way
 same_break : (g h : Group) (up : Entity → Bool) (k : ℕ) (p : Promise) → HasSameNetwork g h → broken_at g up k p ≡ broken_at h up k p
 same_break g h up k p same = λ i. record {
-  promise = k;
+  of = of_promise k;
   kind = if least_cut (same.devices i) (same.links i) up p.a p.b == 0 then CutOff else Short;
   need = (p.percent * least_cut (same.devices i) (same.links i) (λ e. true) p.a p.b + 99) / 100;
   has = least_cut (same.devices i) (same.links i) up p.a p.b;

@@ -1,11 +1,13 @@
--- Promises judged in order, up to the first that a change breaks: what the changes of a few of them tell.
+-- Asks judged in order, up to the first that a change breaks: what the changes of a few of them tell.
 use Rattle.std.proofs.Common.{◌≡◌, ℕ, ◌+◌, ◌-◌, ◌<◌, List, [], ◌∷◌, ◌++◌, zero, suc, length, map, take, drop, All, Vec, Global, refl, ap, subst, ◌∙◌, sym, arith}
 use Rattle.std.specs.Prelude.{Bool, true, false, not, Some, None, Result, Ok, Err, IfOk, MatchResult, ◌&&◌, slice_index_or, if◌then◌else◌}
 use Rattle.std.specs.List.{AllZip, Contains, range_with_len, filter}
 use Rattle.st_net.specs.declared.entity.Entity.{Entity}
 use Rattle.st_net.specs.declared.promise.Broken.{Broken}
-use Rattle.st_net.specs.Groups.{Group, no_promise, promise_of}
+use Rattle.st_net.specs.Groups.{Group, no_promise}
 use Rattle.st_net.specs.Promises.{is_kept, is_broken, broken_at, first_broken}
+use Rattle.st_net.specs.Asks.{asks, ask_count, ask_of}
+use Rattle.st_net.specs.Demands.{broken_demand}
 use Rattle.st_flow.specs.Network.{Network}
 use Rattle.rayon.proofs.ListFacts.{AllZip-weaken}
 use Rattle.st_promise.specs.declared.change.Change.{Change}
@@ -65,7 +67,7 @@ rest_known known i n low is = let next : n - i ≡ suc (n - (i + 1)) = omega ari
 rest_open : (known : List Bool) (i n : ℕ) → i < n → slice_index_or known i false ≡ false → filter (is_open known) (range_with_len i (n - i)) ≡ i ∷ filter (is_open known) (range_with_len (i + 1) (n - (i + 1)))
 rest_open known i n low is = let next : n - i ≡ suc (n - (i + 1)) = omega arith in rw (next, is) refl
 
--- the open ones are numbers of promises
+-- the open ones are numbers of asks
 pub open_below : (known : List Bool) (i n most : ℕ) → All (λ k. k < n) (take most (open_from known i n))
 open_below known i n most = All-take (λ k. k < n) most (open_from known i n) (All-filter (is_open known) (λ k. k < n) (range_with_len i (n - i)) (λ k d low.
     let count = length-range_with_len i (n - i) in
@@ -91,28 +93,28 @@ filled g before after those most changes each count =
     let these : take (length changes - 0) those ≡ take most those = ap (λ n. take n those) (whole ∙ count) ∙ take_as_many those most in
     subst (λ (l : List ℕ). AllZip (IsChange g before after) l changes) (sym these) each
 
--- a promise that is known is passed over
-pub ahead_known : (g : Group) (before after : Entity → Bool) (known : List Bool) (i : ℕ) (ahead : Ahead) → i < length g.promises → slice_index_or known i false ≡ true → IsAheadAt g before after known i ahead → IsAheadAt g before after known (i + 1) ahead
+-- an ask that is known is passed over
+pub ahead_known : (g : Group) (before after : Entity → Bool) (known : List Bool) (i : ℕ) (ahead : Ahead) → i < ask_count g → slice_index_or known i false ≡ true → IsAheadAt g before after known i ahead → IsAheadAt g before after known (i + 1) ahead
 ahead_known g before after known i ahead low mark is = record {
   networks = is.networks;
   place = is.place;
   most = is.most;
-  changes = subst (λ (those : List ℕ). AllZip (IsChange g before after) (take (length ahead.changes.items - ahead.place) those) (drop ahead.place ahead.changes.items)) (rest_known known i (length g.promises) low mark) is.changes;
+  changes = subst (λ (those : List ℕ). AllZip (IsChange g before after) (take (length ahead.changes.items - ahead.place) those) (drop ahead.place ahead.changes.items)) (rest_known known i (ask_count g) low mark) is.changes;
 }
 
--- the next one that is judged ahead is of an open promise, and the rest of those behind it
-first_ahead : (g : Group) (before after : Entity → Bool) (known : List Bool) (i : ℕ) (ahead : Ahead) (change : Change) → i < length g.promises → slice_index_or known i false ≡ false → ahead.place < length ahead.changes.items → change ≡ slice_index_or ahead.changes.items ahead.place change → IsAheadAt g before after known i ahead
-    → IsChange g before after i change × AllZip (IsChange g before after) (take (length ahead.changes.items - (ahead.place + 1)) (open_from known (i + 1) (length g.promises))) (drop (ahead.place + 1) ahead.changes.items)
+-- the next one that is judged ahead is of an open ask, and the rest of those behind it
+first_ahead : (g : Group) (before after : Entity → Bool) (known : List Bool) (i : ℕ) (ahead : Ahead) (change : Change) → i < ask_count g → slice_index_or known i false ≡ false → ahead.place < length ahead.changes.items → change ≡ slice_index_or ahead.changes.items ahead.place change → IsAheadAt g before after known i ahead
+    → IsChange g before after i change × AllZip (IsChange g before after) (take (length ahead.changes.items - (ahead.place + 1)) (open_from known (i + 1) (ask_count g))) (drop (ahead.place + 1) ahead.changes.items)
 first_ahead g before after known i ahead change low unmarked within at is =
     let one_more : length ahead.changes.items - ahead.place ≡ suc (length ahead.changes.items - (ahead.place + 1)) = omega (arith, within) in
     let next = drop_more ahead.changes.items ahead.place change within ∙ ap (λ x. x ∷ drop (ahead.place + 1) ahead.changes.items) (sym at) in
-    let those = rest_open known i (length g.promises) low unmarked in
+    let those = rest_open known i (ask_count g) low unmarked in
     rw (one_more, those, next) at is.changes
 
-pub change_ahead : (g : Group) (before after : Entity → Bool) (known : List Bool) (i : ℕ) (ahead : Ahead) (change : Change) → i < length g.promises → slice_index_or known i false ≡ false → ahead.place < length ahead.changes.items → change ≡ slice_index_or ahead.changes.items ahead.place change → IsAheadAt g before after known i ahead → IsChange g before after i change
+pub change_ahead : (g : Group) (before after : Entity → Bool) (known : List Bool) (i : ℕ) (ahead : Ahead) (change : Change) → i < ask_count g → slice_index_or known i false ≡ false → ahead.place < length ahead.changes.items → change ≡ slice_index_or ahead.changes.items ahead.place change → IsAheadAt g before after known i ahead → IsChange g before after i change
 change_ahead g before after known i ahead change low unmarked within at is = (first_ahead g before after known i ahead change low unmarked within at is).0
 
-pub ahead_open : (g : Group) (before after : Entity → Bool) (known : List Bool) (i : ℕ) (ahead next : Ahead) (change : Change) → i < length g.promises → slice_index_or known i false ≡ false → ahead.place < length ahead.changes.items → change ≡ slice_index_or ahead.changes.items ahead.place change → IsAheadAt g before after known i ahead
+pub ahead_open : (g : Group) (before after : Entity → Bool) (known : List Bool) (i : ℕ) (ahead next : Ahead) (change : Change) → i < ask_count g → slice_index_or known i false ≡ false → ahead.place < length ahead.changes.items → change ≡ slice_index_or ahead.changes.items ahead.place change → IsAheadAt g before after known i ahead
     → next ≡ record { networks = ahead.networks; changes = ahead.changes; place = ahead.place + 1; most = ahead.most } → IsAheadAt g before after known (i + 1) next
 ahead_open g before after known i ahead next change low unmarked within at is same = rw same (record {
   networks = is.networks;
@@ -122,16 +124,16 @@ ahead_open g before after known i ahead next change low unmarked within at is sa
 })
 
 -- an answer more
-pub told_more : (g : Group) (after : Entity → Bool) (i : ℕ) (holds : List Bool) (b : Bool) → i < length g.promises → is_kept g after (promise_of g i) ≡ b → holds ≡ take i (map (is_kept g after) g.promises) → holds ++ b ∷ [] ≡ take (i + 1) (map (is_kept g after) g.promises)
+pub told_more : (g : Group) (after : Entity → Bool) (i : ℕ) (holds : List Bool) (b : Bool) → i < ask_count g → is_kept g after (ask_of g i) ≡ b → holds ≡ take i (map (is_kept g after) (asks g)) → holds ++ b ∷ [] ≡ take (i + 1) (map (is_kept g after) (asks g))
 told_more g after i holds b low kept is =
-    let count = length-map g.promises (is_kept g after) in
-    let here = get_or-map (is_kept g after) g.promises i no_promise b low ∙ kept in
-    ap (λ (l : List Bool). l ++ b ∷ []) is ∙ ap (λ (x : Bool). take i (map (is_kept g after) g.promises) ++ x ∷ []) (sym here) ∙ sym (take_more (map (is_kept g after) g.promises) i b (omega (arith, low, count)))
+    let count = length-map (asks g) (is_kept g after) in
+    let here = get_or-map (is_kept g after) (asks g) i no_promise b low ∙ kept in
+    ap (λ (l : List Bool). l ++ b ∷ []) is ∙ ap (λ (x : Bool). take i (map (is_kept g after) (asks g)) ++ x ∷ []) (sym here) ∙ sym (take_more (map (is_kept g after) (asks g)) i b (omega (arith, low, count)))
 
--- the change breaks the promise: it is the first, and it is told of all up to it
-pub breaks_here : (g : Group) (before after : Entity → Bool) (i : ℕ) (broken : Broken) → i < length g.promises → (is_broken g before after (promise_of g i) ≡ true) × (broken ≡ broken_at g after i (promise_of g i)) → first_broken g before after i (drop i g.promises) ≡ first_broken g before after 0 g.promises → Some broken ≡ first_broken g before after 0 g.promises
+-- the change breaks the ask: it is the first, and it is told of all up to it
+pub breaks_here : (g : Group) (before after : Entity → Bool) (i : ℕ) (broken : Broken) → i < ask_count g → (is_broken g before after (ask_of g i) ≡ true) × (broken ≡ broken_at g after i (ask_of g i)) → first_broken g before after i (drop i (asks g)) ≡ first_broken g before after 0 (asks g) → Some broken ≡ first_broken g before after 0 (asks g)
 breaks_here g before after i broken low is first =
-    let here : Some broken ≡ (if is_broken g before after (promise_of g i) then Some (broken_at g after i (promise_of g i)) else None) = rw is.0 (ap Some is.1) in
+    let here : Some broken ≡ (if is_broken g before after (ask_of g i) then Some (broken_at g after i (ask_of g i)) else None) = rw is.0 (ap Some is.1) in
     sym (broken_here g before after i broken low here) ∙ first
 
 fails_after : (kept_before kept_after : Bool) → (kept_before && not kept_after) ≡ true → kept_after ≡ false
@@ -140,6 +142,6 @@ fails_after true false is = refl
 fails_after false true is = cc
 fails_after false false is = refl
 
-pub breaks_told : (g : Group) (before after : Entity → Bool) (i : ℕ) (broken : Broken) (holds : List Bool) → i < length g.promises → (is_broken g before after (promise_of g i) ≡ true) × (broken ≡ broken_at g after i (promise_of g i)) → holds ≡ take i (map (is_kept g after) g.promises) → holds ++ false ∷ [] ≡ take (told_to g (Some broken)) (map (is_kept g after) g.promises)
+pub breaks_told : (g : Group) (before after : Entity → Bool) (i : ℕ) (broken : Broken) (holds : List Bool) → i < ask_count g → (is_broken g before after (ask_of g i) ≡ true) × (broken ≡ broken_at g after i (ask_of g i)) → holds ≡ take i (map (is_kept g after) (asks g)) → holds ++ false ∷ [] ≡ take (told_to g (Some broken)) (map (is_kept g after) (asks g))
 breaks_told g before after i broken holds low is told =
-    told_more g after i holds false low (fails_after (is_kept g before (promise_of g i)) (is_kept g after (promise_of g i)) is.0) told ∙ ap (λ (b : Broken). take (b.promise + 1) (map (is_kept g after) g.promises)) (sym is.1)
+    told_more g after i holds false low (fails_after (is_kept g before (ask_of g i)) (is_kept g after (ask_of g i)) is.0) told ∙ ap (λ (b : Broken). take (broken_demand g b + 1) (map (is_kept g after) (asks g))) (sym is.1)

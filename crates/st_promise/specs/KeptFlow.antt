@@ -48,13 +48,13 @@ lost_share up s = if up (Link s.link) && up (Device s.head) then 0 else s.amount
 abbrev pub lost : (Entity → Bool) → List Share → ℕ
 lost up shares = sum_by (lost_share up) shares
 
--- a kept flow that is enough for a promise of this need, and shows a walk
+-- a kept flow that is enough for an ask of this need, and shows a walk
 pub record IsEnough (net : Network) (p : Promise) (need : ℕ) (k : KeptFlow) : Type 0 where
   pub flow : IsKeptFlow net p.a p.b k
   pub enough : max need 1 ≤ k.sent
 
--- for each promise its need, and a flow that is enough for it or none
-pub record AreKeptFlows (net : Network) (promises : List Promise) (needs : List ℕ) (flows : List (Option KeptFlow)) : Type 0 where
-  pub needs_each : length needs ≡ length promises
-  pub flows_each : length flows ≡ length promises
-  pub each : (i : ℕ) → i < length promises → IfSome (slice_index_or flows i None) (IsEnough net (slice_index_or promises i no_promise) (slice_index_or needs i 0))
+-- for each of these asks its need, and a flow that is enough for it or none
+pub record AreKeptFlows (net : Network) (pairs : List Promise) (needs : List ℕ) (flows : List (Option KeptFlow)) : Type 0 where
+  pub needs_each : length needs ≡ length pairs
+  pub flows_each : length flows ≡ length pairs
+  pub each : (i : ℕ) → i < length pairs → IfSome (slice_index_or flows i None) (IsEnough net (slice_index_or pairs i no_promise) (slice_index_or needs i 0))

@@ -27,7 +27,7 @@ up_network g up = record { nodes = length g.devices; edges = up_edges 0 g.links 
 abbrev pub baseline_of : Group → ℕ → ℕ → ℕ
 baseline_of g a b = least_cut (length g.devices) g.links (λ e. true) a b
 
--- the least cut of a promise's pair, with the least side
+-- the least cut of a pair, with the least side
 pub record IsLeastCutOf (g : Group) (up : Entity → Bool) (p : Promise) (cut : Cut) : Type 0 where
   pub value : cut.value ≡ least_cut (length g.devices) g.links up p.a p.b
   pub side : cut.side.items ≡ numbers_in (length g.devices) (is_in_least_side (length g.devices) g.links up p.a p.b)

@@ -1,8 +1,9 @@
-//! The book of a group: what each of its promises needs, computed once, and a flow that showed that it holds. Whoever judges a
-//! proposal asks it, with sets of entities that are up.
+//! The book of a group: what each of its asks needs, computed once, and a flow that showed that it holds. Whoever judges a
+//! proposal turns to it, with sets of entities that are up.
 
 ghost use Rattle.std.specs.Prelude.{◌≡◌, ℕ, ◌<◌, length, map, true, is_some, ◌&&◌, slice_get, slice_index_or, Some, None, IfOk, IfSome};
 ghost use Rattle.st_net.specs.declared.entity.Entity.TheVariants.{Device};
+ghost use Rattle.st_net.specs.Asks.{ask_count, ask_of, asks};
 ghost use Rattle.st_net.specs.Groups.{promise_of};
 ghost use Rattle.st_net.specs.Sets.{is_in, MarksOf};
 ghost use Rattle.st_net.specs.Demands.{first_broken_of};
@@ -21,14 +22,14 @@ use st_net::{Broken, Entity, EntitySet, GroupTopo, Promise};
 use std::alloc::{AllocError, Global};
 use std::marker::Model;
 
-/// What each promise of a group needs, for each the flow that showed last that it holds, where one is kept, and the promises that
-/// were last found to fail. Contracts see the needs, in the order of the promises, what flows are kept of, and how many runs of a
+/// What each ask of a group needs, for each the flow that showed last that it holds, where one is kept, and the asks that
+/// were last found to fail. Contracts see the needs, in the order of the asks, what flows are kept of, and how many runs of a
 /// flow were counted.
 #[derive(Drop)]
 pub struct Book {
     pub(crate) alloc: Global,
     pub(crate) needs: Vec<u64>,
-    pub(crate) promises: Vec<Promise>,
+    pub(crate) asks: Vec<Promise>,
     pub(crate) whole: UpNetwork,
     pub(crate) flows: Vec<Option<KeptFlow>>,
     pub(crate) index: FlowIndex,
@@ -42,30 +43,30 @@ impl Model for Book {
 
     ghost Value = { BookView };
 
-    ghost view = { λ b. record { of = record { needs = b.needs.items; promises = b.promises.items; whole = b.whole }; flows_run = b.flows_run } };
+    ghost view = { λ b. record { of = record { needs = b.needs.items; asks = b.asks.items; whole = b.whole }; flows_run = b.flows_run } };
 
-    ghost invariant = { λ b. IsBook (record { needs = b.needs.items; promises = b.promises.items; whole = b.whole }) b.flows.items b.index.lists.items b.failing };
+    ghost invariant = { λ b. IsBook (record { needs = b.needs.items; asks = b.asks.items; whole = b.whole }) b.flows.items b.index.lists.items b.failing };
 }
 
-/// The promises of a group.
-fn promises_of(alloc: Global, topo: &GroupTopo) -> Result<Vec<Promise>, AllocError>
-    ensures { IfOk result (λ promises. promises.items ≡ topo.now.promises) }
+/// The asks of a group.
+fn asks_of(alloc: Global, topo: &GroupTopo) -> Result<Vec<Promise>, AllocError>
+    ensures { IfOk result (λ those. those.items ≡ asks topo.now) }
 {
-    let mut promises = Vec::with_capacity(alloc, topo.promise_count() as usize)?;
-    for i in 0..topo.promise_count() {
-        promises.push(topo.promise(i))?;
+    let mut those = Vec::with_capacity(alloc, topo.ask_count() as usize)?;
+    for i in 0..topo.ask_count() {
+        those.push(topo.ask(i))?;
     }
-    Ok(promises)
+    Ok(those)
 }
 
-/// What a promise needs, and the least cut that it is a share of: 0 for one of 0 percent.
+/// What an ask needs, and the least cut that it is a share of: 0 for one of 0 percent.
 #[derive(Clone, Copy, Debug, PartialEq, Eq)]
 struct Needed {
     need: u64,
     of: u64,
 }
 
-/// What promise number `i` needs.
+/// What ask number `i` needs.
 fn need_of(
     alloc: Global,
     topo: &GroupTopo,
@@ -75,23 +76,23 @@ fn need_of(
 ) -> Result<Needed, AllocError>
     requires whole { whole.now ≡ up_network topo.now (λ e. true) }
     requires tree { IsCutTree topo.now tree.now }
-    requires promise { i < length topo.now.promises }
-    ensures { IfOk result (λ needed. needed.need ≡ need_of_lem topo.now (promise_of topo.now i)) }
+    requires ask { i < ask_count topo.now }
+    ensures { IfOk result (λ needed. needed.need ≡ need_of_lem topo.now (ask_of topo.now i)) }
 {
     topo.is_sound();
-    let promise = topo.promise(i);
-    if promise.percent == 0 {
+    let ask = topo.ask(i);
+    if ask.percent == 0 {
         return Ok(Needed { need: 0, of: 0 });
     }
-    let baseline = tree.least(alloc, topo, whole, promise.a, promise.b)?;
-    let share = u64::from(promise.percent) * baseline;
+    let baseline = tree.least(alloc, topo, whole, ask.a, ask.b)?;
+    let share = u64::from(ask.percent) * baseline;
     Ok(Needed {
         need: share.div_ceil(100),
         of: baseline,
     })
 }
 
-/// What each promise needs; the least cuts that they are shares of are added to `least`.
+/// What each ask needs; the least cuts that they are shares of are added to `least`.
 fn needs_of(
     alloc: Global,
     topo: &GroupTopo,
@@ -99,11 +100,11 @@ fn needs_of(
     least: &mut Vec<u64>,
 ) -> Result<Vec<u64>, AllocError>
     requires whole { whole.now ≡ up_network topo.now (λ e. true) }
-    ensures needs { IfOk result (λ needs. needs.items ≡ map (need_of_lem topo.now) topo.now.promises) }
+    ensures needs { IfOk result (λ needs. needs.items ≡ map (need_of_lem topo.now) (asks topo.now)) }
 {
     let tree = CutTree::of(alloc, topo, whole)?;
-    let mut needs = Vec::with_capacity(alloc, topo.promise_count() as usize)?;
-    for i in 0..topo.promise_count() {
+    let mut needs = Vec::with_capacity(alloc, topo.ask_count() as usize)?;
+    for i in 0..topo.ask_count() {
         let needed = need_of(alloc, topo, whole, &tree, i)?;
         needs.push(needed.need)?;
         least.push(needed.of)?;
@@ -111,13 +112,13 @@ fn needs_of(
     Ok(needs)
 }
 
-/// No flow for each promise.
-fn no_flows(alloc: Global, promises: u32) -> Result<Vec<Option<KeptFlow>>, AllocError>
-    ensures count { IfOk result (λ flows. length flows.items ≡ promises) }
+/// No flow for each of so many asks.
+fn no_flows(alloc: Global, count: u32) -> Result<Vec<Option<KeptFlow>>, AllocError>
+    ensures count { IfOk result (λ flows. length flows.items ≡ count) }
     ensures none { IfOk result (λ flows. (i : ℕ) → slice_index_or flows.items i None ≡ None) }
 {
-    let mut flows = Vec::with_capacity(alloc, promises as usize)?;
-    for _ in 0..promises {
+    let mut flows = Vec::with_capacity(alloc, count as usize)?;
+    for _ in 0..count {
         flows.push(None)?;
     }
     Ok(flows)
@@ -132,7 +133,7 @@ fn starts(flow: &Option<KeptFlow>, first: u32, up: &EntitySet) -> bool
 }
 
 impl Book {
-    /// A book that keeps no flow yet, and the least cut of each promise of more than 0 percent.
+    /// A book that keeps no flow yet, and the least cut of each ask of more than 0 percent.
     fn open(alloc: Global, topo: &GroupTopo, least: &mut Vec<u64>) -> Result<Book, AllocError>
         ensures book { IfOk result (λ book. IsBookOf topo.now book.of) }
         ensures no_runs { IfOk result (λ book. book.flows_run ≡ 0) }
@@ -142,23 +143,23 @@ impl Book {
         Ok(Book {
             alloc,
             needs,
-            promises: promises_of(alloc, topo)?,
+            asks: asks_of(alloc, topo)?,
             whole,
-            flows: no_flows(alloc, topo.promise_count())?,
+            flows: no_flows(alloc, topo.ask_count())?,
             index: FlowIndex::new(alloc, topo.link_count())?,
             failing: None,
             flows_run: 0,
         })
     }
 
-    /// The book of a group. It finds the least cut of each promise of more than 0 percent, and the flows to keep.
+    /// The book of a group. It finds the least cut of each ask of more than 0 percent, and the flows to keep.
     pub fn start(alloc: Global, topo: &GroupTopo) -> Result<Book, AllocError>
         ensures book { IfOk result (λ book. IsBookOf topo.now book.of) }
         ensures no_runs { IfOk result (λ book. book.flows_run ≡ 0) }
     {
         let mut least = Vec::new(alloc);
         let mut book = Book::open(alloc, topo, &mut least)?;
-        for i in 0..topo.promise_count() {
+        for i in 0..topo.ask_count() {
             let ample = least.as_slice().get(i as usize).copied().unwrap_or(0);
             book.keep_first(topo, i, ample);
         }
@@ -173,7 +174,7 @@ impl Book {
         self.needs[i as usize]
     }
 
-    /// What each promise needs, in their order.
+    /// What each ask needs, in their order.
     pub fn needs(&self) -> &[u64]
         ensures { result.now ≡ self.now.of.needs }
     {
@@ -207,30 +208,30 @@ impl Book {
         Ok(self.failing_cut(topo, up, &mut network, i)?.is_none())
     }
 
-    /// Whether each promise, in order, holds while these entities are up, as far as the kept flows show it: each that is marked
+    /// Whether each ask, in order, holds while these entities are up, as far as the kept flows show it: each that is marked
     /// does. No flow is run, and only those flows are looked through that a link carries which is not up.
     pub fn shown_in(&self, topo: &GroupTopo, up: &EntitySet) -> Result<Vec<bool>, AllocError>
         requires book { IsBookOf topo.now self.now.of }
         requires marks { MarksOf topo.now up.now }
-        ensures count { IfOk result (λ shown. length shown.items ≡ length topo.now.promises) }
+        ensures count { IfOk result (λ shown. length shown.items ≡ ask_count topo.now) }
         ensures kept { IfOk result (λ shown. AreKept topo.now (is_in up.now) shown.items) }
     {
         topo.is_sound();
-        let mut shown = Vec::with_capacity(self.alloc, topo.promise_count() as usize)?;
+        let mut shown = Vec::with_capacity(self.alloc, topo.ask_count() as usize)?;
         let touched = self.index.touched(self.alloc, topo, up)?;
-        for i in 0..topo.promise_count() {
+        for i in 0..topo.ask_count() {
             let holds = if is_marked(touched.as_slice(), i) {
                 self.shows(topo, up, i)
             } else {
-                starts(&self.flows[i as usize], self.promises[i as usize].a, up)
+                starts(&self.flows[i as usize], self.asks[i as usize].a, up)
             };
             shown.push(holds)?;
         }
         Ok(shown)
     }
 
-    /// The first promise, in order, that holds before and not after: how it breaks, what it needs, and the least cut that is
-    /// left, with its least side. It looks only at promises whose kept flow has lost so much that it shows no more that they
+    /// The first demand, in order, that holds before and not after: how it breaks, what it needs, and the least cut that is
+    /// left, with its least side. It looks only at asks whose kept flow has lost so much that it shows no more that they
     /// hold, and builds the network of each set at most once, where one of these is met. What the book tells of the group
     /// stays, also after want of memory.
     pub fn judge_pairs(
@@ -250,8 +251,8 @@ impl Book {
         self.judge_rest(topo, &[], before, after)
     }
 
-    /// The same answer, where some promises are known to hold after: number `i` where `known` is true there. These are not
-    /// looked at, and where all promises are known to hold, nothing is.
+    /// The same answer, where some asks are known to hold after: number `i` where `known` is true there. These are not
+    /// looked at, and where all asks are known to hold, nothing is.
     pub fn judge_rest(
         &mut self,
         topo: &GroupTopo,
@@ -268,7 +269,7 @@ impl Book {
         ensures runs { HasNotFallen self.old self.new }
         ensures rises { IfOk result (λ broken. IfSome broken (λ _. HasRisen self.old self.new)) }
     {
-        // Where all promises are known to hold, nothing is looked at.
+        // Where all asks are known to hold, nothing is looked at.
         if are_all_marked(topo, known) {
             return Ok(None);
         }

@@ -1,14 +1,14 @@
-//! What a change of what is up does to a promise, found by a book or by the networks of what is up.
+//! What a change of what is up does to an ask, found by a book or by the networks of what is up.
 
 use st_net::Broken;
 
-/// What a change does to a promise.
+/// What a change does to an ask.
 #[derive(Drop)]
 pub(crate) enum Change {
-    /// The promise holds after it.
+    /// The ask holds after it.
     Holds,
-    /// The promise failed before it, and fails after it.
+    /// The ask failed before it, and fails after it.
     Failed,
-    /// The promise held before it, and is broken so after it.
+    /// The ask held before it, and is broken so after it.
     Breaks(Broken),
 }

@@ -1,6 +1,6 @@
 //! Least cuts with everything up: those of all pairs of ToRs from few. Each ToR but the first has the least cut between it and
 //! an earlier one. The least value of a pair is at least the least on the way between the two, and at most that of each cut that
-//! separates them: where both are one number, that is it. A book takes from here what its promises are shares of.
+//! separates them: where both are one number, that is it. A book takes from here what its asks are shares of.
 
 ghost use Rattle.std.specs.Prelude.{◌≡◌, ◌≢◌, ℕ, ◌-◌, ◌<◌, ◌≤◌, Bool, true, All, length, slice_index_or, IfOk, IfSome};
 ghost use Rattle.st_net.specs.Cuts.{cut_value};
@@ -27,17 +27,17 @@ pub(crate) struct CutTree {
     pub(crate) branches: Vec<Branch>,
 }
 
-/// The ToRs that have a promise of more than 0 percent.
-fn promised_tors(alloc: Global, topo: &GroupTopo) -> Result<Vec<u32>, AllocError>
+/// The ToRs of which more than 0 percent is asked.
+fn asked_tors(alloc: Global, topo: &GroupTopo) -> Result<Vec<u32>, AllocError>
     ensures { IfOk result (λ tors. All (λ d. d < length topo.now.devices) tors.items) }
 {
     topo.is_sound();
     let mut marks = vec![in alloc; false; topo.device_count() as usize]?;
-    for i in 0..topo.promise_count() {
-        let promise = topo.promise(i);
-        if promise.percent > 0 {
-            marks[promise.a as usize] = true;
-            marks[promise.b as usize] = true;
+    for i in 0..topo.ask_count() {
+        let ask = topo.ask(i);
+        if ask.percent > 0 {
+            marks[ask.a as usize] = true;
+            marks[ask.b as usize] = true;
         }
     }
     let mut tors = Vec::new(alloc);
@@ -111,8 +111,8 @@ fn adopt(parents: &mut [usize], tors: &[u32], k: usize, side: &[bool])
 }
 
 impl CutTree {
-    /// The tree of the ToRs that have promises; of none where these are more than the promises, so that no more cuts are found
-    /// than there are promises.
+    /// The tree of the ToRs of which something is asked; of none where these are more than the asks, so that no more cuts are
+    /// found than there are asks.
     pub(crate) fn of(
         alloc: Global,
         topo: &GroupTopo,
@@ -121,8 +121,8 @@ impl CutTree {
         requires whole { whole.now ≡ up_network topo.now (λ e. true) }
         ensures { IfOk result (IsCutTree topo.now) }
     {
-        let tors = promised_tors(alloc, topo)?;
-        let count = if tors.len() > topo.promise_count() as usize {
+        let tors = asked_tors(alloc, topo)?;
+        let count = if tors.len() > topo.ask_count() as usize {
             0
         } else {
             tors.len()

@@ -1,7 +1,8 @@
-//! The promises that fail already. A book keeps which were found to fail, and with which entities up: while no more than these are
+//! The asks that fail already. A book keeps which were found to fail, and with which entities up: while no more than these are
 //! up they go on to fail, and no change breaks them.
 
 ghost use Rattle.std.specs.Prelude.{◌≡◌, length, replicate, false, IfOk};
+ghost use Rattle.st_net.specs.Asks.{ask_count};
 ghost use Rattle.st_net.specs.Sets.{is_in, MarksOf};
 ghost use Rattle.st_promise.specs.Book.{IsBookOf, AreFailing};
 
@@ -10,7 +11,7 @@ use crate::within::is_within;
 use st_net::{EntitySet, GroupTopo};
 use std::alloc::{AllocError, Global};
 
-/// Promises that were found to fail, and the entities that were up then.
+/// Asks that were found to fail, and the entities that were up then.
 #[derive(Drop)]
 pub(crate) struct Failing {
     pub(crate) up: EntitySet,
@@ -32,7 +33,7 @@ fn copied(alloc: Global, marks: &[bool]) -> Result<Vec<bool>, AllocError>
 }
 
 impl Book {
-    /// Whether each promise, in order, is known to fail while these entities are up: those that were found to fail, where no other
+    /// Whether each ask, in order, is known to fail while these entities are up: those that were found to fail, where no other
     /// entity was down then. Elsewhere none is known.
     pub(crate) fn failing_in(
         &self,
@@ -41,7 +42,7 @@ impl Book {
     ) -> Result<Vec<bool>, AllocError>
         requires book { IsBookOf topo.now self.now.of }
         requires marks { MarksOf topo.now up.now }
-        ensures count { IfOk result (λ fails. length fails.items ≡ length topo.now.promises) }
+        ensures count { IfOk result (λ fails. length fails.items ≡ ask_count topo.now) }
         ensures fails { IfOk result (λ fails. AreFailing topo.now (is_in up.now) fails.items) }
     {
         topo.keeps_with_more();
@@ -52,16 +53,16 @@ impl Book {
                 return Ok(fails);
             }
         }
-        let none = unmarked(self.alloc, topo.promise_count())?;
+        let none = unmarked(self.alloc, topo.ask_count())?;
         Ok(none)
     }
 
-    /// Keeps which promises fail while these entities are up, where some do and it was not known of them. Where memory is refused,
+    /// Keeps which asks fail while these entities are up, where some do and it was not known of them. Where memory is refused,
     /// what was kept before stays.
     pub(crate) fn keep_failing(&mut self, topo: &GroupTopo, up: &EntitySet, marks: Vec<bool>)
         requires book { IsBookOf topo.now self.old.of }
         requires marks { MarksOf topo.now up.now }
-        requires count { length marks.items ≡ length topo.now.promises }
+        requires count { length marks.items ≡ ask_count topo.now }
         requires fails { AreFailing topo.now (is_in up.now) marks.items }
         ensures same { self.new ≡ self.old }
     {
@@ -73,7 +74,7 @@ impl Book {
         }
     }
 
-    /// Whether just these promises are kept as failing.
+    /// Whether just these asks are kept as failing.
     fn knows_failing(&self, marks: &[bool]) -> bool {
         match &self.failing {
             Some(failing) => failing.marks.as_slice() == marks,

@@ -1,8 +1,8 @@
-//! What the network of what is up tells of a promise: a flow that shows that it holds, or the least cut. A book keeps the flow.
+//! What the network of what is up tells of an ask: a flow that shows that it holds, or the least cut. A book keeps the flow.
 
 use st_flow::{Cut, Flow};
 
-/// What was found of a promise.
+/// What was found of an ask.
 #[derive(Drop)]
 pub(crate) enum Finding {
     /// It holds, as this flow of so much shows.

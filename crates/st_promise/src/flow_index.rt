@@ -1,7 +1,8 @@
-//! Which promises a link matters to: for each link those whose kept flow it carries. A book marks by it the few promises that a lost
+//! Which asks a link matters to: for each link those whose kept flow it carries. A book marks by it the few asks that a lost
 //! link concerns, and looks through the flows of these alone.
 
 ghost use Rattle.std.specs.Prelude.{◌≡◌, ◌≢◌, ℕ, ◌<◌, ◌⊎◌, All, true, false, length, slice_index_or, slice_set, Some, None, IfOk, OnOk};
+ghost use Rattle.st_net.specs.Asks.{ask_count};
 ghost use Rattle.st_net.specs.Groups.{no_link};
 ghost use Rattle.st_net.specs.Sets.{is_in, MarksOf};
 ghost use Rattle.st_net.specs.UpGraph.{is_up_link};
@@ -16,20 +17,20 @@ use crate::up::is_up;
 use st_net::{EntitySet, GroupTopo};
 use std::alloc::{AllocError, Global};
 
-/// For each link the numbers of the promises whose kept flow it carries, in no order. It is a filter: a number too many costs a look.
+/// For each link the numbers of the asks whose kept flow it carries, in no order. It is a filter: a number too many costs a look.
 #[derive(Drop)]
 pub(crate) struct FlowIndex {
     pub(crate) lists: Vec<Vec<u32>>,
 }
 
-/// Marks these promises; a number past the end of the marks is left out.
-fn mark_all(promises: &[u32], marks: &mut [bool])
+/// Marks these asks; a number past the end of the marks is left out.
+fn mark_all(asks: &[u32], marks: &mut [bool])
     ensures count { length marks.new ≡ length marks.old }
-    ensures marked { (i : ℕ) → i < length marks.old → is_member promises.now i ≡ true → slice_index_or marks.new i false ≡ true }
+    ensures marked { (i : ℕ) → i < length marks.old → is_member asks.now i ≡ true → slice_index_or marks.new i false ≡ true }
     ensures kept { (i : ℕ) → slice_index_or marks.old i false ≡ true → slice_index_or marks.new i false ≡ true }
 {
-    for promise in promises {
-        let place = *promise as usize;
+    for ask in asks {
+        let place = *ask as usize;
         if place < marks.len() {
             marks[place] = true;
         }
@@ -48,7 +49,7 @@ impl FlowIndex {
         Ok(FlowIndex { lists })
     }
 
-    /// Enters promise number `i` at each link that the flow goes over. After want of memory it is entered at some of them.
+    /// Enters ask number `i` at each link that the flow goes over. After want of memory it is entered at some of them.
     fn enter(&mut self, i: u32, flow: &KeptFlow) -> Result<(), AllocError>
         requires { All (λ s. s.link < length self.old.lists.items) flow.now.shares.items }
         ensures count { length self.new.lists.items ≡ length self.old.lists.items }
@@ -61,18 +62,18 @@ impl FlowIndex {
         Ok(())
     }
 
-    /// Takes promise number `i` out at each link that the flow goes over.
+    /// Takes ask number `i` out at each link that the flow goes over.
     fn take_out(&mut self, i: u32, flow: &KeptFlow)
         requires { All (λ s. s.link < length self.old.lists.items) flow.now.shares.items }
         ensures count { length self.new.lists.items ≡ length self.old.lists.items }
         ensures others { (j : ℕ) (s : Share) → j ≢ i → IsEntered self.old.lists.items j s → IsEntered self.new.lists.items j s }
     {
         for share in &flow.shares {
-            self.lists[share.link as usize].retain(|promise| *promise != i);
+            self.lists[share.link as usize].retain(|ask| *ask != i);
         }
     }
 
-    /// A mark for each promise that stands in the list of a link which is not up with both its ends.
+    /// A mark for each ask that stands in the list of a link which is not up with both its ends.
     pub(crate) fn touched(
         &self,
         alloc: Global,
@@ -81,10 +82,10 @@ impl FlowIndex {
     ) -> Result<Vec<bool>, AllocError>
         requires links { length self.now.lists.items ≡ length topo.now.links }
         requires marks { MarksOf topo.now up.now }
-        ensures count { IfOk result (λ touched. length touched.items ≡ length topo.now.promises) }
-        ensures untouched { IfOk result (λ touched. (i : ℕ) → i < length topo.now.promises → slice_index_or touched.items i false ≡ false → AreUntouched topo.now (is_in up.now) self.now.lists.items i) }
+        ensures count { IfOk result (λ touched. length touched.items ≡ ask_count topo.now) }
+        ensures untouched { IfOk result (λ touched. (i : ℕ) → i < ask_count topo.now → slice_index_or touched.items i false ≡ false → AreUntouched topo.now (is_in up.now) self.now.lists.items i) }
     {
-        let mut touched = unmarked(alloc, topo.promise_count())?;
+        let mut touched = unmarked(alloc, topo.ask_count())?;
         for link in 0..topo.link_count() {
             if !is_up(topo, up, link) {
                 mark_all(self.lists[link as usize].as_slice(), touched.as_mut_slice());
@@ -94,14 +95,14 @@ impl FlowIndex {
     }
 }
 
-/// Keeps a flow of promise number `i` in place of that which was kept, and enters it. Where memory is refused none is kept.
+/// Keeps a flow of ask number `i` in place of that which was kept, and enters it. Where memory is refused none is kept.
 pub(crate) fn exchange(
     flows: &mut Vec<Option<KeptFlow>>,
     index: &mut FlowIndex,
     i: u32,
     kept: KeptFlow,
 )
-    requires promise { i < length flows.old.items }
+    requires ask { i < length flows.old.items }
     requires entered { AreEntered index.old.lists.items flows.old.items }
     requires links { All (λ s. s.link < length index.old.lists.items) kept.shares.items }
     ensures flows { (flows.new.items ≡ slice_set flows.old.items i (Some kept)) ⊎ (flows.new.items ≡ slice_set flows.old.items i None) }

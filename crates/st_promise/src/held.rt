@@ -1,13 +1,13 @@
-//! Promises asked for one set of entities, by a book that stays as it is: what its kept flows show, and where these show nothing, what
+//! Asks judged for one set of entities, by a book that stays as it is: what its kept flows show, and where these show nothing, what
 //! the network of the set tells. No run is counted and no flow is kept.
 
 ghost use Rattle.std.specs.Prelude.{◌≡◌, ◌<◌, length, IfOk, IfSome};
+ghost use Rattle.st_net.specs.Asks.{ask_count, ask_of};
 ghost use Rattle.st_net.specs.Groups.{promise_of};
 ghost use Rattle.st_net.specs.Sets.{is_in, MarksOf};
-ghost use Rattle.st_net.specs.Demands.{held_list};
 ghost use Rattle.st_net.specs.Promises.{is_kept};
 ghost use Rattle.st_promise.specs.UpNetwork.{up_network};
-ghost use Rattle.st_promise.specs.Book.{IsBookOf};
+ghost use Rattle.st_promise.specs.Book.{IsBookOf, held_asks};
 
 use crate::book::Book;
 use crate::judge::is_marked;
@@ -16,7 +16,7 @@ use st_net::{EntitySet, GroupTopo};
 use std::alloc::AllocError;
 
 impl Book {
-    /// Whether promise number `i` holds in the network of what is up.
+    /// Whether ask number `i` holds in the network of what is up.
     fn holds_in(
         &self,
         topo: &GroupTopo,
@@ -25,15 +25,15 @@ impl Book {
         i: u32,
     ) -> Result<bool, AllocError>
         requires book { IsBookOf topo.now self.now.of }
-        requires promise { i < length topo.now.promises }
+        requires ask { i < ask_count topo.now }
         requires network { network.now ≡ up_network topo.now (is_in up.now) }
-        ensures { IfOk result (λ held. held ≡ is_kept topo.now (is_in up.now) (promise_of topo.now i)) }
+        ensures { IfOk result (λ held. held ≡ is_kept topo.now (is_in up.now) (ask_of topo.now i)) }
     {
         let cut = network.failing_cut(self.alloc, topo, i, self.needs[i as usize])?;
         Ok(cut.is_none())
     }
 
-    /// The same of a network that is built where it is not yet there, and stays for the next promise.
+    /// The same of a network that is built where it is not yet there, and stays for the next ask.
     fn holds_once_built(
         &self,
         topo: &GroupTopo,
@@ -42,11 +42,11 @@ impl Book {
         i: u32,
     ) -> Result<bool, AllocError>
         requires book { IsBookOf topo.now self.now.of }
-        requires promise { i < length topo.now.promises }
+        requires ask { i < ask_count topo.now }
         requires marks { MarksOf topo.now up.now }
         requires network { IfSome network.old (λ n. n ≡ up_network topo.now (is_in up.now)) }
         ensures network { IfSome network.new (λ n. n ≡ up_network topo.now (is_in up.now)) }
-        ensures held { IfOk result (λ held. held ≡ is_kept topo.now (is_in up.now) (promise_of topo.now i)) }
+        ensures held { IfOk result (λ held. held ≡ is_kept topo.now (is_in up.now) (ask_of topo.now i)) }
     {
         if network.is_none() {
             *network = Some(UpNetwork::of(self.alloc, topo, up)?);
@@ -71,17 +71,21 @@ impl Book {
         self.holds_once_built(topo, up, &mut network, i)
     }
 
-    /// Whether each promise, in order, holds while these entities are up. Their network is built at most once, and not at all where
+    /// Whether each ask, in order, holds while these entities are up. Their network is built at most once, and not at all where
     /// the kept flows show that all hold.
-    pub fn held_in(&self, topo: &GroupTopo, up: &EntitySet) -> Result<Vec<bool>, AllocError>
+    pub(crate) fn asks_held_in(
+        &self,
+        topo: &GroupTopo,
+        up: &EntitySet,
+    ) -> Result<Vec<bool>, AllocError>
         requires book { IsBookOf topo.now self.now.of }
         requires marks { MarksOf topo.now up.now }
-        ensures { IfOk result (λ held. held.items ≡ held_list topo.now (is_in up.now)) }
+        ensures { IfOk result (λ held. held.items ≡ held_asks topo.now (is_in up.now)) }
     {
         let shown = self.shown_in(topo, up)?;
         let mut network = None;
-        let mut held = Vec::with_capacity(self.alloc, topo.promise_count() as usize)?;
-        for i in 0..topo.promise_count() {
+        let mut held = Vec::with_capacity(self.alloc, topo.ask_count() as usize)?;
+        for i in 0..topo.ask_count() {
             if is_marked(shown.as_slice(), i) {
                 held.push(true)?;
             } else {

@@ -1,40 +1,40 @@
-//! Promises judged: by the flows that a book keeps, and where these show nothing, by the networks of what is up.
+//! Asks judged: by the flows that a book keeps, and where these show nothing, by the networks of what is up.
 
-ghost use Rattle.std.specs.Prelude.{◌≡◌, ℕ, ◌<◌, ◌≤◌, Bool, true, false, max, length, is_none, slice_index_or, IfOk, IfSome, IsTrue};
+ghost use Rattle.std.specs.Prelude.{◌≡◌, ℕ, ◌<◌, ◌≤◌, Bool, true, false, max, is_none, slice_index_or, IfOk, IfSome, IsTrue};
 ghost use Rattle.std.specs.List.Sorted.{IsStrictlyIncreasing};
 ghost use Rattle.st_net.specs.declared.entity.Entity.{Entity};
-ghost use Rattle.st_net.specs.Groups.{promise_of};
+ghost use Rattle.st_net.specs.Asks.{ask_count, ask_of};
 ghost use Rattle.st_net.specs.Sets.{is_in, MarksOf};
-ghost use Rattle.st_net.specs.Demands.{first_broken_of};
-ghost use Rattle.st_net.specs.Promises.{is_kept, broken_at, need_of};
+ghost use Rattle.st_net.specs.Promises.{is_kept, need_of};
 ghost use Rattle.st_flow.specs.Network.{Sends};
 ghost use Rattle.st_promise.specs.UpNetwork.{up_network, IsLeastCutOf};
 ghost use Rattle.st_promise.specs.Finding.{IfSent};
-ghost use Rattle.st_promise.specs.Book.{IsBookOf, AreKept, AreFailing, HasNotFallen, HasRisen};
+ghost use Rattle.st_promise.specs.Book.{IsBookOf, HasNotFallen, HasRisen};
 ghost use Rattle.st_promise.specs.Change.{IsChange, IfBreaks};
 
 use crate::book::Book;
 use crate::change::Change;
+use crate::demand::broken_by;
 use crate::finding::Finding;
 use crate::flow_index::exchange;
 use crate::kept_flow::KeptFlow;
 use crate::up_network::UpNetwork;
 use st_flow::{Cut, Flow};
-use st_net::{Broken, BrokenKind, Entity, EntitySet, GroupTopo, Side};
+use st_net::{Entity, EntitySet, GroupTopo};
 use std::alloc::{AllocError, Global};
 
-/// Whether promise number `i` is marked. A list marks nothing past its end.
+/// Whether ask number `i` is marked. A list marks nothing past its end.
 pub(crate) fn is_marked(marks: &[bool], i: u32) -> bool
     ensures { result ≡ slice_index_or marks.now i false }
 {
     marks.get(i as usize).copied().unwrap_or(false)
 }
 
-/// Whether every promise is marked.
+/// Whether every ask is marked.
 pub(crate) fn are_all_marked(topo: &GroupTopo, marks: &[bool]) -> bool
-    ensures { IsTrue result → (i : ℕ) → i < length topo.now.promises → slice_index_or marks.now i false ≡ true }
+    ensures { IsTrue result → (i : ℕ) → i < ask_count topo.now → slice_index_or marks.now i false ≡ true }
 {
-    for i in 0..topo.promise_count() {
+    for i in 0..topo.ask_count() {
         if !is_marked(marks, i) {
             return false;
         }
@@ -42,34 +42,8 @@ pub(crate) fn are_all_marked(topo: &GroupTopo, marks: &[bool]) -> bool
     true
 }
 
-/// How promise number `i`, which needs so much, is broken, where this is the least cut that is left of its pair.
-pub(crate) fn broken_by(
-    alloc: Global,
-    topo: &GroupTopo,
-    i: u32,
-    need: u64,
-    cut: &Cut,
-) -> Result<Broken, AllocError>
-    requires need { need ≡ need_of topo.now (promise_of topo.now i) }
-    requires ascending { IsStrictlyIncreasing cut.now.side.items }
-    ensures { (up : Entity → Bool) → IsLeastCutOf topo.now up (promise_of topo.now i) cut.now → IfOk result (λ broken. broken ≡ broken_at topo.now up i (promise_of topo.now i)) }
-{
-    let kind = if cut.value == 0 {
-        BrokenKind::CutOff
-    } else {
-        BrokenKind::Short
-    };
-    Ok(Broken {
-        promise: i,
-        kind,
-        need,
-        has: cut.value,
-        side: Side::from_slice(alloc, cut.side.as_slice())?,
-    })
-}
-
-/// How much to ask of a promise that needs so much: half-way to all that can flow with everything up, so that the flow still
-/// shows that the promise holds after it has lost a part.
+/// How large a flow to look for where an ask needs so much: half-way to all that can flow with everything up, so that the flow
+/// still shows that the ask holds after it has lost a part.
 fn ample(need: u64, percent: u32) -> u64 {
     let most = need
         .saturating_mul(100)
@@ -88,13 +62,13 @@ impl Book {
         self.flows_run = self.flows_run.saturating_add(1);
     }
 
-    /// Keeps a flow of promise number `i`, which was found where some entities were up. Where memory is refused for it, the flow
+    /// Keeps a flow of ask number `i`, which was found where some entities were up. Where memory is refused for it, the flow
     /// that was kept before stays; where it is refused for the index, none is kept.
     fn keep(&mut self, topo: &GroupTopo, i: u32, flow: &Flow, amount: u64)
         requires book { IsBookOf topo.now self.old.of }
-        requires promise { i < length topo.now.promises }
-        requires sends { (up : Entity → Bool) × Sends (up_network topo.now up) flow.now (promise_of topo.now i).a (promise_of topo.now i).b amount }
-        requires enough { max (need_of topo.now (promise_of topo.now i)) 1 ≤ amount }
+        requires ask { i < ask_count topo.now }
+        requires sends { (up : Entity → Bool) × Sends (up_network topo.now up) flow.now (ask_of topo.now i).a (ask_of topo.now i).b amount }
+        requires enough { max (need_of topo.now (ask_of topo.now i)) 1 ≤ amount }
         ensures same { self.new ≡ self.old }
     {
         topo.is_sound();
@@ -103,10 +77,10 @@ impl Book {
         }
     }
 
-    /// Keeps the first flow of promise number `i`, of as much as is asked for, where its network has that.
+    /// Keeps the first flow of ask number `i`, of so much, where its network has that.
     pub(crate) fn keep_first(&mut self, topo: &GroupTopo, i: u32, amount: u64)
         requires book { IsBookOf topo.now self.old.of }
-        requires promise { i < length topo.now.promises }
+        requires ask { i < ask_count topo.now }
         ensures same { self.new ≡ self.old }
     {
         let found = self
@@ -115,12 +89,12 @@ impl Book {
         self.keep_found(topo, i, found);
     }
 
-    /// Keeps the flow that was found of promise number `i`, if there is one.
+    /// Keeps the flow that was found of ask number `i`, if there is one.
     fn keep_found(&mut self, topo: &GroupTopo, i: u32, found: Result<Finding, AllocError>)
         requires book { IsBookOf topo.now self.old.of }
-        requires promise { i < length topo.now.promises }
-        requires sends { IfOk found (λ f. IfSent f (λ flow amount. (up : Entity → Bool) × Sends (up_network topo.now up) flow (promise_of topo.now i).a (promise_of topo.now i).b amount)) }
-        requires enough { IfOk found (λ f. IfSent f (λ flow amount. max (need_of topo.now (promise_of topo.now i)) 1 ≤ amount)) }
+        requires ask { i < ask_count topo.now }
+        requires sends { IfOk found (λ f. IfSent f (λ flow amount. (up : Entity → Bool) × Sends (up_network topo.now up) flow (ask_of topo.now i).a (ask_of topo.now i).b amount)) }
+        requires enough { IfOk found (λ f. IfSent f (λ flow amount. max (need_of topo.now (ask_of topo.now i)) 1 ≤ amount)) }
         ensures same { self.new ≡ self.old }
     {
         match found {
@@ -131,15 +105,15 @@ impl Book {
         }
     }
 
-    /// Whether the kept flow shows that promise number `i` holds while these entities are up.
+    /// Whether the kept flow shows that ask number `i` holds while these entities are up.
     pub(crate) fn shows(&self, topo: &GroupTopo, up: &EntitySet, i: u32) -> bool
         requires book { IsBookOf topo.now self.now.of }
-        requires promise { i < length topo.now.promises }
+        requires ask { i < ask_count topo.now }
         requires marks { MarksOf topo.now up.now }
-        ensures { result ≡ true → is_kept topo.now (is_in up.now) (promise_of topo.now i) ≡ true }
+        ensures { result ≡ true → is_kept topo.now (is_in up.now) (ask_of topo.now i) ≡ true }
     {
         topo.is_sound();
-        let first = self.promises[i as usize].a;
+        let first = self.asks[i as usize].a;
         match &self.flows[i as usize] {
             Some(flow) => {
                 up.has(Entity::Device(first)) && flow.left(up) >= self.needs[i as usize].max(1)
@@ -148,7 +122,7 @@ impl Book {
         }
     }
 
-    /// The least cut of promise number `i` in the network of what is up, where the promise does not hold. Where it holds, a
+    /// The least cut of ask number `i` in the network of what is up, where the ask does not hold. Where it holds, a
     /// flow that shows it is kept, as far as there is memory.
     fn look(
         &mut self,
@@ -157,17 +131,17 @@ impl Book {
         i: u32,
     ) -> Result<Option<Cut>, AllocError>
         requires book { IsBookOf topo.now self.old.of }
-        requires promise { i < length topo.now.promises }
+        requires ask { i < ask_count topo.now }
         requires network { (up : Entity → Bool) × (network.now ≡ up_network topo.now up) }
-        ensures kept { (up : Entity → Bool) → network.now ≡ up_network topo.now up → IfOk result (λ cut. is_none cut ≡ is_kept topo.now up (promise_of topo.now i)) }
-        ensures least { (up : Entity → Bool) → network.now ≡ up_network topo.now up → IfOk result (λ cut. IfSome cut (IsLeastCutOf topo.now up (promise_of topo.now i))) }
+        ensures kept { (up : Entity → Bool) → network.now ≡ up_network topo.now up → IfOk result (λ cut. is_none cut ≡ is_kept topo.now up (ask_of topo.now i)) }
+        ensures least { (up : Entity → Bool) → network.now ≡ up_network topo.now up → IfOk result (λ cut. IfSome cut (IsLeastCutOf topo.now up (ask_of topo.now i))) }
         ensures ascending { IfOk result (λ cut. IfSome cut (λ cut. IsStrictlyIncreasing cut.side.items)) }
         ensures same { self.new.of ≡ self.old.of }
         ensures runs { HasNotFallen self.old self.new }
         ensures rises { HasRisen self.old self.new }
     {
         let need = self.needs[i as usize];
-        let ample = ample(need, topo.promise(i).percent);
+        let ample = ample(need, topo.ask(i).percent);
         self.count_run();
         match network.find(self.alloc, topo, i, need, ample)? {
             Finding::Fails(cut) => Ok(Some(cut)),
@@ -185,8 +159,8 @@ impl Book {
         }
     }
 
-    /// The least cut of promise number `i` while these entities are up, where the promise does not hold; None where it holds.
-    /// Their network is built where the kept flow does not show that, and stays for the next promise.
+    /// The least cut of ask number `i` while these entities are up, where the ask does not hold; None where it holds.
+    /// Their network is built where the kept flow does not show that, and stays for the next ask.
     pub(crate) fn failing_cut(
         &mut self,
         topo: &GroupTopo,
@@ -195,12 +169,12 @@ impl Book {
         i: u32,
     ) -> Result<Option<Cut>, AllocError>
         requires book { IsBookOf topo.now self.old.of }
-        requires promise { i < length topo.now.promises }
+        requires ask { i < ask_count topo.now }
         requires marks { MarksOf topo.now up.now }
         requires network { IfSome network.old (λ n. n ≡ up_network topo.now (is_in up.now)) }
         ensures network { IfSome network.new (λ n. n ≡ up_network topo.now (is_in up.now)) }
-        ensures kept { IfOk result (λ cut. is_none cut ≡ is_kept topo.now (is_in up.now) (promise_of topo.now i)) }
-        ensures least { IfOk result (λ cut. IfSome cut (IsLeastCutOf topo.now (is_in up.now) (promise_of topo.now i))) }
+        ensures kept { IfOk result (λ cut. is_none cut ≡ is_kept topo.now (is_in up.now) (ask_of topo.now i)) }
+        ensures least { IfOk result (λ cut. IfSome cut (IsLeastCutOf topo.now (is_in up.now) (ask_of topo.now i))) }
         ensures ascending { IfOk result (λ cut. IfSome cut (λ cut. IsStrictlyIncreasing cut.side.items)) }
         ensures same { self.new.of ≡ self.old.of }
         ensures runs { HasNotFallen self.old self.new }
@@ -218,8 +192,8 @@ impl Book {
         }
     }
 
-    /// What the change does to promise number `i`.
-    fn judge_promise(
+    /// What the change does to ask number `i`.
+    pub(crate) fn judge_ask(
         &mut self,
         topo: &GroupTopo,
         before: &EntitySet,
@@ -229,7 +203,7 @@ impl Book {
         i: u32,
     ) -> Result<Change, AllocError>
         requires book { IsBookOf topo.now self.old.of }
-        requires promise { i < length topo.now.promises }
+        requires ask { i < ask_count topo.now }
         requires before { MarksOf topo.now before.now }
         requires after { MarksOf topo.now after.now }
         requires before_network { IfSome before_network.old (λ n. n ≡ up_network topo.now (is_in before.now)) }
@@ -251,52 +225,5 @@ impl Book {
         let need = self.needs[i as usize];
         let broken = broken_by(self.alloc, topo, i, need, &cut)?;
         Ok(Change::Breaks(broken))
-    }
-
-    /// The first promise, in order, that holds before and not after. Those that are known or shown to hold after are passed over,
-    /// and so are those that are known to fail before; others that are found to fail before are marked among these.
-    pub(crate) fn first_broken(
-        &mut self,
-        topo: &GroupTopo,
-        known: &[bool],
-        shown: &[bool],
-        fails: &mut [bool],
-        before: &EntitySet,
-        after: &EntitySet,
-    ) -> Result<Option<Broken>, AllocError>
-        requires book { IsBookOf topo.now self.old.of }
-        requires known { AreKept topo.now (is_in after.now) known.now }
-        requires shown { AreKept topo.now (is_in after.now) shown.now }
-        requires fails { AreFailing topo.now (is_in before.now) fails.old }
-        requires marks { length fails.old ≡ length topo.now.promises }
-        requires before { MarksOf topo.now before.now }
-        requires after { MarksOf topo.now after.now }
-        ensures broken { IfOk result (λ broken. broken ≡ first_broken_of topo.now (is_in before.now) (is_in after.now)) }
-        ensures fails { AreFailing topo.now (is_in before.now) fails.new }
-        ensures same { self.new.of ≡ self.old.of }
-        ensures runs { HasNotFallen self.old self.new }
-        ensures rises { IfOk result (λ broken. IfSome broken (λ _. HasRisen self.old self.new)) }
-    {
-        let mut before_network = None;
-        let mut after_network = None;
-        for i in 0..topo.promise_count() {
-            if is_marked(known, i) || is_marked(shown, i) || is_marked(fails, i) {
-                continue;
-            }
-            let change = self.judge_promise(
-                topo,
-                before,
-                &mut before_network,
-                after,
-                &mut after_network,
-                i,
-            )?;
-            match change {
-                Change::Holds => {}
-                Change::Failed => fails[i as usize] = true,
-                Change::Breaks(broken) => return Ok(Some(broken)),
-            }
-        }
-        Ok(None)
     }
 }

@@ -1,4 +1,4 @@
-//! A flow that is kept to show later that a promise still holds, by the links that carry it. A book has one for each promise.
+//! A flow that is kept to show later that an ask still holds, by the links that carry it. A book has one for each ask.
 
 ghost use Rattle.std.specs.Prelude.{◌≡◌, ◌-◌, ◌<◌, true, All, length, slice_index_or, pos, IfOk, IfSome, IfNone};
 ghost use Rattle.st_net.specs.Groups.{no_link};

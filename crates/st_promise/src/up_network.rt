@@ -1,9 +1,10 @@
 //! The network of what is up, as flows see it: the devices are its nodes, and the up links its edges. It is built once for
-//! a set of entities, and answers for every promise.
+//! a set of entities, and answers for every ask.
 
 ghost use Rattle.std.specs.Prelude.{◌≡◌, ◌≢◌, ℕ, ◌<◌, ◌≤◌, [], ◌∷◌, ◌++◌, Bool, true, max, length, slice_index_or, is_none, IfOk, IfSome, OnOk};
 ghost use Rattle.std.specs.List.Sorted.{IsStrictlyIncreasing};
-ghost use Rattle.st_net.specs.Groups.{no_link, promise_of};
+ghost use Rattle.st_net.specs.Asks.{ask_count, ask_of};
+ghost use Rattle.st_net.specs.Groups.{no_link};
 ghost use Rattle.st_net.specs.Sets.{is_in, MarksOf};
 ghost use Rattle.st_net.specs.Promises.{need_of, is_kept};
 ghost use Rattle.st_flow.specs.Network.{Sends, IsLeastCut};
@@ -94,7 +95,7 @@ impl UpNetwork {
         Ok(cut)
     }
 
-    /// Whether promise number `i`, which needs so much, holds: a flow of `ample` or more shows it, or the least cut tells.
+    /// Whether ask number `i`, which needs so much, holds: a flow of `ample` or more shows it, or the least cut tells.
     pub(crate) fn find(
         &self,
         alloc: Global,
@@ -104,20 +105,20 @@ impl UpNetwork {
         ample: u64,
     ) -> Result<Finding, AllocError>
         requires nodes { self.now.nodes ≡ length topo.now.devices }
-        requires promise { i < length topo.now.promises }
-        requires need { need ≡ need_of topo.now (promise_of topo.now i) }
-        ensures kept { (up : Entity → Bool) → self.now ≡ up_network topo.now up → IfOk result (λ found. holds_by found ≡ is_kept topo.now up (promise_of topo.now i)) }
-        ensures least { (up : Entity → Bool) → self.now ≡ up_network topo.now up → IfOk result (λ found. IfFails found (IsLeastCutOf topo.now up (promise_of topo.now i))) }
+        requires ask { i < ask_count topo.now }
+        requires need { need ≡ need_of topo.now (ask_of topo.now i) }
+        ensures kept { (up : Entity → Bool) → self.now ≡ up_network topo.now up → IfOk result (λ found. holds_by found ≡ is_kept topo.now up (ask_of topo.now i)) }
+        ensures least { (up : Entity → Bool) → self.now ≡ up_network topo.now up → IfOk result (λ found. IfFails found (IsLeastCutOf topo.now up (ask_of topo.now i))) }
         ensures ascending { IfOk result (λ found. IfFails found (λ cut. IsStrictlyIncreasing cut.side.items)) }
-        ensures sends { IfOk result (λ found. IfSent found (λ flow amount. Sends self.now flow (promise_of topo.now i).a (promise_of topo.now i).b amount)) }
+        ensures sends { IfOk result (λ found. IfSent found (λ flow amount. Sends self.now flow (ask_of topo.now i).a (ask_of topo.now i).b amount)) }
         ensures enough { IfOk result (λ found. IfSent found (λ flow amount. max need 1 ≤ amount)) }
     {
         topo.is_sound();
-        let promise = topo.promise(i);
+        let ask = topo.ask(i);
         // A pair that no walk joins has the least cut 0.
         let least = need.max(1);
         let amount = ample.max(least);
-        match max_flow(alloc, &self.graph, promise.a, promise.b, amount)? {
+        match max_flow(alloc, &self.graph, ask.a, ask.b, amount)? {
             Flowing::Enough(flow) => Ok(Finding::Sent { flow, amount }),
             Flowing::Short(cut) => {
                 if cut.value < least {
@@ -129,7 +130,7 @@ impl UpNetwork {
         }
     }
 
-    /// The least cut of promise number `i`, which needs so much, where it does not hold; None where it holds.
+    /// The least cut of ask number `i`, which needs so much, where it does not hold; None where it holds.
     pub(crate) fn failing_cut(
         &self,
         alloc: Global,
@@ -138,10 +139,10 @@ impl UpNetwork {
         need: u64,
     ) -> Result<Option<Cut>, AllocError>
         requires nodes { self.now.nodes ≡ length topo.now.devices }
-        requires promise { i < length topo.now.promises }
-        requires need { need ≡ need_of topo.now (promise_of topo.now i) }
-        ensures kept { (up : Entity → Bool) → self.now ≡ up_network topo.now up → IfOk result (λ cut. is_none cut ≡ is_kept topo.now up (promise_of topo.now i)) }
-        ensures least { (up : Entity → Bool) → self.now ≡ up_network topo.now up → IfOk result (λ cut. IfSome cut (IsLeastCutOf topo.now up (promise_of topo.now i))) }
+        requires ask { i < ask_count topo.now }
+        requires need { need ≡ need_of topo.now (ask_of topo.now i) }
+        ensures kept { (up : Entity → Bool) → self.now ≡ up_network topo.now up → IfOk result (λ cut. is_none cut ≡ is_kept topo.now up (ask_of topo.now i)) }
+        ensures least { (up : Entity → Bool) → self.now ≡ up_network topo.now up → IfOk result (λ cut. IfSome cut (IsLeastCutOf topo.now up (ask_of topo.now i))) }
         ensures ascending { IfOk result (λ cut. IfSome cut (λ cut. IsStrictlyIncreasing cut.side.items)) }
     {
         match self.find(alloc, topo, i, need, need)? {

@@ -1,32 +1,31 @@
-//! All promises of a group judged at once, in two sets, by as many threads as there are processors. It needs no book: whoever judges
+//! All asks of a group judged at once, in two sets, by as many threads as there are processors. It needs no book: whoever judges
 //! away from a checker brings a copy of the needs.
 
-ghost use Rattle.std.specs.Prelude.{◌≡◌, ◌<◌, ◌+◌, Bool, true, length, map, Some, None, IfOk, if◌then◌else◌};
-ghost use Rattle.st_net.specs.Groups.{promise_of};
+ghost use Rattle.std.specs.Prelude.{◌≡◌, ◌<◌, ◌+◌, Bool, length, IfOk};
+ghost use Rattle.st_net.specs.Asks.{ask_count};
 ghost use Rattle.st_net.specs.Sets.{is_in, MarksOf};
 ghost use Rattle.st_net.specs.Demands.{first_broken_of, held_list};
-ghost use Rattle.st_net.specs.Promises.{need_of, is_kept, is_broken, broken_at, first_broken as first_broken_lem};
 ghost use Rattle.st_promise.specs.UpNetwork.{up_network};
 ghost use Rattle.st_promise.specs.Book.{AreNeedsOf};
 ghost use Rattle.st_promise.specs.Wide.{held_at, held_in_both};
 
-use crate::judge::broken_by;
+use crate::demand::{demands_held, first_lost};
 use crate::up_network::UpNetwork;
 use rayon::prelude::*;
 use st_net::{Broken, Entity, EntitySet, GroupTopo};
 use std::alloc::{AllocError, Global};
 use std::thread::Threads;
 
-/// What was found of all promises.
+/// What was found of all demands.
 #[derive(Drop)]
 pub struct Wide {
-    /// The first promise, in order, that holds before and not after: how it breaks.
+    /// The first demand, in order, that holds before and not after: how it breaks.
     pub first: Option<Broken>,
-    /// Whether each promise, in order, holds after.
+    /// Whether each demand, in order, holds after.
     pub holds: Vec<bool>,
 }
 
-/// Whether a promise holds: each after, in order, and then each before.
+/// Whether an ask holds: each after, in order, and then each before.
 fn is_held(
     alloc: Global,
     topo: &GroupTopo,
@@ -38,10 +37,10 @@ fn is_held(
     requires needs { AreNeedsOf topo.now needs.now }
     requires before { before.now.nodes ≡ length topo.now.devices }
     requires after { after.now.nodes ≡ length topo.now.devices }
-    requires item { item < length topo.now.promises + length topo.now.promises }
+    requires item { item < ask_count topo.now + ask_count topo.now }
     ensures { (up down : Entity → Bool) → before.now ≡ up_network topo.now up → after.now ≡ up_network topo.now down → IfOk result (λ held. held ≡ held_at topo.now up down item) }
 {
-    let count = topo.promise_count();
+    let count = topo.ask_count();
     if item < count {
         let cut = after.failing_cut(alloc, topo, item, needs[item as usize])?;
         return Ok(cut.is_none());
@@ -51,7 +50,7 @@ fn is_held(
     Ok(cut.is_none())
 }
 
-/// Whether each promise holds after, and then whether each holds before.
+/// Whether each ask holds after, and then whether each holds before.
 fn all_held(
     rt: &(impl Threads + Sync),
     alloc: Global,
@@ -66,13 +65,13 @@ fn all_held(
     ensures { (up down : Entity → Bool) → before.now ≡ up_network topo.now up → after.now ≡ up_network topo.now down → IfOk result (λ held. held.items ≡ held_in_both topo.now up down) }
 {
     topo.is_sound();
-    let count = topo.promise_count();
+    let count = topo.ask_count();
     // A flow is worth a thread, however few there are.
     (0..count + count)
         .into_par_iter()
         .map(
             |item: u32| -> Result<bool, AllocError>
-                requires { AreNeedsOf topo.now needs.now × (before.now.nodes ≡ length topo.now.devices) × (after.now.nodes ≡ length topo.now.devices) × (item < length topo.now.promises + length topo.now.promises) }
+                requires { AreNeedsOf topo.now needs.now × (before.now.nodes ≡ length topo.now.devices) × (after.now.nodes ≡ length topo.now.devices) × (item < ask_count topo.now + ask_count topo.now) }
                 ensures { (up down : Entity → Bool) → before.entry.now ≡ up_network topo.entry.now up → after.entry.now ≡ up_network topo.entry.now down → IfOk result (λ held. held ≡ held_at topo.entry.now up down item) }
             { is_held(alloc, topo, needs, before, after, item) },
         )
@@ -80,48 +79,7 @@ fn all_held(
         .collect::<Result<Vec<bool>, AllocError>>(rt, alloc)?
 }
 
-/// How promise number `i`, which needs so much and holds before, is broken after, if it fails there.
-fn lost_in(
-    alloc: Global,
-    topo: &GroupTopo,
-    after: &UpNetwork,
-    i: u32,
-    need: u64,
-) -> Result<Option<Broken>, AllocError>
-    requires after { after.now.nodes ≡ length topo.now.devices }
-    requires promise { i < length topo.now.promises }
-    requires need { need ≡ need_of topo.now (promise_of topo.now i) }
-    ensures { (up down : Entity → Bool) → after.now ≡ up_network topo.now down → is_kept topo.now up (promise_of topo.now i) ≡ true → IfOk result (λ broken. broken ≡ (if is_broken topo.now up down (promise_of topo.now i) then Some (broken_at topo.now down i (promise_of topo.now i)) else None)) }
-{
-    let Some(cut) = after.failing_cut(alloc, topo, i, need)? else {
-        return Ok(None);
-    };
-    Ok(Some(broken_by(alloc, topo, i, need, &cut)?))
-}
-
-/// The first promise, in order, that was found to hold before and not after. It is judged once more, for what it lacks.
-fn first_lost(
-    alloc: Global,
-    topo: &GroupTopo,
-    needs: &[u64],
-    after: &UpNetwork,
-    held: &[bool],
-) -> Result<Option<Broken>, AllocError>
-    requires needs { AreNeedsOf topo.now needs.now }
-    requires after { after.now.nodes ≡ length topo.now.devices }
-    requires held { length held.now ≡ length topo.now.promises + length topo.now.promises }
-    ensures { (up down : Entity → Bool) → after.now ≡ up_network topo.now down → held.now ≡ held_in_both topo.now up down → IfOk result (λ broken. broken ≡ first_broken_lem topo.now up down 0 topo.now.promises) }
-{
-    let (holds, held_before) = held.split_at(topo.promise_count() as usize);
-    for i in 0..topo.promise_count() {
-        if held_before[i as usize] && !holds[i as usize] {
-            return lost_in(alloc, topo, after, i, needs[i as usize]);
-        }
-    }
-    Ok(None)
-}
-
-/// Judges all promises in both sets, in parallel: one item for each promise and set. The answer is that of `Book::judge_pairs`, however
+/// Judges all asks in both sets, in parallel: one item for each ask and set. The answer is that of `Book::judge_pairs`, however
 /// the items are shared among threads.
 pub fn judge_wide(
     rt: &(impl Threads + Sync),
@@ -139,8 +97,8 @@ pub fn judge_wide(
 {
     let before = UpNetwork::of(alloc, topo, before)?;
     let after = UpNetwork::of(alloc, topo, after)?;
-    let mut held = all_held(rt, alloc, topo, needs, &before, &after)?;
+    let held = all_held(rt, alloc, topo, needs, &before, &after)?;
     let first = first_lost(alloc, topo, needs, &after, held.as_slice())?;
-    held.truncate(topo.promise_count() as usize);
-    Ok(Wide { first, holds: held })
+    let holds = demands_held(topo, held);
+    Ok(Wide { first, holds })
 }

@@ -1,4 +1,4 @@
-//! Whether one set of entities is within another. More entities keep a promise, and fewer a failure.
+//! Whether one set of entities is within another. More entities keep an ask, and fewer a failure.
 
 ghost use Rattle.std.specs.Prelude.{◌≡◌, ◌↔◌, IsTrue};
 ghost use Rattle.st_net.specs.Sets.{is_in, MarksOf, IsWithin};

@@ -1,6 +1,7 @@
 use Rattle.std.proofs.Common.{◌<◌, length, refl, subst, sym, ap, ◌∙◌, arith}
 use Rattle.std.specs.Prelude.{Some}
 use Rattle.st_net.specs.Sets.{is_in}
+use Rattle.st_net.specs.Asks.{ask_count}
 use Rattle.st_promise.specs.Change.{IsChange}
 use Rattle.st_promise.proofs.JudgeLaws.{passed_failed, passed_kept}
 use Rattle.st_promise.proofs.ToFirstLaws.{ahead_known, change_ahead, ahead_open, told_more, breaks_here, breaks_told}
@@ -19,7 +20,7 @@ loop-i-preserved-then-is_marked g c =
     let topo = c.args.topo.now in
     let up = is_in c.args.before.now in
     let down = is_in c.args.after.now in
-    let low : c.loop-i.i < length topo.promises = omega (arith, c.promise_count-i-end.ensures) in
+    let low : c.loop-i.i < ask_count topo = omega (arith, c.ask_count-i-end.ensures) in
     let mark = sym c.is_marked.ensures ∙ c.if-is_marked.true in
     let kept = c.requires.known c.loop-i.i low mark in
     record {
@@ -33,7 +34,7 @@ returns-in-Breaks-clause-first g c =
     let topo = c.args.topo.now in
     let up = is_in c.args.before.now in
     let down = is_in c.args.after.now in
-    let low : c.loop-i.i < length topo.promises = omega (arith, c.promise_count-i-end.ensures) in
+    let low : c.loop-i.i < ask_count topo = omega (arith, c.ask_count-i-end.ensures) in
     let unmarked = sym c.is_marked.ensures ∙ c.if-is_marked.false in
     let change = change_ahead topo up down c.args.known.now c.loop-i.i c.fill.new.self c.index.result.now low unmarked c.in_ok-fill.ensures.some c.index.ensures c.in_ok-fill.ensures.ahead in
     let breaks = subst (IsChange topo up down c.loop-i.i) c.in-Breaks.is change in
@@ -44,7 +45,7 @@ returns-in-Breaks-clause-holds g c =
     let topo = c.args.topo.now in
     let up = is_in c.args.before.now in
     let down = is_in c.args.after.now in
-    let low : c.loop-i.i < length topo.promises = omega (arith, c.promise_count-i-end.ensures) in
+    let low : c.loop-i.i < ask_count topo = omega (arith, c.ask_count-i-end.ensures) in
     let unmarked = sym c.is_marked.ensures ∙ c.if-is_marked.false in
     let change = change_ahead topo up down c.args.known.now c.loop-i.i c.fill.new.self c.index.result.now low unmarked c.in_ok-fill.ensures.some c.index.ensures c.in_ok-fill.ensures.ahead in
     let breaks = subst (IsChange topo up down c.loop-i.i) c.in-Breaks.is change in
@@ -55,7 +56,7 @@ loop-i-preserved g c =
     let topo = c.args.topo.now in
     let up = is_in c.args.before.now in
     let down = is_in c.args.after.now in
-    let low : c.loop-i.i < length topo.promises = omega (arith, c.promise_count-i-end.ensures) in
+    let low : c.loop-i.i < ask_count topo = omega (arith, c.ask_count-i-end.ensures) in
     let unmarked = sym c.is_marked.ensures ∙ c.if-is_marked.false in
     let change = change_ahead topo up down c.args.known.now c.loop-i.i c.fill.new.self c.index.result.now low unmarked c.in_ok-fill.ensures.some c.index.ensures c.in_ok-fill.ensures.ahead in
     let ahead = ahead_open topo up down c.args.known.now c.loop-i.i c.fill.new.self _ c.index.result.now low unmarked c.in_ok-fill.ensures.some c.index.ensures c.in_ok-fill.ensures.ahead refl in

@@ -14,4 +14,4 @@ returns-then-is_within-clause-fails c =
     rw (c.in_ok-fails.ensures, c.as_slice.ensures.value) (failing_still c.args.topo.now (is_in c.in-Some.failing.up) (is_in c.args.up.now) c.in-Some.failing.marks.items c.keeps_with_more.ensures c.held_means_kept.ensures found.2 (c.if-is_within.ensures.0 refl))
 
 pub returns-clause-fails : goal.returns-clause-fails
-returns-clause-fails c = rw c.in_ok-none.ensures (none_failing c.args.topo.now (is_in c.args.up.now) c.promise_count.result)
+returns-clause-fails c = rw c.in_ok-none.ensures (none_failing c.args.topo.now (is_in c.args.up.now) c.ask_count.result)

@@ -18,8 +18,8 @@ invariant_of-self c =
     let are = fields_of c.args.topo.now _ _ _ _ c.args.self.now c.self.view_is c.requires.book in
     record {
       flows = elim c.exchange.ensures.flows [
-        | inl kept ↦ rw kept (kept_with c.args.topo.now _ _ _ _ c.requires.sends.0 c.args.flow.now c.args.i c.args.amount c.in-Ok.kept are c.self.invariant.flows c.requires.promise c.requires.sends.1 c.requires.enough c.in-Ok.ensures.sent c.in-Ok.ensures.in_range c.in-Ok.ensures.ends c.in-Ok.ensures.amounts)
-        | inr none ↦ rw none (kept_without c.args.topo.now _ _ _ _ c.args.i are c.self.invariant.flows c.requires.promise)
+        | inl kept ↦ rw kept (kept_with c.args.topo.now _ _ _ _ c.requires.sends.0 c.args.flow.now c.args.i c.args.amount c.in-Ok.kept are c.self.invariant.flows c.requires.ask c.requires.sends.1 c.requires.enough c.in-Ok.ensures.sent c.in-Ok.ensures.in_range c.in-Ok.ensures.ends c.in-Ok.ensures.amounts)
+        | inr none ↦ rw none (kept_without c.args.topo.now _ _ _ _ c.args.i are c.self.invariant.flows c.requires.ask)
       ];
       lists_each = c.exchange.ensures.count ∙ c.self.invariant.lists_each;
       entered = c.exchange.ensures.entered;

@@ -1,6 +1,7 @@
 use Rattle.std.proofs.Common.{◌<◌, length, ap, ◌∙◌, arith}
 use Rattle.std.specs.Prelude.{IfSome}
 use Rattle.st_net.specs.Sets.{is_in}
+use Rattle.st_net.specs.Asks.{ask_count}
 use Rattle.st_promise.specs.ToFirst.{AreNetworks, open_from}
 use Rattle.st_promise.proofs.ToFirstLaws.{open_below, open_some, filled}
 use Rattle.st_promise.proofs.to_first.Ahead.fill.Goals.{then-is_none+in_ok-of+in-Some-1, then-is_none+in_ok-of+in-None-1, else-is_none}
@@ -8,7 +9,7 @@ use Rattle.st_promise.proofs.to_first.Ahead.fill.Goals as goal
 
 pub changes_of-requires-clause-those : goal.changes_of-requires-clause-those
 changes_of-requires-clause-those g c κs within =
-    rw (c.as_slice.ensures.value, c.in_ok-those.ensures) (open_below c.args.known.now c.args.i (length c.args.topo.now.promises) _)
+    rw (c.as_slice.ensures.value, c.in_ok-those.ensures) (open_below c.args.known.now c.args.i (ask_count c.args.topo.now) _)
 
 pub returns-clause-ahead : goal.returns-clause-ahead
 returns-clause-ahead g c =
@@ -22,12 +23,12 @@ returns-clause-ahead g c =
     ] in
     let these : AreNetworks topo up down c.in-Some.networks = rw c.in-Some.is at networks in
     let those = c.as_slice.ensures.value ∙ c.in_ok-those.ensures in
-    let each = c.in_ok-self.ensures.each up down these.before these.after in
+    let each = c.in_ok-self.ensures.each up down these in
     record {
       networks = networks;
       place = omega arith;
       most = grind (arith);
-      changes = filled topo up down (open_from c.args.known.now c.args.i (length topo.promises)) _ c.in_ok-self.field-0.items (rw those at each) (c.in_ok-self.ensures.count ∙ ap length those);
+      changes = filled topo up down (open_from c.args.known.now c.args.i (ask_count topo)) _ c.in_ok-self.field-0.items (rw those at each) (c.in_ok-self.ensures.count ∙ ap length those);
     }
 
 pub returns-clause-some : goal.returns-clause-some
@@ -38,4 +39,4 @@ returns-clause-some g c =
       | else-is_none w ↦ rw w.self-is c.requires.ahead.most
     ] in
     let those = c.as_slice.ensures.value ∙ c.in_ok-those.ensures in
-    rw (c.in_ok-self.ensures.count ∙ ap length those) (open_some c.args.known.now c.args.i (length c.args.topo.now.promises) _ c.requires.promise c.requires.open most)
+    rw (c.in_ok-self.ensures.count ∙ ap length those) (open_some c.args.known.now c.args.i (ask_count c.args.topo.now) _ c.requires.ask c.requires.open most)

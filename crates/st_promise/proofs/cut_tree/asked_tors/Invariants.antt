@@ -1,5 +1,5 @@
 use Rattle.std.proofs.Common.{◌≡◌, ◌<◌, length, All}
-use Rattle.st_promise.proofs.cut_tree.promised_tors.Given as goal
+use Rattle.st_promise.proofs.cut_tree.asked_tors.Given as goal
 
 abbrev pub invariant-loop-i : goal.invariant-loop-i
 invariant-loop-i l = length l.marks.items ≡ length l.topo.devices
