@@ -8,7 +8,7 @@ use Rattle.st_net.specs.declared.entity.Var.{Var}
 use Rattle.st_net.specs.declared.entity.Var.TheVariants.{Firmware}
 use Rattle.st_net.specs.declared.entity.Vals.{Vals}
 use Rattle.st_net.specs.declared.entity.Row.{Row}
-use Rattle.st_net.specs.Groups.{Group}
+use Rattle.st_net.specs.Groups.{Group, no_group}
 use Rattle.st_net.specs.Merge.{merge_of}
 use Rattle.st_overlay.specs.Values.{Values}
 use Rattle.st_board.specs.declared.post.Post.{Post}
@@ -21,13 +21,10 @@ abbrev vals : ℕ → Vals
 vals firmware = record { v0 = 1; v1 = firmware; v2 = 1; v3 = 1 }
 
 abbrev g : Group
-g = record {
+g = record no_group {
   name = codes "dc1";
   device_names = codes "a1" ∷ [];
-  link_names = [];
   devices = record { tor = false; vals = vals 1; health = 5 } ∷ [];
-  links = [];
-  promises = [];
 }
 
 abbrev a1 : Entity

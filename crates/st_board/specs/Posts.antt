@@ -1,7 +1,7 @@
 -- What the posts of a line come to.
 use Rattle.std.specs.Prelude.{◌≡◌, ℕ, Bool, true, false, ◌||◌, List, [], ◌∷◌, ◌++◌}
 use Rattle.st_net.specs.declared.entity.Row.{Row}
-use Rattle.st_net.specs.Groups.{Group}
+use Rattle.st_net.specs.Groups.{Group, no_group}
 use Rattle.st_board.specs.declared.post.Post.{Post}
 use Rattle.st_board.specs.declared.post.Post.TheVariants.{Open, Merge, End}
 
@@ -12,11 +12,7 @@ proposals_in (Open g ∷ posts) = proposals_in posts
 proposals_in (Merge rows ∷ posts) = rows ∷ proposals_in posts
 proposals_in (End ∷ posts) = proposals_in posts
 
--- what a line has before its first post
-abbrev pub no_group : Group
-no_group = record { name = []; device_names = []; link_names = []; devices = []; links = []; promises = [] }
-
--- the group that a line is of
+-- the group that a line is of; none before its first post
 abbrev pub group_in : List Post → Group
 group_in [] = no_group
 group_in (Open g ∷ posts) = g

@@ -18,7 +18,7 @@ use Rattle.st_overlay.specs.Values.{Values}
 use Rattle.st_control.specs.Sure.{shown_by, MarksShown}
 use Rattle.st_control.specs.declared.settled.Shown.TheVariants.{Sure}
 
--- at its opening values it carries no traffic, whatever its level
+-- at the opening values an entity that the group does not have carries no traffic, whatever its level
 pub carries_not : (g : Group) (e : Entity) (level : ℕ) → is_of g e ≡ false → carries e (opening_of g e) level ≡ false
 carries_not g (Device i) level beyond = let far = not_less i (length g.devices) beyond in rw (opening_of, get_or_past g.devices i no_device far) refl
 carries_not g (Link i) level beyond = let far = not_less i (length g.links) beyond in rw (opening_of, get_or_past g.links i no_link far) refl
@@ -28,7 +28,7 @@ pub none_and : (b c : Bool) → c ≡ false → (b && c) ≡ false
 none_and true c is = is
 none_and false c is = refl
 
--- it is not sure
+-- an entity that the group does not have is not sure
 not_sure : (g : Group) (observed : List Report) (stamps : List ℕ) (values : Values) (e : Entity) → length observed ≡ entity_count g → is_of g e ≡ false → shown_by Sure g observed stamps values e ≡ false
 not_sure g observed stamps values e count beyond = rw (item_beyond g observed (opening_report g) e count beyond) (none_and _ (carries e (opening_of g e) (opening_report g e).level) (carries_not g e (opening_report g e).level beyond))
 

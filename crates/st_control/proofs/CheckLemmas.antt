@@ -22,8 +22,8 @@ use Rattle.st_event.specs.declared.reply.Verdict.TheVariants.{Accepted, Refused}
 use Rattle.st_event.specs.Judge.{cause_or, refusal_or_version, first_lack, first_locked}
 use Rattle.st_event.specs.Standing.{sure_in}
 use Rattle.st_overlay.specs.Values.{value_in}
-use Rattle.st_control.specs.declared.control.Decision.{Decision}
-use Rattle.st_control.specs.declared.control.Weighed.{Weighed}
+use Rattle.st_control.specs.declared.control.checks.Decision.{Decision}
+use Rattle.st_control.specs.declared.control.checks.Weighed.{Weighed}
 use Rattle.st_event.specs.Proposals.{first_rows}
 use Rattle.st_store.specs.Changes.{value_at}
 use Rattle.st_store.specs.declared.pending.Pending.{Pending}
@@ -95,7 +95,7 @@ due_as k new n entry version p judged verdict same oldest is last answer =
 abbrev decided_as : ControlView → ℕ → Verdict → Reply
 decided_as k n verdict = Decided (record { ticket = length k.store.decided + 1; entry = n; verdict = verdict })
 
--- what waits first, by how it is to be decided
+-- the verdict that is due on the oldest proposal
 abbrev verdict_due : (k : ControlView) (d : Decision) → IsDue k d → Verdict
 verdict_due k d due = verdict_in k.group (standing_in k) due.oldest.app due.oldest.rows
 

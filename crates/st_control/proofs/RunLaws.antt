@@ -1,4 +1,4 @@
--- A checker with another count of runs stands as it did.
+-- A checker with another count of runs stands as before.
 use Rattle.std.proofs.Common.{◌≡◌, ℕ, ◌+◌, List, ◌∷◌, length, All, refl, subst, arith}
 use Rattle.std.specs.Prelude.{Bool, true, false, nat_lt, Result, Ok, Err, IfOk, if◌then◌else◌}
 use Rattle.st_net.specs.Groups.{Group}

@@ -1,19 +1,19 @@
--- A check away from its checker: what it is judged on, and what was found.
+-- A check away from its checker: the basis that a proposal is judged on, and the judgement of a basis.
 use Rattle.std.specs.Prelude.{◌≡◌, ℕ, ◌+◌, ◌<◌, ◌≤◌, Bool, List, take, length, Option}
 use Rattle.st_net.specs.declared.promise.Broken.{Broken}
 use Rattle.st_net.specs.Groups.{Group}
 use Rattle.st_net.specs.Merge.{without_altered}
-use Rattle.st_net.specs.Demands.{first_broken_of, held_list}
+use Rattle.st_net.specs.Demands.{first_broken_of}
 use Rattle.st_net.specs.Sets.{Marks, MarksOf, is_in}
 use Rattle.st_event.specs.Proposals.{first_rows}
 use Rattle.st_event.specs.Standing.{sure_in}
 use Rattle.st_overlay.specs.Values.{value_in}
-use Rattle.st_promise.specs.Book.{AreNeedsOf, AreKept}
+use Rattle.st_promise.specs.Book.{AreNeedsOf, AreKept, held_asks}
 use Rattle.st_promise.specs.ToFirst.{told_to}
 use Rattle.st_control.specs.Control.{ControlView, standing_in}
 
--- a group and what its promises need; a ticket; the sure entities, and those that the proposal leaves as they are; and which promises
--- were known to hold while these are up
+-- a group and what its asks need; a ticket; the sure entities, and those that the proposal leaves as they are; and which asks were known
+-- to hold while these are up
 pub record BasisView : Type 0 where
   pub group : Group
   pub needs : List ℕ
@@ -22,7 +22,7 @@ pub record BasisView : Type 0 where
   pub after : Marks
   pub known : List Bool
 
--- the needs are those of the group, there is a mark for each of its entities, and what is known is so
+-- the needs are those of the group, each set has a mark for each entity of the group, and what is known to hold holds
 pub record IsBasis (b : BasisView) : Type 0 where
   pub needs : AreNeedsOf b.group b.needs
   pub ticket : 0 < b.ticket
@@ -30,8 +30,8 @@ pub record IsBasis (b : BasisView) : Type 0 where
   pub after : MarksOf b.group b.after
   pub known : AreKept b.group (is_in b.after) b.known
 
--- the group, the ticket and the sets of a basis; the first promise that holds in the one set and not in the other; and of each promise
--- up to that one whether it holds in the other
+-- the group, the ticket and the sets of a basis; the first demand that holds in the one set and not in the other; and of each ask up to
+-- that of this demand whether it holds in the other
 pub record JudgedView : Type 0 where
   pub group : Group
   pub ticket : ℕ
@@ -45,16 +45,16 @@ pub record IsJudged (j : JudgedView) : Type 0 where
   pub sure : MarksOf j.group j.sure
   pub after : MarksOf j.group j.after
   pub first : j.first ≡ first_broken_of j.group (is_in j.sure) (is_in j.after)
-  pub holds : j.holds ≡ take (told_to j.group j.first) (held_list j.group (is_in j.after))
+  pub holds : j.holds ≡ take (told_to j.group j.first) (held_asks j.group (is_in j.after))
 
--- this was judged on that
+-- the judgement is of this basis
 pub record IsJudgedOf (b : BasisView) (j : JudgedView) : Type 0 where
   pub group : j.group ≡ b.group
   pub ticket : j.ticket ≡ b.ticket
   pub sure : j.sure ≡ b.sure
   pub after : j.after ≡ b.after
 
--- what the oldest proposal is judged on, where the checker stands so
+-- the basis is what the oldest proposal of this checker is judged on
 pub record IsBasisOf (k : ControlView) (b : BasisView) : Type 0 where
   pub group : b.group ≡ k.group
   pub oldest : b.ticket ≡ length k.store.decided + 1

@@ -1,4 +1,4 @@
--- What a begin of a check finds, and what a commit of it does.
+-- What a checker gives at the begin of a check, and what the commit of a judgement does.
 use Rattle.std.specs.Prelude.{◌≡◌, ℕ, ◌+◌, ◌≤◌, [], length, Some}
 use Rattle.st_net.specs.Numbered.{nth}
 use Rattle.st_event.specs.declared.event.Event.TheVariants.{Check}
@@ -10,7 +10,7 @@ use Rattle.st_control.specs.declared.control.commits.Commit.TheVariants.{Decided
 use Rattle.st_control.specs.Basis.{IsBasisOf}
 use Rattle.st_control.specs.Control.{ControlView, Moves}
 
--- a basis, or nothing waits
+-- a basis, or no proposal is pending
 abbrev pub Begins : ControlView → Begin → Type 0
 Begins k (Basis basis) = IsBasisOf k basis
 Begins k Idle = k.store.pending ≡ []
@@ -20,7 +20,7 @@ pub record MayCommit (k : ControlView) (ticket : ℕ) : Type 0 where
   pub given : ticket ≤ k.store.tickets
   pub lower : ticket ≤ length k.store.decided + 1
 
--- the oldest proposal has the ticket and gets the verdict that is called for, whatever was judged; or that ticket was decided, by this entry
+-- the oldest proposal has the ticket and gets the verdict that is called for, whatever was judged; or this entry had decided the ticket
 abbrev pub Commits : ControlView → ControlView → ℕ → ℕ → Commit → Type 0
 Commits old new n ticket (Decided receipt) = (receipt.ticket ≡ ticket) × Moves old new n Check (decided_reply receipt)
 Commits old new n ticket (Gone entry) = (nth old.store.decided ticket ≡ Some entry) × (new ≡ old)

@@ -1,4 +1,4 @@
--- A checker as contracts see it, how its group stands by what it keeps, and what one call of it does.
+-- A checker as contracts see it, how the group stands by what the checker keeps, and what one call of the checker does.
 use Rattle.std.specs.Prelude.{◌≡◌, ℕ, ◌+◌, List, [], length, Some}
 use Rattle.st_net.specs.declared.entity.Var.{Var}
 use Rattle.st_net.specs.Groups.{Group}
@@ -28,11 +28,11 @@ use Rattle.st_store.specs.declared.reports.Keep.{Keep}
 use Rattle.st_store.specs.declared.reports.Keep.TheVariants.{Taken, Old}
 use Rattle.st_control.specs.declared.send.SendStep.{SendStep}
 use Rattle.st_control.specs.declared.send.SendStep.TheVariants.{Command, Settled, Blocked}
-use Rattle.st_control.specs.declared.control.Check.{Check}
-use Rattle.st_control.specs.declared.control.Check.TheVariants.{Decided, Idle}
+use Rattle.st_control.specs.declared.control.checks.Check.{Check}
+use Rattle.st_control.specs.declared.control.checks.Check.TheVariants.{Decided, Idle}
 
--- the group, the book of its promises, and how many runs of a flow that counted; its proposals, target and kept reports; its locks; and a
--- stamp for each entity, in the order of entities
+-- the group; the book of the group's promises, and how many runs of a flow the book counted; the proposals, the target and the kept reports;
+-- the locks; and a stamp for each entity, in the order of entities
 pub record ControlView : Type 0 where
   pub group : Group
   pub book : BookOf
@@ -41,11 +41,11 @@ pub record ControlView : Type 0 where
   pub locks : LockRows
   pub stamps : List ℕ
 
--- the same with another count
+-- the checker with another count of runs
 abbrev pub with_runs : ControlView → ℕ → ControlView
 with_runs k n = record k { flows_run = n }
 
--- nothing has changed but the count
+-- nothing has changed but the count of runs
 abbrev pub IsSameButRuns : ControlView → ControlView → Type 0
 IsSameButRuns old new = new ≡ with_runs old new.flows_run
 
@@ -62,7 +62,7 @@ standing_in k = record {
   observed = report_in k.group k.store.observed;
 }
 
--- and the values at each version
+-- the values at each version, by what the checker keeps
 abbrev pub versions_in : ControlView → ℕ → Entity → Var → ℕ
 versions_in k = value_at_version k.store.versions
 
@@ -82,7 +82,7 @@ abbrev pub reply_of_release : Release → Reply
 reply_of_release Released = released_reply
 reply_of_release (NotYours holder) = not_yours_reply holder
 
--- the event gets the reply that is called for, as entry n, and moves the standing and the versions by it, whatever messages there are
+-- the event gets the reply that is called for, as entry n, and this entry moves the standing and the versions, whatever messages there are
 pub record Moves (old new : ControlView) (n : ℕ) (event : Event) (answer : Reply) : Type 0 where
   pub reply : (w : Wires) → answer ≡ reply_in old.group (standing_in old) w n event
   pub standing : (w : Wires) → standing_in new ≡ standing_after old.group (standing_in old) w n event answer
@@ -98,7 +98,7 @@ abbrev pub reply_of_keep : Keep → Reply
 reply_of_keep Taken = taken_reply
 reply_of_keep (Old kept) = old_reply kept
 
--- what an entity is to be sent is what a Send of it calls for, whatever messages there are; and a command carries the entity's stamp and
+-- what an entity is to be sent is what a Send of the entity calls for, whatever messages there are; and a command carries the entity's stamp and
 -- its target's values
 pub record Sends (k : ControlView) (e : Entity) (step : SendStep) : Type 0 where
   pub reply : (w : Wires) (n : ℕ) → reply_of_send (length w.commands) step ≡ reply_in k.group (standing_in k) w n (Send e)

@@ -1,4 +1,4 @@
--- Of no concern to callers: the fields of a checker, and what they keep.
+-- Of no concern to callers: the fields of a checker, and what holds of the fields between calls.
 use Rattle.std.specs.Prelude.{◌≡◌, length, All}
 use Rattle.st_net.specs.Groups.{Group}
 use Rattle.st_net.specs.Ranges.{RowsFit}

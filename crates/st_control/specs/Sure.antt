@@ -21,7 +21,7 @@ is_shown_by Sure e r stamp target = is_sure_by e r stamp target
 abbrev pub shown_by : Shown → Group → List Report → List ℕ → Values → Entity → Bool
 shown_by shown g observed stamps values = λ e. is_shown_by shown e (report_in g observed e) (stamp_in g stamps e) (vals_in g (value_in values) e)
 
--- a mark for each entity of the group, and the entities of the group that are so are marked
+-- a mark for each entity of the group: just those are marked that are settled, or sure
 pub record MarksShown (shown : Shown) (g : Group) (observed : List Report) (stamps : List ℕ) (values : Values) (set : Marks) : Type 0 where
   pub marks : MarksOf g set
   pub shown_is : (e : Entity) → is_in set e ≡ (is_of g e && shown_by shown g observed stamps values e)

@@ -15,9 +15,9 @@ use std::marker::Model;
 use std::sync::Arc;
 use std::thread::Threads;
 
-/// What a proposal is judged on: its group, which is shared with the checker and other bases and not copied, with what its promises
-/// need; its ticket; the sure entities, and those of them that its rows leave as they are; and which promises the checker's kept flows
-/// showed to hold while these are up.
+/// What a proposal is judged on: its group, which is shared with the checker and other bases and not copied, with what its asks need;
+/// its ticket; the sure entities, and those of them that its rows leave as they are; and which asks the checker's kept flows showed to
+/// hold while these are up.
 #[derive(Drop)]
 pub struct Basis {
     topo: Arc<GroupTopo, Global>,
@@ -39,8 +39,8 @@ impl Model for Basis {
     ghost invariant = { λ b. IsBasis (record { group = arc_value b.topo; needs = b.needs.items; ticket = b.ticket; sure = b.sure; after = b.after; known = b.known.items }) };
 }
 
-/// What was found of a basis: the first promise of its group that holds while the sure entities are up, and not while only those of them
-/// are that it leaves as they are; and of each promise up to that one whether it holds then.
+/// What was found of a basis: the first demand of its group that holds while the sure entities are up, and not while only those of them
+/// are that it leaves as they are; and of each ask up to that of this demand whether it holds then.
 #[derive(Drop)]
 pub struct Judged {
     topo: Arc<GroupTopo, Global>,
@@ -106,7 +106,7 @@ impl Judged {
         self.ticket
     }
 
-    /// The first promise that holds in one set and not in another, where the group has the network and the promises of
+    /// The first demand that holds in one set and not in another, where the group has the network and the promises of
     /// the judged one, and these are the judged sets. Elsewhere that is not known.
     pub(crate) fn found_in(
         &self,
@@ -128,8 +128,8 @@ impl Judged {
         }
     }
 
-    /// The promises that are known to hold in a set: those that were found to hold, where the group has the network and the promises of
-    /// the judged one, and the set has all that the judged set has. More entities keep a promise. Elsewhere none is known.
+    /// The asks that are known to hold in a set: those that were found to hold, where the group has the network and the promises of the
+    /// judged one, and the set has all that the judged set has. More entities keep an ask. Elsewhere none is known.
     pub(crate) fn known_in(&self, topo: &GroupTopo, up: &EntitySet) -> &[bool]
         requires { MarksOf topo.now up.now }
         ensures { AreKept topo.now (is_in up.now) result.now }
@@ -144,8 +144,8 @@ impl Judged {
     }
 }
 
-/// Judges a basis: the promises of which it is not known that they hold, up to the first that breaks, in as many threads as they are worth.
-/// No checker is asked, so it needs no lock.
+/// Judges a basis: the asks of which it is not known that they hold, up to the first demand that breaks, in as many threads as they are
+/// worth. No checker is asked, so it needs no lock.
 pub fn judge_basis(
     rt: &(impl Threads + Sync),
     alloc: Global,

@@ -1,123 +1,47 @@
-//! The checker of one group. What it keeps is enough to answer an event as the group's whole journal calls for.
+//! The checker of one group. What a checker keeps is enough to answer an event as the group's whole journal calls for. `checks` decides
+//! proposals, and `commits` those that were judged away from the checker.
 
-ghost use Rattle.std.specs.Prelude.{◌≡◌, option_map, ℕ, ◌<◌, ◌≤◌, ◌^◌, ◌+◌, length, map, IfOk, IfSome, OnErr, OnOk};
+ghost use Rattle.std.specs.Prelude.{◌≡◌, ℕ, ◌<◌, ◌^◌, ◌+◌, length, IfOk, OnErr};
 ghost use Rattle.std.specs.Arc.{arc_value};
 ghost use Rattle.st_net.specs.declared.entity.Entity.{Entity};
 ghost use Rattle.st_net.specs.Groups.{IsEntityOf, promise_of};
-ghost use Rattle.st_net.specs.Demands.{first_broken_of, held_list};
+ghost use Rattle.st_net.specs.Demands.{held_list};
 ghost use Rattle.st_net.specs.Promises.{is_kept, need_of};
 ghost use Rattle.st_net.specs.Ranges.{RowsFit};
 ghost use Rattle.st_net.specs.Sets.{is_in, MarksOf};
-ghost use Rattle.st_event.specs.declared.event.Event.TheVariants.{Submit, Check as check_event, Lock, Unlock};
-ghost use Rattle.st_event.specs.declared.event.Proposal.{Proposal};
-ghost use Rattle.st_event.specs.Judge.{refusal_or_version};
-ghost use Rattle.st_event.specs.declared.reply.Cause.TheVariants.{Broken as broken_cause};
-ghost use Rattle.st_event.specs.declared.reply.Reply.TheVariants.{Decided as decided_reply};
+ghost use Rattle.st_event.specs.declared.event.Event.TheVariants.{Submit, Lock, Unlock};
 ghost use Rattle.st_event.specs.Standing.{sure_in, settled_in};
 ghost use Rattle.st_locks.specs.LockRows.{LocksOf, holder_in};
-ghost use Rattle.st_store.specs.Store.{IsStart as is_start_store, IsStoreOf, proposal_of};
-ghost use Rattle.st_control.specs.Control.{IsSameButRuns, Moves, Sends, Hears, OldChangesNothing, IsStart, standing_in, reply_of_put, reply_of_check, reply_of_grant, reply_of_release};
-ghost use Rattle.st_control.specs.Verdict.{IsDue, IsLatest, first_broken_without, sure_without, AreJudgedIn, IsJudgedIn};
-ghost use Rattle.st_promise.specs.Book.{AreKept, IsBookOf};
+ghost use Rattle.st_store.specs.Store.{IsStart as is_start_store, IsStoreOf};
+ghost use Rattle.st_control.specs.Control.{Moves, Sends, Hears, OldChangesNothing, IsStart, standing_in, reply_of_put, reply_of_grant, reply_of_release};
+ghost use Rattle.st_control.specs.Verdict.{sure_without};
+ghost use Rattle.st_promise.specs.Book.{IsBookOf};
 ghost use Rattle.st_net.specs.InOrder.{entity_count, stamp_in};
 ghost use Rattle.st_control.specs.Sure.{MarksShown};
 
+pub mod checks;
 pub mod commits;
 
-use crate::basis::Judged;
 use crate::send::{SendStep, governing_row, shows_other};
 use crate::settled::Shown;
-use crate::stamps::{opening_stamps, stamp_all};
+use crate::stamps::opening_stamps;
 use crate::sure::shown_set;
-use crate::twice::Twice;
-use st_event::{Cause, Receipt, Rows, Verdict};
+use st_event::Rows;
 use st_locks::{Grant, LockTable, Release};
-use st_net::{AppId, Broken, Command, Entity, EntitySet, GroupTopo, Prio, Report};
-use st_overlay::changed;
+use st_net::{AppId, Command, Entity, EntitySet, GroupTopo, Prio, Report};
 use st_plan::settled;
 use st_promise::Book;
-use st_rows::{judge_rows, lack};
-use st_store::{Keep, Pending, Put, Store};
+use st_rows::lack;
+use st_store::{Keep, Put, Store};
 use std::alloc::{AllocError, Global};
 use std::marker::Model;
 use std::sync::Arc;
 
-/// The answer to a check.
-#[derive(Drop)]
-pub enum Check {
-    /// The oldest proposal was decided.
-    Decided(Receipt),
-    /// Nothing waits.
-    Idle,
-}
-
-/// What stands against a proposal, as far as it was judged, and the entities that its rows alter.
-#[derive(Drop)]
-struct Weighed {
-    refusal: Option<Cause>,
-    changed: EntitySet,
-}
-
-/// What is to be decided of the oldest proposal: the receipt that it is to get, and the entities that its rows alter.
-#[derive(Drop)]
-struct Decision {
-    receipt: Receipt,
-    changed: EntitySet,
-}
-
-/// The sure entities, and those that are left of them while some change.
+/// The sure entities, and those of them that a change leaves as they are.
 #[derive(Drop)]
 struct SureSets {
     sure: EntitySet,
     after: EntitySet,
-}
-
-/// The promises that what was judged away from the checker tells of a set; none where nothing was.
-fn known_in<'a>(judged: Option<&'a Judged>, topo: &GroupTopo, up: &EntitySet) -> &'a [bool]
-    requires { MarksOf topo.now up.now }
-    ensures { AreKept topo.now (is_in up.now) result.now }
-{
-    match judged {
-        Some(judged) => judged.known_in(topo, up),
-        None => &[],
-    }
-}
-
-/// The first promise that would break, as what was judged away from the checker tells of just these sets; None where it does not.
-fn found_in<'a>(
-    judged: Option<&'a Judged>,
-    topo: &GroupTopo,
-    before: &EntitySet,
-    after: &EntitySet,
-) -> Option<&'a Option<Broken>>
-    requires before { MarksOf topo.now before.now }
-    requires after { MarksOf topo.now after.now }
-    ensures { IfSome result (λ first. first.now ≡ first_broken_of topo.now (is_in before.now) (is_in after.now)) }
-{
-    judged?.found_in(topo, before, after)
-}
-
-/// A broken promise as a cause.
-fn cause_of(alloc: Global, first: &Option<Broken>) -> Result<Option<Cause>, AllocError>
-    ensures { IfOk result (λ cause. cause ≡ option_map broken_cause first.now) }
-{
-    match first {
-        Some(broken) => Ok(Some(Cause::Broken(broken.copy(alloc)?))),
-        None => Ok(None),
-    }
-}
-
-/// The verdict by what stands against a proposal, where the target has this version.
-fn verdict_of(refusal: Option<Cause>, version: u32) -> Verdict
-    requires { version + 1 < 2 ^ 32 }
-    ensures { result ≡ refusal_or_version refusal version }
-{
-    match refusal {
-        Some(cause) => Verdict::Refused(cause),
-        None => Verdict::Accepted {
-            version: version + 1,
-        },
-    }
 }
 
 /// A copy of a group that can be shared.
@@ -131,7 +55,7 @@ fn shared_copy(alloc: Global, topo: &GroupTopo) -> Result<Arc<GroupTopo, Global>
     }
 }
 
-/// The checker of one group. It has a copy of its group, made once, that it shares with what is judged away from it.
+/// The checker of one group. The group is copied once, and the copy is shared with each basis that is judged away from the checker.
 #[derive(Drop)]
 pub struct Control {
     alloc: Global,
@@ -169,7 +93,7 @@ fn opening_book(
     Ok((book, shared_copy(alloc, topo)?))
 }
 
-/// What is kept of a group's entities at its opening: values and reports, stamps, and locks.
+/// What a checker keeps of the entities at the opening of their group: values and reports, stamps, and locks.
 fn opening_tables(
     alloc: Global,
     topo: &GroupTopo,
@@ -226,8 +150,8 @@ impl Control {
         &self.locks
     }
 
-    /// The stamp of each entity, in the order of entities: the number of the last entry that changed or renewed its target, and 0
-    /// before any.
+    /// The stamp of each entity, in the order of entities: the number of the last entry that changed or renewed the entity's target, and 0
+    /// before any such entry.
     pub fn stamps(&self) -> &[u32]
         ensures stamps { result.now ≡ self.now.stamps }
         ensures count { length result.now ≡ entity_count self.now.group }
@@ -235,8 +159,8 @@ impl Control {
         self.stamps.as_slice()
     }
 
-    /// How many times the book of the promises looked for a flow since the checker was started, in the calls that may change it. It
-    /// never falls.
+    /// How many runs of a flow the book of the promises has counted since the checker was started: those of the calls that may change the
+    /// book. The count never falls.
     pub fn flows_run(&self) -> u64
         ensures { result ≡ self.now.flows_run }
     {
@@ -251,8 +175,8 @@ impl Control {
         self.book.need(i)
     }
 
-    /// Whether promise number `i` holds while these entities are up: as the flow that is kept of it shows, or else by one that is not
-    /// kept, for which the network of the set is built.
+    /// Whether promise number `i` holds while these entities are up. The flow that is kept of the promise may show so; else the network of
+    /// the set is built, and a flow is run that is not kept.
     pub fn is_held(&self, up: &EntitySet, i: u32) -> Result<bool, AllocError>
         requires promise { i < length self.now.group.promises }
         requires marks { MarksOf self.now.group up.now }
@@ -261,7 +185,7 @@ impl Control {
         self.book.is_held(&self.topo, up, i)
     }
 
-    /// Whether each promise, in order, holds while these entities are up. Where the kept flows show all, no network is built, and else
+    /// Whether each demand, in order, holds while these entities are up. Where the kept flows show all, no network is built, and else
     /// one.
     pub fn held_in(&self, up: &EntitySet) -> Result<Vec<bool>, AllocError>
         requires { MarksOf self.now.group up.now }
@@ -301,7 +225,7 @@ impl Control {
         self.shown(Shown::Settled)
     }
 
-    /// Puts a proposal at the end of the queue, unless 64 wait: then it is dropped. At `Err` nothing has changed.
+    /// Puts a proposal at the end of the queue. Where 64 proposals are pending, the new one is dropped. At `Err` nothing has changed.
     pub fn submit(&mut self, app: AppId, rows: Rows) -> Result<Put, AllocError>
         requires fits { RowsFit self.old.group rows }
         requires tickets { self.old.store.tickets + 1 < 2 ^ 32 }
@@ -312,27 +236,7 @@ impl Control {
         self.store.put(app, rows)
     }
 
-    /// What stands against a proposal in its rows by themselves.
-    fn weigh_rows(&self, proposal: &Pending) -> Result<Weighed, AllocError>
-        requires { RowsFit self.now.group proposal.now.rows }
-        ensures judged { IfOk result (AreJudgedIn self.now (proposal_of proposal.now)) }
-        ensures latest { IsLatest self.now.store }
-    {
-        let rows = proposal.rows.as_slice();
-        let table = self.store.target();
-        let changed = changed(self.alloc, &self.topo, table, rows)?;
-        let refusal = judge_rows(
-            &self.topo,
-            self.store.observed(),
-            table,
-            &self.locks,
-            proposal.app,
-            rows,
-        );
-        Ok(Weighed { refusal, changed })
-    }
-
-    /// The sure entities, and those that are left of them while these change.
+    /// The sure entities, and those of them that a change of these entities leaves as they are.
     fn sure_sets(&self, changed: &EntitySet) -> Result<SureSets, AllocError>
         requires { MarksOf self.now.group changed.now }
         ensures sure_of { IfOk result (λ sets. MarksOf self.now.group sets.sure) }
@@ -346,180 +250,10 @@ impl Control {
         Ok(SureSets { sure, after })
     }
 
-    /// The first promise that would break while these entities change, as a cause. Where just these sets were judged away from the checker,
-    /// none is judged again; else none of which that still tells that it holds.
-    fn broken(
-        &mut self,
-        changed: &EntitySet,
-        judged: Option<&Judged>,
-    ) -> Result<Option<Cause>, AllocError>
-        requires { MarksOf self.old.group changed.now }
-        ensures broken { IfOk result (λ cause. cause ≡ option_map broken_cause (first_broken_without self.old changed.now)) }
-        ensures same { IsSameButRuns self.old self.new }
-        ensures runs { self.old.flows_run ≤ self.new.flows_run }
-    {
-        let SureSets { sure, after } = self.sure_sets(changed)?;
-        if let Some(first) = found_in(judged, &self.topo, &sure, &after) {
-            return cause_of(self.alloc, first);
-        }
-        let known = known_in(judged, &self.topo, &after);
-        let broken = self.book.judge_rest(&self.topo, known, &sure, &after)?;
-        Ok(broken.map(Cause::Broken))
-    }
-
-    /// What stands against a proposal of whose rows this is known: where nothing does, the promises are judged.
-    fn weigh(&mut self, rows: Weighed, judged: Option<&Judged>) -> Result<Weighed, AllocError>
-        requires marks { MarksOf self.old.group rows.changed }
-        ensures judged { (p : Proposal) → AreJudgedIn self.old p rows → IfOk result (IsJudgedIn self.old p) }
-        ensures same { IsSameButRuns self.old self.new }
-        ensures runs { self.old.flows_run ≤ self.new.flows_run }
-    {
-        let Weighed { refusal, changed } = rows;
-        match refusal {
-            Some(cause) => Ok(Weighed {
-                refusal: Some(cause),
-                changed,
-            }),
-            None => Ok(Weighed {
-                refusal: self.broken(&changed, judged)?,
-                changed,
-            }),
-        }
-    }
-
-    /// What is to be decided of the oldest proposal as entry number `entry`, by how the checker stands now. What was judged away from it
-    /// spares flows, and changes no verdict. Nothing changes but the count of runs.
-    fn judge_oldest(&mut self, entry: u32, judged: Option<&Judged>) -> Result<Decision, AllocError>
-        requires waits { 0 < length self.old.store.pending }
-        requires version { self.old.store.version + 1 < 2 ^ 32 }
-        ensures due { IfOk result (IsDue self.new) }
-        ensures ticket { IfOk result (λ decision. decision.receipt.ticket ≡ length self.old.store.decided + 1) }
-        ensures entry { IfOk result (λ decision. decision.receipt.entry ≡ entry) }
-        ensures latest { IsLatest self.new.store }
-        ensures same { IsSameButRuns self.old self.new }
-        ensures runs { self.old.flows_run ≤ self.new.flows_run }
-    {
-        let version = self.store.version();
-        let Some(oldest) = self.store.oldest() else {
-            unreachable!()
-        };
-        let ticket = oldest.ticket;
-        let rows = self.weigh_rows(oldest)?;
-        let Weighed { refusal, changed } = self.weigh(rows, judged)?;
-        let receipt = Receipt {
-            ticket,
-            entry,
-            verdict: verdict_of(refusal, version),
-        };
-        Ok(Decision { receipt, changed })
-    }
-
-    /// Decides the oldest proposal as it is due. At `Err` nothing has changed.
-    fn decide(&mut self, decision: &Decision) -> Result<(), AllocError>
-        requires due { IsDue self.old decision.now }
-        requires latest { IsLatest self.old.store }
-        requires version { self.old.store.version + 1 < 2 ^ 32 }
-        ensures ok { OnOk result (Moves self.old self.new decision.now.receipt.entry check_event (decided_reply decision.now.receipt)) }
-        ensures err { OnErr result (self.new ≡ self.old) }
-        ensures runs { self.new.flows_run ≡ self.old.flows_run }
-    {
-        let entry = decision.receipt.entry;
-        match &decision.receipt.verdict {
-            Verdict::Refused(_) => {
-                let _version = self.store.decide(entry, false)?;
-                Ok(())
-            }
-            Verdict::Accepted { .. } => {
-                let _version = self.store.decide(entry, true)?;
-                // What follows cannot fail.
-                stamp_all(
-                    &self.topo,
-                    self.stamps.as_mut_slice(),
-                    &decision.changed,
-                    entry,
-                );
-                Ok(())
-            }
-        }
-    }
-
-    /// Judges and decides the oldest proposal that waits, as entry number `entry`. At `Err` nothing has changed but the count of runs.
-    fn decide_oldest(&mut self, entry: u32, judged: Option<&Judged>) -> Result<Receipt, AllocError>
-        requires waits { 0 < length self.old.store.pending }
-        requires version { self.old.store.version + 1 < 2 ^ 32 }
-        ensures ok { IfOk result (λ receipt. Moves self.old self.new entry check_event (decided_reply receipt)) }
-        ensures ticket { IfOk result (λ receipt. receipt.ticket ≡ length self.old.store.decided + 1) }
-        ensures err { OnErr result (IsSameButRuns self.old self.new) }
-        ensures runs { self.old.flows_run ≤ self.new.flows_run }
-    {
-        let decision = self.judge_oldest(entry, judged)?;
-        self.decide(&decision)?;
-        Ok(decision.receipt)
-    }
-
-    /// The same, with the receipt twice: a journal keeps one.
-    fn decide_oldest_twice(
-        &mut self,
-        entry: u32,
-        judged: Option<&Judged>,
-    ) -> Result<Twice<Receipt>, AllocError>
-        requires waits { 0 < length self.old.store.pending }
-        requires version { self.old.store.version + 1 < 2 ^ 32 }
-        ensures ok { IfOk result (λ receipts. Moves self.old self.new entry check_event (decided_reply receipts.told)) }
-        ensures ticket { IfOk result (λ receipts. receipts.told.ticket ≡ length self.old.store.decided + 1) }
-        ensures kept { IfOk result (λ receipts. receipts.kept ≡ receipts.told) }
-        ensures err { OnErr result (IsSameButRuns self.old self.new) }
-        ensures runs { self.old.flows_run ≤ self.new.flows_run }
-    {
-        let decision = self.judge_oldest(entry, judged)?;
-        // Copied first: it can fail, and once the proposal is decided it is too late.
-        let kept = decision.receipt.copy(self.alloc)?;
-        self.decide(&decision)?;
-        Ok(Twice {
-            told: decision.receipt,
-            kept,
-        })
-    }
-
-    /// Decides the oldest proposal that waits, as entry number `entry`. At `Err` nothing has changed but the count of runs.
-    pub fn check(&mut self, entry: u32) -> Result<Check, AllocError>
-        requires version { self.old.store.version + 1 < 2 ^ 32 }
-        ensures ok { IfOk result (λ check. Moves self.old self.new entry check_event (reply_of_check check)) }
-        ensures err { OnErr result (IsSameButRuns self.old self.new) }
-        ensures runs { self.old.flows_run ≤ self.new.flows_run }
-    {
-        if self.store.oldest().is_none() {
-            return Ok(Check::Idle);
-        }
-        Ok(Check::Decided(self.decide_oldest(entry, None)?))
-    }
-
-    /// Does what `check` does, and gives the answer twice: one to hand out and one to enter in a journal. The second is copied before the
-    /// proposal is decided, since a copy can be refused memory. At `Err` nothing has changed but the count of runs.
-    pub fn check_twice(&mut self, entry: u32) -> Result<Twice<Check>, AllocError>
-        requires version { self.old.store.version + 1 < 2 ^ 32 }
-        ensures ok { IfOk result (λ checks. Moves self.old self.new entry check_event (reply_of_check checks.told)) }
-        ensures kept { IfOk result (λ checks. checks.kept ≡ checks.told) }
-        ensures err { OnErr result (IsSameButRuns self.old self.new) }
-        ensures runs { self.old.flows_run ≤ self.new.flows_run }
-    {
-        if self.store.oldest().is_none() {
-            return Ok(Twice {
-                told: Check::Idle,
-                kept: Check::Idle,
-            });
-        }
-        let Twice { told, kept } = self.decide_oldest_twice(entry, None)?;
-        Ok(Twice {
-            told: Check::Decided(told),
-            kept: Check::Decided(kept),
-        })
-    }
-
-    /// What an entity is to be sent, so that it becomes as the target has it. `Settled` comes exactly where it is settled. Else the
-    /// governing variable is the lowest one whose observed value is not the target's, and power where there is none: `Blocked` comes
-    /// exactly where that variable can't be set to its target value now, and carries that row. A command has the entity's stamp and
-    /// all its target values. It takes constant time.
+    /// What an entity is to be sent, so that the entity becomes as the target has it. `Settled` comes exactly where the entity is settled.
+    /// Else the governing variable is the lowest one whose observed value is not the target's, and power where there is none: `Blocked`
+    /// comes exactly where the governing variable can't be set to its target value now, and carries the row that would set it. A command
+    /// has the entity's stamp and all target values of the entity. The call takes constant time.
     pub fn send(&self, entity: Entity) -> SendStep
         requires { IsEntityOf self.now.group entity }
         ensures { Sends self.now entity result }
@@ -543,9 +277,9 @@ impl Control {
         }
     }
 
-    /// Hears a report as entry number `entry`: it is kept, unless the kept one of its entity has a number that is no lower, which
-    /// changes nothing. A report that is taken renews its entity, whose stamp is then `entry`, where it shows that the command of the
-    /// entity's stamp was carried out and yet other values than the target's. It takes constant time.
+    /// Hears a report as entry number `entry`. The report is taken where its number is above that of the entity's kept report, and is then
+    /// the kept one; at `Old` nothing changes. A taken report renews its entity, whose stamp is then `entry`, where the report shows that
+    /// the command of the entity's stamp was carried out, and yet other values than the target's. The call takes constant time.
     pub fn hear(&mut self, entry: u32, report: Report) -> Keep
         requires { IsEntityOf self.old.group report.entity }
         ensures hears { Hears self.old self.new entry report result }
@@ -562,7 +296,7 @@ impl Control {
         keep
     }
 
-    /// Gives a lock of an entity to an application, where no other holds it. At `Held` nothing changes.
+    /// Gives a lock of an entity to an application, where no other application holds the lock. At `Held` nothing changes.
     pub fn lock(&mut self, app: AppId, entity: Entity, prio: Prio) -> Grant
         requires { IsEntityOf self.old.group entity }
         ensures moves { (n : ℕ) → Moves self.old self.new n (Lock app entity prio) (reply_of_grant result) }
@@ -571,7 +305,7 @@ impl Control {
         self.locks.grant(app, entity, prio)
     }
 
-    /// Takes a lock of an entity back from its holder. At `NotYours` nothing changes.
+    /// Takes a lock of an entity back from the application that holds it. At `NotYours` nothing changes.
     pub fn unlock(&mut self, app: AppId, entity: Entity, prio: Prio) -> Release
         requires { IsEntityOf self.old.group entity }
         ensures moves { (n : ℕ) → Moves self.old self.new n (Unlock app entity prio) (reply_of_release result) }

@@ -1,5 +1,5 @@
-//! The checker of one group: it queues proposals, judges the oldest against what is observed, and merges what it accepts
-//! into the group's target. Its answers are replies of the group's journal.
+//! The checker of one group: it queues proposals, judges the oldest against what is observed, and merges the rows that it accepts
+//! into the group's target. What the checker answers, the group's journal has as replies.
 #![tactic(auto)]
 
 mod basis;
@@ -12,8 +12,9 @@ mod sure;
 mod twice;
 
 pub use basis::{Basis, Judged, judge_basis};
+pub use control::Control;
+pub use control::checks::Check;
 pub use control::commits::{Begin, Commit};
-pub use control::{Check, Control};
 pub use replies::{check_reply, grant_reply, keep_reply, put_reply, release_reply};
 pub use send::SendStep;
 pub use st_store::{Keep, Put};

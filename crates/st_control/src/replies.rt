@@ -1,10 +1,10 @@
 //! What the checker answers, as replies of a journal.
 
 ghost use Rattle.std.specs.Prelude.{◌≡◌, IsTrue};
-ghost use Rattle.st_event.specs.Events.{is_without_side};
+ghost use Rattle.st_event.specs.Events.{is_without_list};
 ghost use Rattle.st_control.specs.Control.{reply_of_put, reply_of_check, reply_of_grant, reply_of_keep, reply_of_release};
 
-use crate::control::Check;
+use crate::control::checks::Check;
 use st_event::Reply;
 use st_locks::{Grant, Release};
 use st_store::{Keep, Put};
@@ -12,7 +12,7 @@ use st_store::{Keep, Put};
 /// The reply that stands for the answer to a proposal.
 pub fn put_reply(put: Put) -> Reply
     ensures reply { result ≡ reply_of_put put }
-    ensures plain { IsTrue (is_without_side result) }
+    ensures plain { IsTrue (is_without_list result) }
 {
     match put {
         Put::Ticket(ticket) => Reply::Queued { ticket },
@@ -33,7 +33,7 @@ pub fn check_reply(check: Check) -> Reply
 /// The reply that stands for the answer to a request for a lock.
 pub fn grant_reply(grant: Grant) -> Reply
     ensures reply { result ≡ reply_of_grant grant }
-    ensures plain { IsTrue (is_without_side result) }
+    ensures plain { IsTrue (is_without_list result) }
 {
     match grant {
         Grant::Granted => Reply::Granted,
@@ -44,7 +44,7 @@ pub fn grant_reply(grant: Grant) -> Reply
 /// The reply that stands for the answer to a report.
 pub fn keep_reply(keep: Keep) -> Reply
     ensures reply { result ≡ reply_of_keep keep }
-    ensures plain { IsTrue (is_without_side result) }
+    ensures plain { IsTrue (is_without_list result) }
 {
     match keep {
         Keep::Taken => Reply::Taken,
@@ -55,7 +55,7 @@ pub fn keep_reply(keep: Keep) -> Reply
 /// The reply that stands for the answer to a release of a lock.
 pub fn release_reply(release: Release) -> Reply
     ensures reply { result ≡ reply_of_release release }
-    ensures plain { IsTrue (is_without_side result) }
+    ensures plain { IsTrue (is_without_list result) }
 {
     match release {
         Release::Released => Reply::Released,

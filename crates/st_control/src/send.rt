@@ -1,4 +1,4 @@
-//! What an entity is to be sent, and what a report says of a command that was: the pieces of the update path that look at one entity
+//! What an entity is to be sent, and what a report says of a command that was sent: the pieces of the update path that look at one entity
 //! alone.
 
 ghost use Rattle.std.specs.Prelude.{◌≡◌, ◌&&◌, ◌==◌, not};

@@ -1,4 +1,4 @@
-//! Which entities are as the target has them, and which of these are seen to carry traffic.
+//! Whether an entity is settled, which is as the target has it, or sure, which is settled and seen to carry traffic.
 
 ghost use Rattle.std.specs.Prelude.{◌≡◌};
 ghost use Rattle.st_net.specs.Reports.{is_settled_by, is_sure_by};
@@ -10,9 +10,9 @@ use st_plan::settled;
 /// What is asked of an entity by its report.
 #[derive(Clone, Copy, Debug, PartialEq, Eq)]
 pub enum Shown {
-    /// That it is as the target has it.
+    /// That the entity is as the target has it.
     Settled,
-    /// That it is settled and carries traffic.
+    /// That the entity is settled and carries traffic.
     Sure,
 }
 

@@ -1,4 +1,4 @@
-//! Which entities of a group are settled, or sure, found by looking at each in order.
+//! Which entities of a group are settled, or sure: each entity is looked at, in order.
 
 ghost use Rattle.std.specs.Prelude.{◌≡◌, ◌<◌, length, IfOk};
 ghost use Rattle.st_net.specs.Groups.{IsEntityOf};

@@ -1,6 +1,7 @@
 //! An answer, twice.
 
-/// One answer to hand out, and the same once more to enter in a journal: to copy it once its event is done could fail.
+/// An answer to hand out, and an equal one to enter in a journal. Both are made before the event is done, since a copy can be refused
+/// memory.
 #[derive(Drop)]
 pub struct Twice<T> {
     pub told: T,

@@ -15,10 +15,11 @@ use Rattle.st_event.specs.declared.reply.Verdict.{Verdict}
 use Rattle.st_event.specs.declared.reply.Verdict.TheVariants.{Refused}
 use Rattle.st_event.specs.declared.reply.Cause.TheVariants.{Broken as broken_cause}
 use Rattle.st_net.specs.declared.promise.BrokenKind.{BrokenKind}
+use Rattle.st_net.specs.declared.promise.BrokenOf.TheVariants.{Promise as of_promise}
 use Rattle.st_event.specs.declared.journal.Entry.{Entry}
 use Rattle.st_net.specs.declared.topo.DeviceOpening.{DeviceOpening}
 use Rattle.st_net.specs.declared.topo.LinkOpening.{LinkOpening}
-use Rattle.st_net.specs.Groups.{Group}
+use Rattle.st_net.specs.Groups.{Group, no_group}
 use Rattle.st_event.specs.Replies.{reply}
 
 -- values of a device, and of a link
@@ -39,7 +40,7 @@ link a b = wide_link a b 10
 
 -- two ToRs, each linked to two switches, with one promise between the two; the switches open so
 abbrev pub two_paths : ℕ → DeviceOpening → DeviceOpening → Group
-two_paths percent a1 a2 = record {
+two_paths percent a1 a2 = record no_group {
   name = codes "dc1";
   device_names = codes "t1" ∷ codes "t2" ∷ codes "a1" ∷ codes "a2" ∷ [];
   link_names = codes "l1" ∷ codes "l2" ∷ codes "l3" ∷ codes "l4" ∷ [];
@@ -56,7 +57,7 @@ q = small 50
 
 -- three ToRs at one switch, with a promise from the first to each of the others; the second ToR opens so
 abbrev pub two_promises : DeviceOpening → Group
-two_promises t2 = record {
+two_promises t2 = record no_group {
   name = codes "dc1";
   device_names = codes "t1" ∷ codes "t2" ∷ codes "t3" ∷ codes "a1" ∷ [];
   link_names = codes "l1" ∷ codes "l2" ∷ codes "l3" ∷ [];
@@ -106,4 +107,4 @@ decided ticket entry verdict = Decided (record { ticket = ticket; entry = entry;
 
 -- the promise is broken so, and the first ToR alone is the least side
 abbrev pub breaks : BrokenKind → ℕ → ℕ → Verdict
-breaks kind need has = Refused (broken_cause (record { promise = 0; kind = kind; need = need; has = has; side = 0 ∷ [] }))
+breaks kind need has = Refused (broken_cause (record { of = of_promise 0; kind = kind; need = need; has = has; side = 0 ∷ [] }))

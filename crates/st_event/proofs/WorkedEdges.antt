@@ -16,8 +16,10 @@ use Rattle.st_event.specs.declared.reply.Lack.TheVariants.{Level}
 use Rattle.st_event.specs.declared.reply.Cause.TheVariants.{NotControllable, Locked, Broken as broken_cause}
 use Rattle.st_net.specs.declared.promise.Broken.{Broken}
 use Rattle.st_net.specs.declared.promise.BrokenKind.TheVariants.{CutOff, Short}
-use Rattle.st_net.specs.Groups.{Group, promise_of}
-use Rattle.st_net.specs.Demands.{demand_count, HoldsIn, is_held_in, held_list, first_broken_of, broken_pair}
+use Rattle.st_net.specs.declared.promise.BrokenOf.TheVariants.{Promise as of_promise}
+use Rattle.st_net.specs.Groups.{Group, no_group, promise_of}
+use Rattle.st_net.specs.Asks.{ask_count, ask_of}
+use Rattle.st_net.specs.Demands.{demand_count, HoldsIn, is_held_in, held_list, first_broken_of, broken_demand, broken_pair}
 use Rattle.st_net.specs.Promises.{Keeps, is_kept, need_of}
 use Rattle.st_event.specs.Proposals.{accepted, overlay_in, overlays, target}
 use Rattle.st_event.specs.Moments.{is_altered_by, stamp, vals}
@@ -58,13 +60,12 @@ spoiled_until_finished = (refl, refl)
 
 -- a first ToR, a first switch and a first link of these levels
 abbrev three_devices : ℕ → ℕ → ℕ → Group
-three_devices t a l = record {
+three_devices t a l = record no_group {
   name = codes "dc1";
   device_names = codes "t1" ∷ codes "t2" ∷ codes "a1" ∷ [];
   link_names = codes "l1" ∷ codes "l2" ∷ [];
   devices = device true usual t ∷ device true usual 5 ∷ device false usual a ∷ [];
   links = record { a = 0; b = 2; capacity = 10; vals = record { v0 = 1; v1 = 1; v2 = 0; v3 = 0 }; health = l } ∷ link 1 2 ∷ [];
-  promises = [];
 }
 
 -- of a link's lacks the first end's stands before the second's, and both before its own
@@ -121,7 +122,7 @@ two_numbers_of_a_report = refl
 
 -- two ways from the first device to the second, over a switch that both take
 abbrev one_way_in : ℕ → ℕ → Group
-one_way_in from to = record {
+one_way_in from to = record no_group {
   name = codes "dc1";
   device_names = codes "t1" ∷ codes "t2" ∷ codes "a1" ∷ codes "a2" ∷ [];
   link_names = codes "l1" ∷ codes "l2" ∷ codes "l3" ∷ codes "l4" ∷ [];
@@ -131,10 +132,10 @@ one_way_in from to = record {
 }
 
 -- the least side is not always the first ToR alone, and is that of the promise's first end
-side_of_two : replies (one_way_in 0 1) (propose up a2 Firmware 2 ∷ Check ∷ []) ≡ Queued 1 ∷ decided 1 2 (Refused (broken_cause (record { promise = 0; kind = Short; need = 20; has = 10; side = 0 ∷ 2 ∷ [] }))) ∷ []
+side_of_two : replies (one_way_in 0 1) (propose up a2 Firmware 2 ∷ Check ∷ []) ≡ Queued 1 ∷ decided 1 2 (Refused (broken_cause (record { of = of_promise 0; kind = Short; need = 20; has = 10; side = 0 ∷ 2 ∷ [] }))) ∷ []
 side_of_two = refl
 
-side_of_other_end : replies (one_way_in 1 0) (propose up a2 Firmware 2 ∷ Check ∷ []) ≡ Queued 1 ∷ decided 1 2 (Refused (broken_cause (record { promise = 0; kind = Short; need = 20; has = 10; side = 1 ∷ [] }))) ∷ []
+side_of_other_end : replies (one_way_in 1 0) (propose up a2 Firmware 2 ∷ Check ∷ []) ≡ Queued 1 ∷ decided 1 2 (Refused (broken_cause (record { of = of_promise 0; kind = Short; need = 20; has = 10; side = 1 ∷ [] }))) ∷ []
 side_of_other_end = refl
 
 -- a promise of 0 percent asks for a walk
@@ -143,7 +144,7 @@ walk_is_asked_for = refl
 
 -- a pair that is never joined needs 0; its promise does not hold, and refuses nothing
 abbrev never_joined : Group
-never_joined = record {
+never_joined = record no_group {
   name = codes "dc1";
   device_names = codes "t1" ∷ codes "t2" ∷ codes "a1" ∷ [];
   link_names = codes "l1" ∷ [];
@@ -187,8 +188,15 @@ demands_told = (refl, refl)
 all_demands_told : (held_list all_up (actual all_up []) ≡ true ∷ true ∷ []) × (held_list one_drained (actual one_drained []) ≡ false ∷ true ∷ [])
 all_demands_told = (refl, refl)
 
--- a broken one has the pair of its own promise, in the order in which that was declared
-pair_of_broken : let broken : ℕ → Broken = λ i. record { promise = i; kind = CutOff; need = 5; has = 0; side = 0 ∷ [] } in (broken_pair all_up (broken 0) ≡ (0, 1)) × (broken_pair all_up (broken 1) ≡ (0, 2)) × (broken_pair (one_way_in 1 0) (broken 0) ≡ (1, 0))
+-- what is asked of the network is the promises, by their numbers
+asks_are_promises : (ask_count all_up ≡ 2) × (map (ask_of all_up) (0 ∷ 1 ∷ []) ≡ record { a = 0; b = 1; percent = 50 } ∷ record { a = 0; b = 2; percent = 80 } ∷ [])
+asks_are_promises = (refl, refl)
+
+-- a broken one has the number of its own promise, and its pair in the order in which that was declared
+number_of_broken : let broken : ℕ → Broken = λ i. record { of = of_promise i; kind = CutOff; need = 5; has = 0; side = 0 ∷ [] } in (broken_demand all_up (broken 0) ≡ 0) × (broken_demand all_up (broken 1) ≡ 1)
+number_of_broken = (refl, refl)
+
+pair_of_broken : let broken : ℕ → Broken = λ i. record { of = of_promise i; kind = CutOff; need = 5; has = 0; side = 0 ∷ [] } in (broken_pair all_up (broken 0) ≡ (0, 1)) × (broken_pair all_up (broken 1) ≡ (0, 2)) × (broken_pair (one_way_in 1 0) (broken 0) ≡ (1, 0))
 pair_of_broken = (refl, refl, refl)
 
 -- of two demands that break the first one is named, with its number, its need and its side
@@ -197,7 +205,7 @@ first_is_named = refl
 
 -- the second promise is broken, of this side
 abbrev breaks_second : List ℕ → Reply
-breaks_second side = decided 1 2 (Refused (broken_cause (record { promise = 1; kind = CutOff; need = 8; has = 0; side = side })))
+breaks_second side = decided 1 2 (Refused (broken_cause (record { of = of_promise 1; kind = CutOff; need = 8; has = 0; side = side })))
 
 -- one that failed before is passed over, and so is one that goes on to hold; what is named has its number among all
 failed_before_is_passed : replies one_drained (propose up switch Firmware 2 ∷ Check ∷ []) ≡ Queued 1 ∷ breaks_second (0 ∷ []) ∷ []

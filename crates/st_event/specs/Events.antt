@@ -1,4 +1,4 @@
--- Which events and replies hold no list, and which events are checks, or requests of an application.
+-- Which events and replies hold no list, which events are answered without one, and which are checks, or requests of an application.
 use Rattle.std.specs.Prelude.{◌==◌, Bool, true, false}
 use Rattle.st_net.specs.declared.entity.AppId.{AppId}
 use Rattle.st_event.specs.declared.event.Event.{Event}
@@ -19,32 +19,45 @@ is_without_rows (Hear n) = true
 is_without_rows (Fail entity vals health) = true
 
 -- a receipt's verdict may hold a side
-abbrev pub is_without_side : Reply → Bool
-is_without_side (Queued ticket) = true
-is_without_side (Full pending) = true
-is_without_side (Decided receipt) = false
-is_without_side Idle = true
-is_without_side Granted = true
-is_without_side (Held holder) = true
-is_without_side Released = true
-is_without_side (NotYours holder) = true
-is_without_side (Sent command) = true
-is_without_side Settled = true
-is_without_side (Blocked row) = true
-is_without_side Begun = true
-is_without_side (Stale fence) = true
-is_without_side (NoSuch made) = true
-is_without_side Done = true
-is_without_side NotBusy = true
-is_without_side (Reported report) = true
-is_without_side Taken = true
-is_without_side (Old kept) = true
-is_without_side Changed = true
+abbrev pub is_without_list : Reply → Bool
+is_without_list (Queued ticket) = true
+is_without_list (Full pending) = true
+is_without_list (Decided receipt) = false
+is_without_list Idle = true
+is_without_list Granted = true
+is_without_list (Held holder) = true
+is_without_list Released = true
+is_without_list (NotYours holder) = true
+is_without_list (Sent command) = true
+is_without_list Settled = true
+is_without_list (Blocked row) = true
+is_without_list Begun = true
+is_without_list (Stale fence) = true
+is_without_list (NoSuch made) = true
+is_without_list Done = true
+is_without_list NotBusy = true
+is_without_list (Reported report) = true
+is_without_list Taken = true
+is_without_list (Old kept) = true
+is_without_list Changed = true
 
 -- whether an event decides a proposal that waits
 abbrev pub is_check : Event → Bool
 is_check Check = true
 is_check _ = false
+
+-- whether no reply to the event holds a list
+abbrev pub answers_without_list : Event → Bool
+answers_without_list (Submit app rows) = true
+answers_without_list Check = false
+answers_without_list (Lock app entity prio) = true
+answers_without_list (Unlock app entity prio) = true
+answers_without_list (Send entity) = true
+answers_without_list (Deliver n) = true
+answers_without_list (Finish entity) = true
+answers_without_list (Report entity) = true
+answers_without_list (Hear n) = true
+answers_without_list (Fail entity vals health) = true
 
 -- whether an event is a request that names an application
 abbrev pub is_request_of : AppId → Event → Bool

@@ -57,6 +57,13 @@ pub enum Act {
         group: u32,
         entity: Entity,
     },
+    /// A span: a proposal over two groups. No document has one yet, and no group does it alone.
+    Span {
+        first: u32,
+        first_rows: Rows,
+        second: u32,
+        second_rows: Rows,
+    },
 }
 
 /// What a command that reads saw.

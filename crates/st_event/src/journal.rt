@@ -1,7 +1,7 @@
 //! Journals: the events of a group in order, each with its reply.
 
 ghost use Rattle.std.specs.Prelude.{◌≡◌, IfOk, IsOk, IsTrue, ◌&&◌};
-ghost use Rattle.st_event.specs.Events.{is_without_rows, is_without_side};
+ghost use Rattle.st_event.specs.Events.{is_without_rows, is_without_list};
 
 use crate::event::Event;
 use crate::reply::Reply;
@@ -39,7 +39,7 @@ impl Entry {
     /// An equal entry.
     pub fn copy(&self, alloc: Global) -> Result<Entry, AllocError>
         ensures copy { IfOk result (λ copy. copy ≡ self.now) }
-        ensures without_memory { IsTrue (is_without_rows self.now.event && is_without_side self.now.reply) → IsOk result }
+        ensures without_memory { IsTrue (is_without_rows self.now.event && is_without_list self.now.reply) → IsOk result }
     {
         Ok(Entry {
             event: self.event.copy(alloc)?,

@@ -1,7 +1,7 @@
 //! The reply to each event, and the verdict on a proposal with what a refusal names.
 
 ghost use Rattle.std.specs.Prelude.{◌≡◌, IfOk, IsOk, IsTrue};
-ghost use Rattle.st_event.specs.Events.{is_without_side};
+ghost use Rattle.st_event.specs.Events.{is_without_list};
 
 use st_net::{AppId, Broken, Entity, Prio, Row};
 use std::alloc::{AllocError, Global};
@@ -29,7 +29,7 @@ pub enum Cause {
         holder: AppId,
         prio: Prio,
     },
-    /// The first promise that holds before and would not hold while the proposal's entities change.
+    /// The first demand that holds before and would not hold while the proposal's entities change.
     Broken(Broken),
 }
 
@@ -146,7 +146,7 @@ impl Reply {
     /// An equal reply. One that decides nothing takes no memory.
     pub fn copy(&self, alloc: Global) -> Result<Reply, AllocError>
         ensures copy { IfOk result (λ copy. copy ≡ self.now) }
-        ensures without_memory { IsTrue (is_without_side self.now) → IsOk result }
+        ensures without_memory { IsTrue (is_without_list self.now) → IsOk result }
     {
         Ok(match self {
             Reply::Queued { ticket } => Reply::Queued { ticket: *ticket },

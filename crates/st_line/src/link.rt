@@ -1,10 +1,10 @@
-//! What stands in the book of a line, and the rule that the book keeps. All of it is in proofs alone.
+//! What stands in a book of lines, and the rule that the book keeps. Book and rule stand in proofs alone.
 
 use logbook::{Gain, Pen, Plain, Play, Rule, Seen};
 use std::marker::PhantomData;
 
-/// A link of a book. It is of a line, by the key of the word that the line begins with, and has an entry and the key of the word that the
-/// next link of that line brings home. A link with no entry names a line, which begins there. No value of it is made.
+/// A link of a book. `line` is the key of the word with which the link's line begins, and `next` the key of the word that the next link
+/// of the same line brings home. A link with no entry names a line, which begins there. No value of this type is made.
 pub struct Link<E> {
     pub line: u64,
     pub entry: Option<E>,
@@ -43,7 +43,7 @@ impl<E> Gain<Link<E>, u64> for Nothing {
     ghost after = { λ names about answer. ftrue };
 }
 
-/// A step that adds a word to the book, with a link that names a line by it, and gives the pen of the word.
+/// A step that adds a word to the book, with a link that names a line by this word, and gives the pen of the word.
 pub struct Deal;
 
 impl<E> Play<Link<E>, u64> for Deal {
@@ -86,7 +86,8 @@ pub trait Tells<X, E> {
     ghost entry: { X → E };
 }
 
-/// What a link is told by: what tells its entry, what was seen when its line was named, and the pen of the word that it names.
+/// What tells a link with an entry: the value that tells the entry, what was seen when the line was named, and the pen of the word that the
+/// link names.
 #[derive(Clone, Copy)]
 pub struct Telling<'a, X, E> {
     pub about: &'a X,

@@ -7,11 +7,11 @@ use crate::link::{Law, Link};
 use logbook::Seen;
 use std::marker::Model;
 
-/// A beginning of a line that was seen. It has no bytes. Contracts see which line it is, and the entries.
+/// A beginning of a line that was seen. A log has no bytes. Contracts see which line it is of, and the entries.
 #[derive(Drop)]
 pub struct Log<E> {
     pub(crate) seen: Seen<Link<E>, u64, Law<E>>,
-    /// What was seen as the line was named.
+    /// What was seen when the line was named.
     pub(crate) named: Seen<Link<E>, u64, Law<E>>,
 }
 
@@ -35,7 +35,7 @@ impl<E> Log<E> {
         }
     }
 
-    /// Afterwards it knows what both knew.
+    /// Afterwards this log has what both logs had.
     pub fn learn(&mut self, other: &Log<E>)
         requires { other.now.book ≡ self.old.book }
         ensures book { self.new.book ≡ self.old.book }

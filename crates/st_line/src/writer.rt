@@ -10,10 +10,10 @@ use crate::log::Log;
 use logbook::{Offer, Pen, Seen, Start, Word};
 use std::marker::Model;
 
-/// The one who adds to a line, and so has seen all of it. Contracts see which line it is, and the entries.
+/// The one who adds to a line, and so has seen all of the line. Contracts see which line it is, and the entries.
 #[derive(Drop)]
 pub struct Writer<E> {
-    /// The word that all steps are made on. It stays at 0.
+    /// The word that all steps are made on, which stays at 0.
     head: Word<Link<E>, u64, Law<E>>,
     seen: Seen<Link<E>, u64, Law<E>>,
     named: Seen<Link<E>, u64, Law<E>>,
@@ -33,7 +33,7 @@ impl<E> Model for Writer<E> {
     ghost invariant = { IsWriter };
 }
 
-/// A pen for a new word of the book, which is not at home, and by which the book's last link names a line.
+/// A pen for a new word of the book. The word is not at home, and the book's last link names a line by the word.
 fn deal<E>(head: &Word<Link<E>, u64, Law<E>>, seen: &mut Seen<Link<E>, u64, Law<E>>) -> Pen
     requires head { head.now ≡ head_of seen.old.book }
     ensures book { (seen.new.book ≡ seen.old.book) × (result.book ≡ seen.old.book) }
@@ -45,7 +45,7 @@ fn deal<E>(head: &Word<Link<E>, u64, Law<E>>, seen: &mut Seen<Link<E>, u64, Law<
     let mut offer: Offer<Link<E>, u64, Law<E>, Nothing> = seen.plain::<Nothing, (), Blank>(&());
     let mut pen = seen.no_pen();
     let _ = head.compare_exchange::<Deal, Nothing>(0, 0, seen, &mut offer, &mut pen);
-    // The word of this pen is never read: that it is not at home yet is all that it tells.
+    // Nobody reads the word of this pen: it tells only that it is not at home yet.
     let _ = Word::<Link<E>, u64, Law<E>>::tracked(0, &mut pen);
     pen
 }
@@ -87,7 +87,7 @@ impl<E> Writer<E> {
         self.right = next;
     }
 
-    /// Whatever was seen of the line, the writer has all of it. Nothing changes.
+    /// The writer has all that this log has, as of each log of the line. Nothing changes.
     pub fn has_all(&mut self, log: &Log<E>)
         requires { log.now.book ≡ self.old.book }
         ensures same { self.new ≡ self.old }

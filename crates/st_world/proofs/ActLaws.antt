@@ -48,6 +48,10 @@ proposed-grows g course app rows =
 abbrev pub submitting : AppId → List Row → Group → List WireLine → Course → Course
 submitting app rows g lines course = enter g course (Submit app rows)
 
+-- the check that follows a proposal
+abbrev pub checking : Group → List WireLine → Course → Course
+checking g lines course = enter g course Check
+
 -- checks
 
 -- where what is pending does not pass no check is made
@@ -56,7 +60,7 @@ unfolding checked_while
 while_none g waits zero course none = refl
 while_none g waits (suc n) course none = rw none refl
 
--- else one check is made first
+-- where what is pending passes one check is made first
 while_one : (g : Group) (waits : List Proposal → Bool) (n : ℕ) (course : Course) → waits (pending course.past) ≡ true → checked_while g waits (suc n) course ≡ checked_while g waits n (enter g course Check)
 unfolding checked_while
 while_one g waits n course some = rw some refl
@@ -102,7 +106,7 @@ pub checks_end : (waits : List Proposal → Bool) (old now : WorldView) (made : 
 checks_end waits old now made none way =
     goes_none old now (checks_from waits MAX_PENDING old) (checks_from waits (MAX_PENDING - made) now) way (while_none now.history.group waits (MAX_PENDING - made) (course_from now.history.past) none)
 
--- and where so many were made none is left
+-- where 64 checks were made none is left
 pub checks_all : (waits : List Proposal → Bool) (old now : WorldView) (made : ℕ) → MAX_PENDING ≤ made → IsChecking waits old now made → Goes now (checks_from waits MAX_PENDING old) On
 checks_all waits old now made all way =
     let none_left : MAX_PENDING - made ≡ 0 = omega arith in
@@ -127,14 +131,14 @@ check_goes waits old now next made going way few some =
     part_goes (checks_behind waits made) old now next (checks_from waits MAX_PENDING old) (checks_from waits (MAX_PENDING - made) now) (check_now now) going way
     (first_check waits now made few some) (enter-grows now.history.group (course_from now.history.past) Check)
 
--- where a check meets a full journal no other follows
+-- where a check meets a full journal no other check follows
 pub check_stops : (waits : List Proposal → Bool) (old now next : WorldView) (made : ℕ) (going : Going) → IsChecking waits old now made → made < MAX_PENDING → waits (pending now.history.past) ≡ true → Goes next (check_now now) going → going ≡ Full → Goes next (checks_from waits MAX_PENDING old) Full
 check_stops waits old now next made going way few some is full =
     stops_there (checks_behind waits made now.history.group now.lines) next (check_now now) going is full (while-stopped now.history.group waits (MAX_PENDING - (made + 1)) (course_with Full next) refl)
     ∙ sym (first_check waits now made few some)
     ∙ way.ends
 
--- and where it meets an `Err` a part of them was made
+-- where a check meets an `Err` a part of the checks was made
 pub check_parts : {T E : Type 0} (r : Result T E) (waits : List Proposal → Bool) (old now next : WorldView) (made : ℕ) → IsChecking waits old now made → made < MAX_PENDING → waits (pending now.history.past) ≡ true → IsPartOf now next (check_now now) → OnErr r (IsPartOf old next (checks_from waits MAX_PENDING old))
 check_parts r waits old now next made way few some =
     part_parts r old now next (checks_from waits MAX_PENDING old) (checks_from waits (MAX_PENDING - made) now) (checks_behind waits made now.history.group now.lines (check_now now)) (check_now now) way
@@ -193,7 +197,7 @@ unfolding rounds_done
 by_entities g lines n course [] none = rw none (sym (none_settles g lines n course true (ap is_none_left none) refl))
 by_entities g lines n course (e ∷ es) some = rw some refl
 
--- a round more is done, and it changes nothing where every entity is settled
+-- a round more is done, which changes nothing where every entity is settled
 rounds_one : (g : Group) (lines : List WireLine) (n : ℕ) (past : List Entry) → rounds_done g lines (suc n) (course_from past) ≡ rounds_done g lines n (round g lines past)
 rounds_one g lines n past = by_entities g lines n (course_from past) (unsettled g past) refl
 
@@ -211,12 +215,12 @@ settling_starts rounds w =
     let all_left : rounds ≡ rounds - 0 = omega arith in
     subst (λ (n : ℕ). IsOnWay w w (rounds_from rounds w) (rounds_from n w)) all_left (way_start w (rounds_from rounds w))
 
--- where every entity is settled the others change nothing
+-- where every entity is settled the rounds that are left change nothing
 settles_none : (rounds : ℕ) (old now : WorldView) (made : ℕ) → length (unsettled now.history.group now.history.past) ≡ 0 → IsSettling rounds old now made → Goes now (rounds_from rounds old) On
 settles_none rounds old now made none way =
     goes_none old now (rounds_from rounds old) (rounds_from (rounds - made) now) way (rounds_none now.history.group now.lines (rounds - made) (course_from now.history.past) none)
 
--- and where so many were done none is left
+-- where all rounds were done none is left
 pub rounds_all : (rounds : ℕ) (old now : WorldView) (made : ℕ) → rounds ≤ made → IsSettling rounds old now made → Goes now (rounds_from rounds old) On
 rounds_all rounds old now made all way =
     let none_left : rounds - made ≡ 0 = omega arith in
@@ -242,13 +246,13 @@ round_goes rounds old now next made answer count way few is does setting =
     part_goes (rounds_behind rounds made) old now next (rounds_from rounds old) (rounds_from (rounds - made) now) (round_now now) On way
     (first_round rounds now made few) (round-grows now.history.group now.lines now.history.past) (sym did.0) refl setting
 
--- where it leaves none unsettled it is the last
+-- a round that leaves no entity unsettled is the last
 pub round_settles : (rounds : ℕ) (old now next : WorldView) (made : ℕ) (answer : Rounded) (count : ℕ) → IsSettling rounds old now made → made < rounds → answer ≡ Did count → count ≡ 0 → Rounds now next answer → HasSameSetting now next → Goes next (rounds_from rounds old) On
 round_settles rounds old now next made answer count way few is none does setting =
     let did : Rounds now next (Did count) = subst (λ (a : Rounded). Rounds now next a) is does in
     settles_none rounds old next (made + 1) (sym did.1 ∙ none) (round_goes rounds old now next made answer count way few is does setting)
 
--- where it meets a full journal no other follows
+-- where a round meets a full journal no other round follows
 pub round_stops : (rounds : ℕ) (old now next : WorldView) (made : ℕ) (answer : Rounded) (entries : ℕ) → IsSettling rounds old now made → made < rounds → answer ≡ JournalFull entries → Rounds now next answer → Goes next (rounds_from rounds old) Full
 round_stops rounds old now next made answer entries way few is does =
     let stopped : Rounds now next (JournalFull entries) = subst (λ (a : Rounded). Rounds now next a) is does in
@@ -256,7 +260,7 @@ round_stops rounds old now next made answer entries way few is does =
     ∙ sym (first_round rounds now made few)
     ∙ way.ends
 
--- and where it meets an `Err` a part of them was done
+-- where a round meets an `Err` a part of the rounds was done
 pub round_parts : {T E : Type 0} (r : Result T E) (rounds : ℕ) (old now next : WorldView) (made : ℕ) → IsSettling rounds old now made → made < rounds → IsPartOf now next (round_now now) → OnErr r (IsPartOf old next (rounds_from rounds old))
 round_parts r rounds old now next made way few =
     part_parts r old now next (rounds_from rounds old) (rounds_from (rounds - made) now) (rounds_behind rounds made now.history.group now.lines (round_now now)) (round_now now) way

@@ -45,7 +45,7 @@ tickets_stay past more ticket may = stays past more ticket may
 pub bases_may : BasesMayCommit
 bases_may g past b of = record { given = of.given; lower = omega (arith, of.oldest) }
 
--- what the checker begins is a basis of its journal
+-- what the checker gives is a basis of the world's journal
 pub begins_at : (m : MachineView) (items : List Entry) (begin : Begin) → Agrees m items → ControlBegins m.checker begin → Begins (history_of m.checker.group (reverse items)) begin
 begins_at m items (Basis b) agrees of = record {
   group = of.group;
@@ -56,7 +56,7 @@ begins_at m items (Basis b) agrees of = record {
 }
 begins_at m items Idle agrees none = sym (ap (λ (s : Standing). s.pending) agrees.standing) ∙ none
 
--- a ticket that may be committed and was not decided is above those that were
+-- a ticket that may be committed and was not decided is above those that were decided
 pub still_open : (m : MachineView) (items : List Entry) (s : StoreView) (ticket : ℕ) → Agrees m items → s ≡ m.checker.store → MayCommit (reverse items) ticket → 0 < ticket → IsWaiting s ticket ⊎ IsNeverGiven s ticket → length (deciders (reverse items)) < ticket
 still_open m items s ticket agrees same may positive (inl waits) =
     let decided : length s.decided ≡ length (deciders (reverse items)) = ap (λ (s : StoreView). length s.decided) same ∙ ap (λ (s : Standing). length s.decided) agrees.standing in

@@ -35,7 +35,7 @@ use Rattle.st_world.specs.Machine.{MachineView, IsMachine, IsOpening, Answers, w
 abbrev pub machine_of : ControlView → List AgentState → Messages → MachineView
 machine_of k agents messages = record { checker = k; agents = agents; messages = messages }
 
--- a message that is got is the one of its number
+-- the message that is found by a number is the one of that number
 pub got_is : {M : Type 0} → (xs : List M) (n : ℕ) (x : M) → took_of xs n ≡ Got x → nth xs n ≡ Some x
 got_is {M} xs n x is = by_item (nth xs n) is
   where
@@ -47,7 +47,7 @@ got_is {M} xs n x is = by_item (nth xs n) is
 all_found : {X : Type 0} → (P : X → Type 0) (xs : List X) (i : ℕ) (x : X) → All P xs → slice_get xs i ≡ Some x → P x
 all_found P xs i x all is = subst P (get_or_from_slice_get xs i x x is) (All-get_or P xs i x (slice_get_within xs i x is) all)
 
--- and of the one of a number
+-- what holds of all items holds of the item of a number
 pub all_nth : {X : Type 0} → (P : X → Type 0) (xs : List X) (n : ℕ) (x : X) → All P xs → nth xs n ≡ Some x → P x
 all_nth P xs n x all is = by_zero (n == 0) is
   where

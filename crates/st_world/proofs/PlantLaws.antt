@@ -18,7 +18,7 @@ opening_plant g n agents all made =
     let are = all_default g (opening_state g) n agents all made in
     record { count = are.count; own = λ e. ap (λ (s : AgentState). s.entity) (are.each e) }
 
--- and none of them was told anything
+-- at the opening no agent was told anything
 pub opening_agents : (g : Group) (n : ℕ) (agents : List AgentState) → n ≡ length (entities_of g) → agents ≡ map (opening_state g) (take n (entities_of g)) → agent_in g agents ≡ opening_agent g
 opening_agents g n agents all made = fun_ext (λ e. ap (λ (s : AgentState). s.agent) ((all_default g (opening_state g) n agents all made).each e))
 
@@ -42,7 +42,7 @@ agent_put g agents at e change s of here is = item_in-set g agents (opening_stat
     by_entity false other = ap (λ (x : Entity). record { entity = x; agent = agent_in g agents e }) (of.own e)
     by_entity true same = is ∙ ap (λ (x : Entity). record { entity = x; agent = change (agent_in g agents x) }) (same_entity at e same)
 
--- the agents with one entity's changed: each other is as it was, and each stands in its place
+-- the agents with that of one entity changed: each other agent is as it was, and each agent stands in its place
 pub record IsChanged (g : Group) (old new : List AgentState) (at : Entity) (change : Agent → Agent) : Type 0 where
   pub agents : agent_in g new ≡ agent_set (agent_in g old) at change
   pub plant : IsPlantOf g new

@@ -60,7 +60,7 @@ way_more old now next whole left less way more = record {
   ends = more.ends ∙ way.ends;
 }
 
--- a first part was entered whole: what follows it is left
+-- a first part was entered whole: what follows the first part is left
 pub way_from : (rest : Group → List WireLine → Course → Course) (old now : WorldView) (first : Course) (going : Going) → IsBeginning old.history.past first.past → course_with going now ≡ first → going ≡ On → HasSameSetting old now → IsOnWay old now (rest old.history.group old.lines first) (rest now.history.group now.lines (course_from now.history.past))
 way_from rest old now first going grows is on setting = record {
   began = subst (λ (course : Course). IsBeginning old.history.past course.past) (sym is) grows;
@@ -93,7 +93,7 @@ none_entered r old new course grows same =
 
 -- one event
 
--- where there is room, it is entered with the reply that is called for
+-- where there is room, the event is entered with the reply that is called for
 pub enters_next : (old new : History) (event : Event) (answer : Reply) → Steps old new event (Did answer) → course_from new.past ≡ enter old.group (course_from old.past) event
 enters_next old new event answer steps =
     ap (λ (h : History). course_from h.past) steps.1
@@ -245,14 +245,14 @@ turn_parts r old now next es i way low =
 abbrev unsettled_by : Group → (Entity → Report) → (Entity → ℕ) → (Entity → Var → ℕ) → List Entity
 unsettled_by g reports stamps values = filter (λ e. not (is_settled_by (reports e) (stamps e) (vals_in g values e))) (entities_of g)
 
--- by what a checker keeps that stands as a journal leaves its group, they are those by the journal
+-- the unsettled entities by what a checker keeps are those by the journal, where the checker stands as the journal leaves the group
 unsettled_in_checker : (g : Group) (past : List Entry) (k : ControlView) → k.group ≡ g → standing_in k ≡ standing_of g past → unsettled_in g k.store.observed k.store.target k.stamps ≡ unsettled g past
 unsettled_in_checker g past k group stands =
     ap (λ (h : Group). unsettled_by g (report_in h k.store.observed) (stamp_in g k.stamps) (value_in k.store.target)) (sym group)
     ∙ ap (λ (h : Group). unsettled_by g (report_in k.group k.store.observed) (stamp_in h k.stamps) (value_in k.store.target)) (sym group)
     ∙ ap (λ (s : Standing). unsettled_by g s.observed s.stamp s.target) stands
 
--- and so by what its store, its target, its kept reports and its stamps are
+-- the unsettled entities by what the store, the target, the kept reports and the stamps of the checker are
 pub planned : (g : Group) (past : List Entry) (k : ControlView) (s : StoreView) (reports : List Report) (t : Values) (stamps : List ℕ) → k.group ≡ g → standing_in k ≡ standing_of g past → s ≡ k.store → reports ≡ s.observed → t ≡ s.target → stamps ≡ k.stamps → unsettled_in g reports t stamps ≡ unsettled g past
 planned g past k s reports t stamps group stands store observed table kept =
     ap (λ (x : List Report). unsettled_in g x t stamps) observed
@@ -261,11 +261,11 @@ planned g past k s reports t stamps group stands store observed table kept =
     ∙ ap (λ (x : StoreView). unsettled_in g x.observed x.target k.stamps) store
     ∙ unsettled_in_checker g past k group stands
 
--- its target is a table of the group
+-- the target of the checker is a table of the group
 pub planned_table : (g h : Group) (s : StoreView) (t : Values) → h ≡ g → IsStoreOf h s → t ≡ s.target → IsTableOf g t
 planned_table g h s t group store table = subst (λ (x : Values). IsTableOf g x) (sym table) (subst (λ (x : Group). IsTableOf x s.target) group store.table)
 
--- they are entities of the group
+-- the unsettled entities are entities of the group
 pub planned_own : (g : Group) (past : List Entry) (entities : List Entity) → entities ≡ unsettled g past → All (IsEntityOf g) entities
 planned_own g past entities is = subst (λ (es : List Entity). All (IsEntityOf g) es) (sym is) (unsettled_fit g past)
 
@@ -279,7 +279,7 @@ few_unsettled g past sound =
     let all = entities_count g in
     omega (arith, kept, few, devices, links, all)
 
--- so their count fits, also of a group that is as a sound one
+-- the count of the unsettled entities fits, also of a group that is equal to a sound one
 pub count_fits : (g h : Group) (past : List Entry) (entities : List Entity) (count : ℕ) → IsSound g → h ≡ g → entities ≡ unsettled h past → count ≡ length entities → count < 2 ^ 32
 count_fits g h past entities count sound group is counted =
     let few = few_unsettled h past (subst (λ (x : Group). IsSound x) (sym group) sound) in

@@ -14,7 +14,7 @@ use Rattle.st_store.specs.Changes.{value_at as value_at_version}
 use Rattle.st_control.specs.Control.{ControlView, standing_in, versions_in}
 use Rattle.st_world.specs.Acts.{seen_now, seen_at}
 
--- the checker stands as the journal leaves the group, and this is its store
+-- the checker stands as the journal leaves the group, and the store is the checker's
 pub record IsStoreAt (h : History) (k : ControlView) (store : StoreView) : Type 0 where
   pub standing : standing_in k ≡ standing_of h.group h.past
   pub versions : versions_in k ≡ value_at h.group h.past

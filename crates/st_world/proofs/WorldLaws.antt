@@ -100,22 +100,22 @@ below_next m items agrees =
       numbers = λ e. let counted : (agent_in g m.agents e).number ≡ number past e = ap (λ (w : Wires). (w.agent e).number) agrees.wires in omega (arith, counted, same, low_numbers past e);
     }
 
--- the number of the next entry, and so there is room for one
+-- the number of the next entry, and that a journal may have so many
 next_number : (items : List Entry) (next : Option ℕ) (n : ℕ) → next ≡ Some n → IfSome next (λ k. k ≡ length items + 1) → n ≡ length items + 1
 next_number items next n is number = subst (λ (o : Option ℕ). IfSome o (λ k. k ≡ length items + 1)) is number
 
 next_fits : (next : Option ℕ) (n : ℕ) → next ≡ Some n → IfSome next (λ k. k ≤ MAX_ENTRIES) → n ≤ MAX_ENTRIES
 next_fits next n is few = subst (λ (o : Option ℕ). IfSome o (λ k. k ≤ MAX_ENTRIES)) is few
 
--- everything is below that number
+-- of all that is counted there are fewer than the number of the next entry
 pub below_number : (m : MachineView) (items : List Entry) (next : Option ℕ) (n : ℕ) → Agrees m items → next ≡ Some n → IfSome next (λ k. k ≡ length items + 1) → IsBelow n m
 below_number m items next n agrees is number = subst (λ (k : ℕ). IsBelow k m) (sym (next_number items next n is number)) (below_next m items agrees)
 
--- so there is room for one version more
+-- there is room for one version more
 pub version_fits : (m : MachineView) (items : List Entry) (next : Option ℕ) (n : ℕ) → Agrees m items → next ≡ Some n → IfSome next (λ k. k ≡ length items + 1) → IfSome next (λ k. k ≤ MAX_ENTRIES) → m.checker.store.version + 1 < 2 ^ 32
 version_fits m items next n agrees is number few = let below = below_number m items next n agrees is number in omega (arith, below.versions, next_fits next n is few)
 
--- and what is answered under it is answered as the next entry, for which there is room
+-- what is answered under the number of the next entry is answered as the next entry, for which there is room
 pub answered_next : (m l : MachineView) (items : List Entry) (next : Option ℕ) (n : ℕ) (event : Event) (answer : Reply) → next ≡ Some n → IfSome next (λ k. k ≡ length items + 1) → IfSome next (λ k. k ≤ MAX_ENTRIES) → Answers m l n event answer → (length items < MAX_ENTRIES) × Answers m l (length items + 1) event answer
 answered_next m l items next n event answer is number few moves =
     let at = next_number items next n is number in
@@ -195,7 +195,7 @@ agree m items agrees = agree_throughout m.checker.group (reverse items) agrees.l
 pub few_items : (g : Group) (items : List Entry) → IsLegal g (reverse items) → length items ≤ MAX_ENTRIES
 few_items g items legal = omega (arith, legal_within g (reverse items) legal, length-reverse items)
 
--- and one that has as many is full
+-- a journal that has as many entries as it may have is full
 pub is_full : (m : MachineView) (items : List Entry) → Agrees m items → MAX_ENTRIES ≤ length items → length (reverse items) ≡ MAX_ENTRIES
 is_full m items agrees many = omega (arith, few_items m.checker.group items agrees.legal, many, length-reverse items)
 

@@ -20,7 +20,7 @@ pub record MachineView : Type 0 where
   pub agents : List AgentState
   pub messages : Messages
 
--- the network, by what is kept of it
+-- the network's part of how the group stands, by what the machine keeps
 abbrev pub wires_in : MachineView → Wires
 wires_in m = record { commands = m.messages.commands; reports = m.messages.reports; agent = agent_in m.checker.group m.agents }
 
@@ -58,7 +58,7 @@ pub record IsOpening (g : Group) (m : MachineView) : Type 0 where
   pub wires : wires_in m ≡ wires_of g []
   pub versions : versions_in m.checker ≡ value_at g []
 
--- the event gets the reply that is called for, as entry n, and moves the checker and the network by it
+-- the event gets the reply that is called for, as entry n, and this entry moves the checker and the network
 pub record Answers (old new : MachineView) (n : ℕ) (event : Event) (reply : Reply) : Type 0 where
   pub answer : reply ≡ reply_in old.checker.group (standing_in old.checker) (wires_in old) n event
   pub standing : standing_in new.checker ≡ standing_after old.checker.group (standing_in old.checker) (wires_in old) n event reply

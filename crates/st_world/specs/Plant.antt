@@ -17,7 +17,7 @@ opening_state g e = record { entity = e; agent = opening_agent g e }
 abbrev pub state_in : Group → List AgentState → Entity → AgentState
 state_in g agents = item_in g agents (opening_state g)
 
--- the agent of an entity; one that was told nothing of an entity that the group does not have
+-- the agent of an entity; of an entity that the group does not have, an agent that was told nothing
 abbrev pub agent_in : Group → List AgentState → Entity → Agent
 agent_in g agents = λ e. (state_in g agents e).agent
 
@@ -26,6 +26,6 @@ pub record IsPlantOf (g : Group) (agents : List AgentState) : Type 0 where
   pub count : length agents ≡ entity_count g
   pub own : (e : Entity) → (state_in g agents e).entity ≡ e
 
--- the agents with one entity's changed
+-- the agents with that of one entity changed
 abbrev pub agent_set : (Entity → Agent) → Entity → (Agent → Agent) → Entity → Agent
 agent_set agents at change = λ e. if is_same_entity at e then change (agents e) else agents e

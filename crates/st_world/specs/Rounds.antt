@@ -25,7 +25,7 @@ use Rattle.st_world.specs.declared.world.rounds.Message.{Message}
 use Rattle.st_world.specs.declared.world.rounds.Rounded.{Rounded}
 use Rattle.st_world.specs.declared.world.rounds.Rounded.TheVariants.{Did, JournalFull}
 
--- a journal, and whether an event met it full: then nothing more is entered
+-- a journal, and whether an event met the journal full: then nothing more is entered
 pub record Course : Type 0 where
   pub past : List Entry
   pub stopped : Bool
@@ -87,7 +87,7 @@ enter_told g lines course event = let next = enter g course event in enter_all g
 abbrev pub update_turn : Group → List WireLine → Course → Entity → Course
 update_turn g lines course e = enter g (enter_told g lines course (Send e)) (Finish e)
 
--- the half that monitors it: Report with the arrivals of its report
+-- the half of an entity's turn that monitors the entity: Report with the arrivals of its report
 abbrev pub poll : Group → List WireLine → Course → Entity → Course
 poll g lines course e = enter_told g lines course (make_report e)
 
@@ -103,16 +103,16 @@ turns g lines course (e ∷ es) = turns g lines (turn g lines course e) es
 abbrev pub unsettled : Group → List Entry → List Entity
 unsettled g past = filter (λ e. not (is_settled g past e)) (entities_of g)
 
--- a round: the turns of the entities that are not settled at its start
+-- a round: the turns of the entities that are not settled at the start of the round
 abbrev pub round : Group → List WireLine → List Entry → Course
 round g lines past = turns g lines (course_from past) (unsettled g past)
 
--- all of a round was entered, and so many entities are not settled behind it; or it met a full journal
+-- all of a round was entered, and so many entities are not settled behind it; or an event of the round met a full journal
 abbrev pub Rounds : WorldView → WorldView → Rounded → Type 0
 Rounds old new (Did count) = (round old.history.group old.lines old.history.past ≡ record { past = new.history.past; stopped = false }) × (count ≡ length (unsettled new.history.group new.history.past))
 Rounds old new (JournalFull entries) = (round old.history.group old.lines old.history.past ≡ record { past = new.history.past; stopped = true }) × (entries ≡ MAX_ENTRIES)
 
--- how a course stands, by the world that made it and by whether it met a full journal
+-- how a course stands, by the world that went through the course and by whether an event met a full journal
 abbrev pub is_full : Going → Bool
 is_full On = false
 is_full Full = true
@@ -120,11 +120,11 @@ is_full Full = true
 abbrev pub course_with : Going → WorldView → Course
 course_with going w = record { past = w.history.past; stopped = is_full going }
 
--- the world has gone through a course, and it is told whether that met a full journal
+-- the world has gone through a course, and the answer tells whether an event met a full journal
 abbrev pub Goes : WorldView → Course → Going → Type 0
 Goes new course going = course_with going new ≡ course
 
--- a part of a course was entered, from its start
+-- a part of a course was entered, from the course's start
 pub record IsPartOf (old new : WorldView) (course : Course) : Type 0 where
   pub began : IsBeginning old.history.past new.history.past
   pub part : IsBeginning new.history.past course.past
@@ -148,7 +148,7 @@ abbrev pub NeverFailed : List Entry → Entity → Type 0
 NeverFailed [] e = Unit {0}
 NeverFailed (entry ∷ past) e = (is_fail_of e entry.event ≡ false) × NeverFailed past e
 
--- of a loss plan without lines, each entity that was sent a command in the round and never failed is settled behind it
+-- of a loss plan without lines, each entity that was sent a command in the round and never failed is settled behind the round
 pub record SettlesSent (old new : WorldView) : Type 0 where
   pub made : List Entry
   pub all : new.history.past ≡ made ++ old.history.past

@@ -1,4 +1,4 @@
--- A world as contracts see it, what it keeps, and what one step does.
+-- A world as contracts see it, what a world keeps between calls, and what one step does.
 use Rattle.std.specs.Prelude.{◌≡◌, ℕ, ◌+◌, ◌≤◌, List, ◌++◌, length, reverse}
 use Rattle.st_event.specs.declared.event.Event.{Event}
 use Rattle.st_event.specs.declared.journal.Entry.{Entry}
@@ -19,8 +19,8 @@ pub record WorldView : Type 0 where
   pub lines : List WireLine
   pub room : ℕ
 
--- the journal, whose oldest entry stands first here, is legal; and the checker, its versions, the agents and the messages are as it leaves
--- them
+-- the journal, whose oldest entry stands first here, is legal; and the checker, its versions, the agents and the messages are as the journal
+-- leaves them
 pub record Agrees (m : MachineView) (entries : List Entry) : Type 0 where
   pub legal : IsLegal m.checker.group (reverse entries)
   pub standing : standing_in m.checker ≡ standing_of m.checker.group (reverse entries)

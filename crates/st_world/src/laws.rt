@@ -1,4 +1,4 @@
-//! Laws of the definitions over worlds. A function here does nothing: its contract is the law, for whoever drives a world.
+//! Laws of the definitions over worlds, for whoever drives a world. A function here does nothing: the law is its contract.
 
 ghost use Rattle.st_world.specs.Commits.{TicketsStay, BasesMayCommit};
 

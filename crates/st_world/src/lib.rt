@@ -1,5 +1,5 @@
-//! One group's whole machine: its checker, its simulated agents, its messages and its journal. Every event of the group is entered
-//! here with its reply, those of an application's acts too; services and scripts drive it, and reports are read from it.
+//! One group's world: its checker, its simulated agents, its messages and its journal. Every event of the group is entered here with its
+//! reply, the events of applications' acts too; services and scripts drive worlds, and reports are read from them.
 #![tactic(auto)]
 
 pub mod laws;

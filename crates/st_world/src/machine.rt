@@ -1,13 +1,13 @@
-//! A group without its journal: the checker, an agent for each entity, and all messages. It answers each event, and the world enters
-//! the event with that reply.
+//! A group without its journal: the checker, an agent for each entity, and all messages. The machine answers each event, and the world
+//! enters the event with that reply.
 
-ghost use Rattle.std.specs.Prelude.{◌≡◌, ℕ, ◌<◌, ◌≤◌, ◌+◌, ◌^◌, false, length, IfOk, IsOk, IsTrue, OnOk, OnErr};
+ghost use Rattle.std.specs.Prelude.{◌≡◌, ℕ, ◌<◌, ◌≤◌, ◌+◌, ◌^◌, length, IfOk, IsOk, IsTrue, OnOk, OnErr};
 ghost use Rattle.st_net.specs.Groups.{IsEntityOf};
 ghost use Rattle.st_net.specs.Ranges.{RowsFit};
 ghost use Rattle.st_event.specs.declared.event.Event.TheVariants.{Submit, Check as check_event, Lock, Unlock, Send, Deliver, Finish as finish_event, Report as report_event, Hear, Fail};
 ghost use Rattle.st_event.specs.declared.reply.Reply.TheVariants.{Decided as decided_reply};
 ghost use Rattle.st_event.specs.declared.journal.TheConstants.{MAX_ENTRIES};
-ghost use Rattle.st_event.specs.Events.{is_check, is_without_side};
+ghost use Rattle.st_event.specs.Events.{answers_without_list, is_without_list};
 ghost use Rattle.st_event.specs.Legal.{Fits};
 ghost use Rattle.st_world.specs.Plant.{IsPlantOf, agent_in};
 ghost use Rattle.st_world.specs.Machine.{Answers, HasSameMachine, IsBelow, IsOpening, is_without_memory};
@@ -43,9 +43,9 @@ impl Model for Machine {
     ghost invariant = { λ m. IsMachine (record { checker = m.control; agents = m.plant; messages = m.wire }) };
 }
 
-/// A reply without a side, twice. It takes no memory.
+/// A reply without a list, twice. It takes no memory.
 fn told_twice(alloc: Global, told: Reply) -> Twice<Reply>
-    requires { IsTrue (is_without_side told) }
+    requires { IsTrue (is_without_list told) }
     ensures told { result.told ≡ told }
     ensures kept { result.kept ≡ told }
 {
@@ -107,7 +107,7 @@ impl Machine {
         requires fits { RowsFit self.old.checker.group rows.now }
         requires tickets { self.old.checker.store.tickets + 1 < 2 ^ 32 }
         ensures ok { IfOk result (λ reply. (n : ℕ) → Answers self.old self.new n (Submit app rows.now) reply) }
-        ensures plain { IfOk result (λ reply. IsTrue (is_without_side reply)) }
+        ensures plain { IfOk result (λ reply. IsTrue (is_without_list reply)) }
         ensures err { OnErr result (self.new ≡ self.old) }
         ensures room { self.new.messages ≡ self.old.messages }
     {
@@ -125,7 +125,7 @@ impl Machine {
         Ok(check_reply(self.control.check(entry)?))
     }
 
-    /// The same, with the reply twice.
+    /// Does what `check` does, and gives the reply twice.
     fn check_twice(&mut self, entry: u32) -> Result<Twice<Reply>, AllocError>
         requires version { self.old.checker.store.version + 1 < 2 ^ 32 }
         ensures ok { IfOk result (λ answered. Answers self.old self.new entry check_event answered.told) }
@@ -140,7 +140,7 @@ impl Machine {
         })
     }
 
-    /// The oldest proposal, which was judged away from the checker, is decided, and the receipt is given twice. At `Err` nothing has
+    /// The oldest proposal, which was judged away from the checker, is decided, and its receipt is given twice. At `Err` nothing has
     /// changed but the checker's count of runs.
     pub fn commit(&mut self, entry: u32, judged: &Judged) -> Result<Twice<Receipt>, AllocError>
         requires oldest { judged.now.ticket ≡ length self.old.checker.store.decided + 1 }
@@ -159,7 +159,7 @@ impl Machine {
     fn lock(&mut self, app: AppId, entity: Entity, prio: Prio) -> Reply
         requires { IsEntityOf self.old.checker.group entity }
         ensures ok { (n : ℕ) → Answers self.old self.new n (Lock app entity prio) result }
-        ensures plain { IsTrue (is_without_side result) }
+        ensures plain { IsTrue (is_without_list result) }
         ensures room { self.new.messages ≡ self.old.messages }
     {
         grant_reply(self.control.lock(app, entity, prio))
@@ -169,18 +169,18 @@ impl Machine {
     fn unlock(&mut self, app: AppId, entity: Entity, prio: Prio) -> Reply
         requires { IsEntityOf self.old.checker.group entity }
         ensures ok { (n : ℕ) → Answers self.old self.new n (Unlock app entity prio) result }
-        ensures plain { IsTrue (is_without_side result) }
+        ensures plain { IsTrue (is_without_list result) }
         ensures room { self.new.messages ≡ self.old.messages }
     {
         release_reply(self.control.unlock(app, entity, prio))
     }
 
-    /// An entity is sent the command that it calls for. At `Err` nothing has changed.
+    /// An entity is sent a command with its target's values, unless it is settled or blocked. At `Err` nothing has changed.
     fn send(&mut self, entity: Entity) -> Result<Reply, AllocError>
         requires entity { IsEntityOf self.old.checker.group entity }
         requires count { length self.old.messages.commands + 1 < 2 ^ 32 }
         ensures ok { IfOk result (λ reply. (n : ℕ) → Answers self.old self.new n (Send entity) reply) }
-        ensures plain { IfOk result (λ reply. IsTrue (is_without_side reply)) }
+        ensures plain { IfOk result (λ reply. IsTrue (is_without_list reply)) }
         ensures err { OnErr result (HasSameMachine self.old self.new) }
         ensures without_memory { 0 < self.old.messages.room → IsOk result }
         ensures room { self.old.messages.room ≤ self.new.messages.room + 1 }
@@ -198,7 +198,7 @@ impl Machine {
     /// A command reaches its agent.
     fn deliver(&mut self, command: u32) -> Reply
         ensures ok { (n : ℕ) → Answers self.old self.new n (Deliver command) result }
-        ensures plain { IsTrue (is_without_side result) }
+        ensures plain { IsTrue (is_without_list result) }
         ensures room { self.new.messages ≡ self.old.messages }
     {
         match self.wire.command(command) {
@@ -210,11 +210,11 @@ impl Machine {
         }
     }
 
-    /// An agent carries out its command in work.
+    /// An agent carries out the command that it has in work.
     fn finish(&mut self, entity: Entity) -> Reply
         requires { IsEntityOf self.old.checker.group entity }
         ensures ok { (n : ℕ) → Answers self.old self.new n (finish_event entity) result }
-        ensures plain { IsTrue (is_without_side result) }
+        ensures plain { IsTrue (is_without_list result) }
         ensures room { self.new.messages ≡ self.old.messages }
     {
         match self.plant.finish(self.control.topo(), entity) {
@@ -229,13 +229,13 @@ impl Machine {
         requires count { length self.old.messages.reports + 1 < 2 ^ 32 }
         requires number { (agent_in self.old.checker.group self.old.agents entity).number + 1 < 2 ^ 32 }
         ensures ok { IfOk result (λ reply. (n : ℕ) → Answers self.old self.new n (report_event entity) reply) }
-        ensures plain { IfOk result (λ reply. IsTrue (is_without_side reply)) }
+        ensures plain { IfOk result (λ reply. IsTrue (is_without_list reply)) }
         ensures err { OnErr result (HasSameMachine self.old self.new) }
         ensures without_memory { 0 < self.old.messages.room → IsOk result }
         ensures room { self.old.messages.room ≤ self.new.messages.room + 1 }
         ensures spent { OnErr result (self.old.messages.room ≤ self.new.messages.room) }
     {
-        // Room first: it can fail, and what follows cannot.
+        // The room is made first: that can fail, and what follows cannot.
         self.wire.reserve(1)?;
         let report = self.plant.report(self.control.topo(), entity);
         match self.wire.push_report(report) {
@@ -247,7 +247,7 @@ impl Machine {
     /// The checker hears a report, as entry number `entry`.
     fn hear(&mut self, entry: u32, report: u32) -> Reply
         ensures ok { Answers self.old self.new entry (Hear report) result }
-        ensures plain { IsTrue (is_without_side result) }
+        ensures plain { IsTrue (is_without_list result) }
         ensures room { self.new.messages ≡ self.old.messages }
     {
         match self.wire.report(report) {
@@ -260,7 +260,7 @@ impl Machine {
     fn fail(&mut self, entity: Entity, vals: Vals, health: u32) -> Reply
         requires { IsEntityOf self.old.checker.group entity }
         ensures ok { (n : ℕ) → Answers self.old self.new n (Fail entity vals health) result }
-        ensures plain { IsTrue (is_without_side result) }
+        ensures plain { IsTrue (is_without_list result) }
         ensures room { self.new.messages ≡ self.old.messages }
     {
         self.plant.fail(self.control.topo(), entity, vals, health);
@@ -274,7 +274,7 @@ impl Machine {
         requires below { IsBelow entry self.old }
         requires few { entry ≤ MAX_ENTRIES }
         ensures ok { IfOk result (Answers self.old self.new entry event.now) }
-        ensures plain { is_check event.now ≡ false → IfOk result (λ reply. IsTrue (is_without_side reply)) }
+        ensures plain { IsTrue (answers_without_list event.now) → IfOk result (λ reply. IsTrue (is_without_list reply)) }
         ensures err { OnErr result (HasSameMachine self.old self.new) }
         ensures without_memory { 0 < self.old.messages.room → IsTrue (is_without_memory event.now) → IsOk result }
         ensures room { self.old.messages.room ≤ self.new.messages.room + 1 }

@@ -1,5 +1,6 @@
-//! One group's world: every event goes through `World::step`, or through `World::enter` where nobody reads the reply, which ask the
-//! group's machine for the reply and enter both in the journal. Scripts and services drive it, and reports are read from it.
+//! One group's world: every event goes through `World::step`, or through `World::enter` where nobody reads the reply. Both ask the group's
+//! machine for the reply, and enter the event with the reply in the journal. Scripts and services drive worlds, and reports are read from
+//! them.
 
 ghost use Rattle.std.specs.Prelude.{◌≡◌, List, [], ◌∷◌, ◌++◌, ◌<◌, ◌≤◌, ◌+◌, IfOk, IfSome, IsNone, IsOk, IsSome, IsTrue, MatchResult, OnOk, OnErr, length, drop, reverse};
 ghost use Rattle.std.specs.Vec.{vec_len, vec_capacity};
@@ -74,7 +75,8 @@ fn enter_last(journal: &mut Vec<Entry>, event: Event, reply: Reply)
     journal.push_reserved(Entry { event, reply });
 }
 
-/// Makes room in a journal for one more entry, and gives that one's number. None comes where it has as many entries as it may have.
+/// Makes room in a journal for one more entry, and gives that entry's number. None comes where the journal has as many entries as it may
+/// have.
 fn next_entry(journal: &mut Vec<Entry>) -> Result<Option<u32>, AllocError>
     ensures number { IfOk result (λ next. IfSome next (λ n. n ≡ length journal.old.items + 1)) }
     ensures few { IfOk result (λ next. IfSome next (λ n. n ≤ MAX_ENTRIES)) }
@@ -120,7 +122,7 @@ impl World {
         ensures room { self.old.room ≤ self.new.room + 1 }
         ensures spent { MatchResult result (StepSpends self.old.room self.new.room) (λ _. self.old.room ≤ self.new.room) }
     {
-        // Room first: once the machine has answered, the entry has to follow.
+        // The room is made first: once the machine has answered, the entry has to follow.
         let Some(entry) = next_entry(&mut self.journal)? else {
             return Ok(Stepped::JournalFull {
                 entries: MAX_ENTRIES as u32,
@@ -132,7 +134,7 @@ impl World {
     }
 
     /// Does what `step` does, and hands no reply out, so that the reply is made once. As in all courses of events, at `Full` and at `Err`
-    /// what was entered is a part of the course, from its start.
+    /// what was entered is a part of the course, from the course's start.
     pub(crate) fn enter(&mut self, event: Event) -> Result<Going, AllocError>
         requires { Fits self.old.history.group event }
         ensures ok { IfOk result (Goes self.new (enter_lem self.old.history.group (course_from self.old.history.past) event)) }
@@ -140,7 +142,7 @@ impl World {
         ensures none { OnErr result (self.new.history ≡ self.old.history) }
         ensures setting { HasSameSetting self.old self.new }
     {
-        // The room is taken first, so that no entry is answered and not kept.
+        // The room is made first, so that no event is answered and not entered.
         let Some(entry) = next_entry(&mut self.journal)? else {
             return Ok(Going::Full);
         };
@@ -150,7 +152,7 @@ impl World {
     }
 
     /// Makes room for `n` entries: the next `n` steps of Lock, Unlock, Send, Deliver, Finish, Report, Hear and Fail take no memory,
-    /// so none of them is refused for want of it. Nothing else changes, also at `Err`.
+    /// so none of these steps is refused for want of memory. Nothing else changes, also at `Err`.
     pub fn reserve(&mut self, n: u32) -> Result<(), AllocError>
         ensures room { OnOk result (n ≤ self.new.room) }
         ensures more { self.old.room ≤ self.new.room }
@@ -245,20 +247,20 @@ impl World {
         self.machine.control().topo().is_sound();
     }
 
-    /// At each moment so far: each entity of the sure set carries in the simulated network, or failed since the report by which it is
-    /// known; while no entity had failed, each promise that held at the opening held in the sure set, in the simulated network, and
-    /// in every set that has the sure entities; and where an entry took a promise from the sure set, it was the hearing of a report of
-    /// an entity that had failed in between.
+    /// At each moment so far: each entity of the sure set carries in the simulated network, or failed since the agent made the report that
+    /// is kept of the entity; while no entity had failed, each promise that held at the opening held in the sure set, in the simulated
+    /// network, and in every set that has the sure entities; and where an entry took a promise from the sure set, it was the hearing of a
+    /// report of an entity that had failed in between.
     pub fn keeps_promises(&self)
         ensures { AtEach (KeepsPromises self.now.history.group) self.now.history.past }
     {
         self.is_legal();
     }
 
-    /// At each moment so far commands, agents and reports agreed with the target: no command is newer than its entity's stamp, and it has
-    /// the target's values of its stamp; no fence is above the stamp; a report that is not busy tells what its agent is until that one
-    /// begins a command or its entity fails; and an agent that is not busy and was not spoiled by a failure has the target's values of its
-    /// fence.
+    /// At each moment so far commands, agents and reports agreed with the target: no command is newer than its entity's stamp, and each
+    /// command has the target's values of the command's stamp; no fence is above the stamp; a report that is not busy tells what its agent
+    /// is until the agent begins a command or the entity fails; and an agent that is not busy and was not spoiled by a failure has the
+    /// target's values of the agent's fence.
     pub fn agents_agree(&self)
         ensures { AtEach (AgentsAgree self.now.history.group) self.now.history.past }
     {

@@ -1,5 +1,5 @@
-//! Checks that are judged away from their checker: a basis is taken from it, and what was judged is committed to it as one entry. A world
-//! calls both, and what lies between them is `basis`.
+//! Checks that are judged away from their checker: a basis is taken from the checker, and the judgement of the basis is committed to the
+//! checker as one entry. A world calls both, and what lies between the two calls is `basis`.
 
 ghost use Rattle.std.specs.Prelude.{◌≡◌, ◌↔◌, ◌+◌, ◌<◌, ◌≤◌, ◌^◌, length, IfOk, IsTrue, OnErr};
 ghost use Rattle.st_event.specs.declared.event.Event.TheVariants.{Check as check_event};
@@ -20,7 +20,7 @@ use std::sync::Arc;
 pub enum Begin {
     /// What the oldest proposal is judged on.
     Basis(Basis),
-    /// Nothing waits.
+    /// No proposal is pending.
     Idle,
 }
 
@@ -29,17 +29,17 @@ pub enum Begin {
 pub enum Commit {
     /// The judged proposal was decided.
     Decided(Receipt),
-    /// The entry of this number had decided it before.
+    /// The entry of this number had decided the judged proposal before.
     Gone { entry: u32 },
 }
 
 impl Control {
-    /// What the oldest proposal that waits is judged on, in copies but for the group, which is shared, so that it can be judged while the
-    /// checker goes on. `Idle` comes exactly where nothing waits.
+    /// What the oldest proposal is judged on, in copies but for the group, which is shared: so the proposal can be judged while the checker
+    /// goes on. `Idle` comes exactly where no proposal is pending.
     pub fn begin_check(&self) -> Result<Begin, AllocError>
         ensures { IfOk result (Begins self.now) }
     {
-        // Only looked at, for the proof: tickets are counted, so the oldest was given.
+        // The version is read for the proof alone: that call tells that tickets are counted, so that the oldest ticket was given.
         let _version = self.store.version();
         let Some(oldest) = self.store.oldest() else {
             return Ok(Begin::Idle);
@@ -54,12 +54,12 @@ impl Control {
         Ok(Begin::Basis(Basis::new(topo, needs, ticket, sure, after, known)))
     }
 
-    /// Whether a proposal that was judged away from the checker may be committed: it was given a ticket here, and each lower ticket is
-    /// decided.
+    /// Whether a proposal that was judged away from the checker may be committed: this checker gave the proposal's ticket, and each lower
+    /// ticket is decided.
     pub fn may_commit(&self, judged: &Judged) -> bool
         ensures { IsTrue result ↔ MayCommit self.now judged.now.ticket }
     {
-        // Only looked at, for the proof: tickets are counted, so one that is decided was given.
+        // The version is read for the proof alone: tickets are counted, so that a ticket that is decided was given.
         let _version = self.store.version();
         if self.store.decided(judged.ticket()).is_some() {
             return true;
@@ -70,8 +70,9 @@ impl Control {
         }
     }
 
-    /// Decides the judged proposal, which is the oldest that waits, as entry number `entry`, and gives the receipt twice, as `check_twice`
-    /// does. The verdict is that of how the checker stands now, whatever was judged. At `Err` nothing has changed but the count of runs.
+    /// Decides the judged proposal, which is the oldest that is pending, as entry number `entry`, and gives the receipt twice, as
+    /// `check_twice` does. The verdict is that of how the checker stands now, whatever was judged. At `Err` nothing has changed but the
+    /// count of runs.
     pub fn commit_twice(
         &mut self,
         entry: u32,
@@ -86,14 +87,14 @@ impl Control {
         ensures err { OnErr result (IsSameButRuns self.old self.new) }
         ensures runs { self.old.flows_run ≤ self.new.flows_run }
     {
-        // Only looked at, for the proof: tickets are counted, so one that was given and is not decided waits.
+        // The version is read for the proof alone: tickets are counted, so that a ticket that was given and is not decided is pending.
         let _version = self.store.version();
         self.decide_oldest_twice(entry, Some(judged))
     }
 
-    /// Decides a proposal that was judged away from the checker, as entry number `entry`. It was given a ticket here, and each lower ticket
-    /// is decided. `Gone` comes exactly where it is decided too, and changes nothing. Else the verdict is that of how the checker stands
-    /// now, whatever was judged. At `Err` nothing has changed but the count of runs.
+    /// Decides a proposal that was judged away from the checker, as entry number `entry`. This checker gave the proposal's ticket, and each
+    /// lower ticket is decided. `Gone` comes exactly where the ticket is decided too, and changes nothing. Else the verdict is that of how
+    /// the checker stands now, whatever was judged. At `Err` nothing has changed but the count of runs.
     pub fn commit(&mut self, entry: u32, judged: &Judged) -> Result<Commit, AllocError>
         requires may { MayCommit self.old judged.now.ticket }
         requires version { self.old.store.version + 1 < 2 ^ 32 }
@@ -104,7 +105,7 @@ impl Control {
         if let Some(entry) = self.store.decided(judged.ticket()) {
             return Ok(Commit::Gone { entry });
         }
-        // Only looked at, for the proof, as in `commit_twice`.
+        // The version is read for the proof alone, as in `commit_twice`.
         let _version = self.store.version();
         let receipt = self.decide_oldest(entry, Some(judged))?;
         Ok(Commit::Decided(receipt))

@@ -1,12 +1,12 @@
-//! What the acts of applications do to a world, and what those that read see of it. A script's acts come from its document, and a
+//! What the acts of applications do to a world, and what the acts that read see of it. A script's acts come from its document, and a
 //! service's from its callers.
 
 ghost use Rattle.std.specs.Prelude.{◌≡◌, IfOk, OnErr, length};
 ghost use Rattle.st_net.specs.Groups.{IsEntityOf};
 ghost use Rattle.st_net.specs.Ranges.{RowsFit, IsChangeOf};
-ghost use Rattle.st_event.specs.declared.event.Event.TheVariants.{Lock as lock_event, Unlock as unlock_event};
+ghost use Rattle.st_event.specs.declared.event.Event.TheVariants.{Check as check_event, Lock as lock_event, Unlock as unlock_event};
 ghost use Rattle.st_event.specs.Proposals.{pending};
-ghost use Rattle.st_world.specs.Acts.{ActFits, act_course, all_checked, awaited, failed, failed_vals as failed_vals_lem, group_number as group_number_lem, has_one_of, proposed, rounds_done, seen_at as seen_at_lem, seen_by as seen_by_lem, seen_now as seen_now_lem, with_room};
+ghost use Rattle.st_world.specs.Acts.{ActFits, act_course, all_checked, awaited, decided_now, failed, failed_vals as failed_vals_lem, group_number as group_number_lem, has_one_of, proposed, rounds_done, seen_at as seen_at_lem, seen_by as seen_by_lem, seen_now as seen_now_lem, with_room};
 ghost use Rattle.st_world.specs.Rounds.{enter, course_from, Goes, IsPartOf, HasSameSetting};
 
 use crate::world::World;
@@ -16,7 +16,7 @@ use st_net::{AppId, Entity, Prio, Row, Vals, Var};
 use st_store::ValueAt;
 use std::alloc::AllocError;
 
-/// The number of the group that an act is on.
+/// The number of the group that an act is on; of a span, which is over two groups, that of the first.
 pub fn group_number(act: &Act) -> u32
     ensures { result ≡ group_number_lem act.now }
 {
@@ -29,7 +29,8 @@ pub fn group_number(act: &Act) -> u32
         | Act::Read { group, .. }
         | Act::ReadAt { group, .. }
         | Act::Fail { group, .. }
-        | Act::Poll { group, .. } => *group,
+        | Act::Poll { group, .. }
+        | Act::Span { first: group, .. } => *group,
     }
 }
 
@@ -53,7 +54,7 @@ impl World {
         self.control().store().pending() as usize
     }
 
-    /// Whether a proposal of an application is pending. The oldest is decided first, so this tells of its latest too.
+    /// Whether a proposal of an application is pending. The oldest is decided first, so the application's latest is pending exactly then.
     pub fn has_one_of(&self, app: AppId) -> bool
         ensures { result ≡ has_one_of app (pending self.now.history.past) }
     {
@@ -113,15 +114,25 @@ impl World {
         }
     }
 
-    /// Makes a check where 64 proposals are pending. As at each of these calls, at `Full` an event met a full journal; then, and at
-    /// `Err`, a part of the events was entered, from the first, and stands.
+    /// Enters a Check: the oldest proposal is decided, and where none is pending the reply is Idle. At `Full` the journal is full; then,
+    /// and at `Err`, nothing was entered.
+    pub fn check_once(&mut self) -> Result<Going, AllocError>
+        ensures ok { IfOk result (Goes self.new (enter self.old.history.group (course_from self.old.history.past) check_event)) }
+        ensures err { OnErr result (IsPartOf self.old self.new (enter self.old.history.group (course_from self.old.history.past) check_event)) }
+        ensures none { OnErr result (self.new.history ≡ self.old.history) }
+        ensures setting { HasSameSetting self.old self.new }
+    {
+        self.enter(Event::Check)
+    }
+
+    /// Makes a check where 64 proposals are pending. At `Full` the journal is full; then, and at `Err`, nothing was entered.
     fn make_room(&mut self) -> Result<Going, AllocError>
         ensures ok { IfOk result (Goes self.new (with_room self.old.history.group (course_from self.old.history.past))) }
         ensures err { OnErr result (IsPartOf self.old self.new (with_room self.old.history.group (course_from self.old.history.past))) }
         ensures setting { HasSameSetting self.old self.new }
     {
         if self.pending() == MAX_PENDING {
-            return self.enter(Event::Check);
+            return self.check_once();
         }
         Ok(Going::On)
     }
@@ -140,7 +151,23 @@ impl World {
         }
     }
 
-    /// Makes a proposal of a copy of these rows. The copy comes first: where it is refused nothing was entered.
+    /// Makes a proposal and directly behind it a check, with nothing between the two. A check decides the oldest proposal: so who wants
+    /// this proposal decided has to see to it that nothing is pending before (`check_all`). Where 64 proposals are pending this one is
+    /// dropped, and the check decides the oldest all the same. At `Full` an event met a full journal; then, and at `Err`, a part of the two
+    /// events was entered, from the first, and stands.
+    pub fn decide_now(&mut self, app: AppId, rows: Rows) -> Result<Going, AllocError>
+        requires { RowsFit self.old.history.group rows }
+        ensures ok { IfOk result (Goes self.new (decided_now self.old.history.group (course_from self.old.history.past) app rows)) }
+        ensures err { OnErr result (IsPartOf self.old self.new (decided_now self.old.history.group (course_from self.old.history.past) app rows)) }
+        ensures setting { HasSameSetting self.old self.new }
+    {
+        match self.enter(Event::Submit { app, rows })? {
+            Going::On => self.check_once(),
+            Going::Full => Ok(Going::Full),
+        }
+    }
+
+    /// Makes a proposal of a copy of these rows. The copy is made first: where it is refused memory, nothing was entered.
     fn propose_copy(&mut self, app: AppId, rows: &Rows) -> Result<Going, AllocError>
         requires { RowsFit self.old.history.group rows.now }
         ensures ok { IfOk result (Goes self.new (proposed self.old.history.group (course_from self.old.history.past) app rows.now)) }
@@ -151,8 +178,8 @@ impl World {
         self.propose(app, rows)
     }
 
-    /// Checks until an application's latest proposal is decided: the oldest is decided first, so until none of its proposals is
-    /// pending. At `Full` a check met a full journal; then, and at `Err`, a part of the checks was entered, and stands.
+    /// Checks until an application's latest proposal is decided: the oldest is decided first, so until none of the application's proposals
+    /// is pending. At `Full` a check met a full journal; then, and at `Err`, a part of the checks was entered, and stands.
     pub fn await_latest(&mut self, app: AppId) -> Result<Going, AllocError>
         ensures ok { IfOk result (Goes self.new (awaited self.old.history.group (course_from self.old.history.past) app)) }
         ensures err { OnErr result (IsPartOf self.old self.new (awaited self.old.history.group (course_from self.old.history.past) app)) }
@@ -162,7 +189,7 @@ impl World {
             if !self.has_one_of(app) {
                 return Ok(Going::On);
             }
-            match self.enter(Event::Check)? {
+            match self.check_once()? {
                 Going::On => {}
                 Going::Full => return Ok(Going::Full),
             }
@@ -170,8 +197,8 @@ impl World {
         Ok(Going::On)
     }
 
-    /// Checks while something is pending, of which there are no more than 64. At `Full` a check met a full journal; then, and at
-    /// `Err`, a part of the checks was entered, and stands.
+    /// Checks while a proposal is pending; no more than 64 are. At `Full` a check met a full journal; then, and at `Err`, a part of the
+    /// checks was entered, and stands.
     pub fn check_all(&mut self) -> Result<Going, AllocError>
         ensures ok { IfOk result (Goes self.new (all_checked self.old.history.group (course_from self.old.history.past))) }
         ensures err { OnErr result (IsPartOf self.old self.new (all_checked self.old.history.group (course_from self.old.history.past))) }
@@ -181,7 +208,7 @@ impl World {
             if self.pending() == 0 {
                 return Ok(Going::On);
             }
-            match self.enter(Event::Check)? {
+            match self.check_once()? {
                 Going::On => {}
                 Going::Full => return Ok(Going::Full),
             }
@@ -228,8 +255,8 @@ impl World {
         self.enter(Event::Unlock { app, entity, prio })
     }
 
-    /// Lets an entity change of itself: its health, and the variables that rows name; it keeps its own values of the others. At `Full`
-    /// the journal is full; then, and at `Err`, nothing was entered.
+    /// Lets an entity change of itself: its health, and the variables that rows name; of the other variables the entity keeps its values.
+    /// At `Full` the journal is full; then, and at `Err`, nothing was entered.
     pub fn fail(&mut self, entity: Entity, health: u32, rows: &[Row]) -> Result<Going, AllocError>
         requires { IsChangeOf entity health rows.now self.old.history.group }
         ensures ok { IfOk result (Goes self.new (failed self.old.history.group (course_from self.old.history.past) entity health rows.now)) }
@@ -237,7 +264,7 @@ impl World {
         ensures none { OnErr result (self.new.history ≡ self.old.history) }
         ensures setting { HasSameSetting self.old self.new }
     {
-        // Of a legal journal an agent's values are in range.
+        // The journal is legal, so the values of each agent are in range.
         self.is_legal();
         let vals = failed_vals(entity, self.agent(entity).vals(), rows);
         self.enter(Event::Fail {
@@ -248,8 +275,8 @@ impl World {
     }
 
     /// Does an act of an application on this group: the events that the act asks for are entered, one after another. An act that
-    /// reads enters none; what it sees `seen_by` tells. At `Full` an event met a full journal; then, and at `Err`, a part of the events
-    /// was entered, from the first, and stands.
+    /// reads enters none; what such an act sees, `seen_by` tells. At `Full` an event met a full journal; then, and at `Err`, a part of the
+    /// events was entered, from the first, and stands.
     pub fn act(&mut self, app: AppId, act: &Act) -> Result<Going, AllocError>
         requires { ActFits act.now self.old.history.group }
         ensures ok { IfOk result (Goes self.new (act_course app act.now self.old.history self.old.lines)) }
@@ -269,7 +296,7 @@ impl World {
                 ..
             } => self.fail(*entity, *health, rows.as_slice()),
             Act::Poll { entity, .. } => self.poll(*entity),
-            Act::Read { .. } | Act::ReadAt { .. } => Ok(Going::On),
+            Act::Read { .. } | Act::ReadAt { .. } | Act::Span { .. } => Ok(Going::On),
         }
     }
 }

@@ -15,8 +15,8 @@ fn fail_fits(topo: &GroupTopo, entity: Entity, vals: Vals, health: u32) -> bool
 }
 
 impl World {
-    /// Whether a step may enter an event: it names entities of the group, its rows are such as a proposal may hold, and its values and
-    /// its health are in range.
+    /// Whether a step may enter an event: the event names entities of the group, its rows are such as a proposal may hold, and its values
+    /// and its health are in range.
     pub fn fits(&self, event: &Event) -> bool
         ensures { IsTrue result ↔ Fits self.now.history.group event.now }
     {

@@ -19,9 +19,9 @@ use std::alloc::AllocError;
 /// The answer to a round.
 #[derive(Clone, Copy, Debug, PartialEq, Eq)]
 pub enum Rounded {
-    /// All of it was entered, and so many entities are not settled after it.
+    /// All of the round was entered, and so many entities are not settled after it.
     Did { unsettled: u32 },
-    /// It met a journal that has as many entries as it may have, which is this number. What was entered before stands.
+    /// An event met a journal that has as many entries as it may have, which is this number. What was entered before stands.
     JournalFull { entries: u32 },
 }
 
@@ -172,8 +172,8 @@ impl World {
         }
     }
 
-    /// The half that monitors it: its agent reports, and each report that arrives at that one's turn is heard. At `Full` the journal met
-    /// its limit; then, and at `Err`, a part of these events was entered, from the first, and stands.
+    /// The half of an entity's turn that monitors the entity: its agent reports, and each report that arrives at the turn of this one is
+    /// heard. At `Full` the journal met its limit; then, and at `Err`, a part of these events was entered, from the first, and stands.
     pub fn poll(&mut self, entity: Entity) -> Result<Going, AllocError>
         requires { IsEntityOf self.old.history.group entity }
         ensures ok { IfOk result (Goes self.new (poll_lem self.old.history.group self.old.lines (course_from self.old.history.past) entity)) }
@@ -183,7 +183,7 @@ impl World {
         self.enter_with_follow_ups(Event::Report { entity })
     }
 
-    /// The turn of an entity: it is updated, and then monitored. At `Full` the journal met its limit; then, and at `Err`, a part of
+    /// The turn of an entity: the entity is updated, and then monitored. At `Full` the journal met its limit; then, and at `Err`, a part of
     /// these events was entered, from the first, and stands.
     pub fn turn(&mut self, entity: Entity) -> Result<Going, AllocError>
         requires { IsEntityOf self.old.history.group entity }

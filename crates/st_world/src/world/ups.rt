@@ -1,4 +1,4 @@
-//! Which entities of a world carry traffic in the simulated network, whether that was heard or not.
+//! Which entities of a world carry traffic in the simulated network, whether a report that says so was heard or not.
 
 ghost use Rattle.std.specs.Prelude.{◌≡◌, IfOk};
 ghost use Rattle.st_net.specs.Groups.{IsEntityOf};

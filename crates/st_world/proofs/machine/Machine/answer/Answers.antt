@@ -1,7 +1,7 @@
 use Rattle.std.proofs.Common.{◌≡◌, subst}
 use Rattle.std.specs.Prelude.{true, false, IsTrue}
 use Rattle.st_event.specs.declared.event.Event.{Event}
-use Rattle.st_event.specs.Events.{is_check, is_without_side}
+use Rattle.st_event.specs.Events.{answers_without_list, is_without_list}
 use Rattle.st_world.specs.Machine.{Answers}
 use Rattle.st_world.proofs.machine.Machine.answer.Goals.{in-Submit+in_ok-reply-in-Submit, in-Check+in_ok-reply-in-Check, in-Lock, in-Unlock, in-Send+in_ok-reply-in-Send, in-Deliver, in-Finish, in-Report+in_ok-reply-in-Report, in-Hear, in-Fail}
 use Rattle.st_world.proofs.machine.Machine.answer.Goals as goal
@@ -22,14 +22,14 @@ returns-clause-ok c =
     ] in
     answers
 
-true_false : true ≡ false → ⊥
-true_false same = cc
+false_true : false ≡ true → ⊥
+false_true same = cc
 
 pub returns-clause-plain : goal.returns-clause-plain
 returns-clause-plain c =
-    let plain : is_check c.args.event.now ≡ false → IsTrue (is_without_side c.match-event.reply) = elim c.match-event.branch [
+    let plain : IsTrue (answers_without_list c.args.event.now) → IsTrue (is_without_list c.match-event.reply) = elim c.match-event.branch [
       | in-Submit+in_ok-reply-in-Submit w ↦ λ other. rw w.reply-is w.in_ok-reply-in-Submit.ensures.plain
-      | in-Check+in_ok-reply-in-Check w ↦ λ other. absurd (true_false (subst (λ (e : Event). is_check e ≡ false) w.in-Check.is other))
+      | in-Check+in_ok-reply-in-Check w ↦ λ other. absurd (false_true (subst (λ (e : Event). answers_without_list e ≡ true) w.in-Check.is other))
       | in-Lock w ↦ λ other. rw w.reply-is w.lock-reply.ensures.plain
       | in-Unlock w ↦ λ other. rw w.reply-is w.unlock-reply.ensures.plain
       | in-Send+in_ok-reply-in-Send w ↦ λ other. rw w.reply-is w.in_ok-reply-in-Send.ensures.plain
