@@ -21,7 +21,8 @@ use Rattle.st_net.specs.declared.entity.Var.TheVariants.{Power, Firmware, Config
 use Rattle.st_net.specs.declared.promise.BrokenKind.{BrokenKind}
 use Rattle.st_net.specs.declared.promise.BrokenKind.TheVariants.{CutOff, Short}
 use Rattle.st_net.specs.Names.{is_name_byte, are_name_bytes, begins_with_letter, is_name}
-use Rattle.st_net.specs.Groups.{Group, IsSound, are_names, name_of, promise_of}
+use Rattle.st_net.specs.Groups.{Group, IsSound, are_names, name_of}
+use Rattle.st_net.specs.Demands.{broken_pair}
 use Rattle.st_event.specs.declared.event.Event.{Event}
 use Rattle.st_event.specs.declared.event.Event.TheVariants.{Submit, Check, Lock, Unlock, Send, Deliver, Finish, Report, Hear, Fail}
 use Rattle.st_event.specs.declared.reply.Lack.{Lack}
@@ -136,8 +137,8 @@ cause_plain : (g : Group) (apps : List (List ℕ)) (cause : Cause) → IsSound g
 cause_plain g apps (NotControllable row lack) sound are = lack_plain g row lack sound
 cause_plain g apps (Locked e holder prio) sound are = rw (entity_plain g e sound, app_plain apps holder are, prio_plain prio) refl
 cause_plain g apps (broken_cause broken) sound are = rw (
-  entity_plain g (Device (promise_of g broken.promise).a) sound,
-  entity_plain g (Device (promise_of g broken.promise).b) sound,
+  entity_plain g (Device (broken_pair g broken).0) sound,
+  entity_plain g (Device (broken_pair g broken).1) sound,
   kind_plain broken.kind,
   number_plain broken.need,
   number_plain broken.has,

@@ -2,6 +2,7 @@
 
 ghost use Rattle.std.specs.Prelude.{◌≡◌, ◌++◌, OnOk};
 ghost use Rattle.st_text.specs.Words.{spaced};
+ghost use Rattle.st_net.specs.Demands.{pair_of_broken};
 ghost use Rattle.st_net.specs.Groups.{promise_of};
 ghost use Rattle.st_entry.specs.Words.{device_words};
 ghost use Rattle.st_entry.specs.Causes.{lack_words, broken_words, cause_words, verdict_words};
@@ -9,7 +10,7 @@ ghost use Rattle.st_entry.specs.Causes.{lack_words, broken_words, cause_words, v
 use crate::keyword::{CauseWord, VerdictWord, kind_word};
 use crate::names::{app_name, entity_name};
 use st_event::{Cause, Lack, Verdict};
-use st_net::{Broken, Entity, GroupTopo, Name, Promise, Row};
+use st_net::{Broken, BrokenOf, Entity, GroupTopo, Name, Promise, Row};
 use st_text::{Text, Word, print_word, print_words};
 use st_token::{prio_word, var_word};
 use std::alloc::AllocError;
@@ -67,16 +68,29 @@ fn print_lack(topo: &GroupTopo, row: Row, lack: Lack, out: &mut Text) -> Result<
     }
 }
 
-/// Adds which promise breaks and how, with the devices of its side.
+/// The two devices between which a demand breaks, as they were declared: those of a promise, by its number.
+fn pair_of(topo: &GroupTopo, of: BrokenOf) -> (u32, u32)
+    ensures a { result.0 ≡ (pair_of_broken topo.now of).0 }
+    ensures b { result.1 ≡ (pair_of_broken topo.now of).1 }
+{
+    match of {
+        BrokenOf::Promise(number) => {
+            let promise = promise_at(topo, number);
+            (promise.a, promise.b)
+        }
+    }
+}
+
+/// Adds between which devices a demand breaks and how, with the devices of its side.
 fn print_broken(topo: &GroupTopo, broken: &Broken, out: &mut Text) -> Result<(), AllocError>
     ensures { OnOk result (out.new ≡ out.old ++ spaced (broken_words topo.now broken.now)) }
 {
-    let promise = promise_at(topo, broken.promise);
+    let (a, b) = pair_of(topo, broken.of);
     print_words(
         &[
             Word::Plain(CauseWord::Broken.word()),
-            Word::Plain(entity_name(topo, Entity::Device(promise.a))),
-            Word::Plain(entity_name(topo, Entity::Device(promise.b))),
+            Word::Plain(entity_name(topo, Entity::Device(a))),
+            Word::Plain(entity_name(topo, Entity::Device(b))),
             Word::Plain(kind_word(broken.kind)),
             Word::Plain(b"need"),
             Word::Number(broken.need),
@@ -90,7 +104,7 @@ fn print_broken(topo: &GroupTopo, broken: &Broken, out: &mut Text) -> Result<(),
 }
 
 /// Adds the words of what a refusal names, each behind a space: the row that can't be set, and why; or the entity that is locked, its
-/// holder and the lock; or the promise that breaks, how, and the devices of its side. `Err` is for want of memory alone, and nothing is
+/// holder and the lock; or the pair of the demand that breaks, how, and the devices of its side. `Err` is for want of memory alone, and nothing is
 /// said of the text then.
 pub fn print_cause<'a>(
     topo: &'a GroupTopo,

@@ -4,16 +4,17 @@ ghost use Rattle.std.specs.Prelude.{◌≡◌, ◌++◌, ◌∷◌, [], OnOk, de
 ghost use Rattle.st_text.specs.Printed.{bytes_of, value_word as value_word_lem};
 ghost use Rattle.st_text.specs.Words.{spaced};
 ghost use Rattle.st_net.specs.Entities.{value_of};
+ghost use Rattle.st_net.specs.Groups.{name_of};
 ghost use Rattle.st_token.specs.Words.{prio_word as prio_word_lem, var_word as var_word_lem};
 ghost use Rattle.st_entry.specs.declared.keyword.EventWord.TheVariants as events;
 ghost use Rattle.st_entry.specs.Keywords.{event_word};
-ghost use Rattle.st_entry.specs.Words.{assignment_words, value_words};
+ghost use Rattle.st_entry.specs.Words.{app_word, assignment_words, value_words};
 ghost use Rattle.st_entry.specs.Entries.{event_words};
 
 use crate::keyword::EventWord;
 use crate::names::{app_name, entity_name};
 use st_event::Event;
-use st_net::{Entity, GroupTopo, Name, Prio, Row, Vals, Var};
+use st_net::{AppId, Entity, GroupTopo, Name, Prio, Row, Vals, Var};
 use st_text::{Text, Word, print_word, print_words};
 use st_token::{prio_word, var_word};
 use std::alloc::AllocError;
@@ -85,20 +86,22 @@ fn print_submit(
 }
 
 /// Adds the request or the return of a lock.
-fn print_lock(
+fn print_lock<'a>(
+    topo: &'a GroupTopo,
+    apps: &'a [Name],
     word: EventWord,
-    app: &[u8],
-    name: &[u8],
+    app: AppId,
+    entity: Entity,
     prio: Prio,
     out: &mut Text,
 ) -> Result<(), AllocError>
-    ensures { OnOk result (out.new ≡ out.old ++ spaced (event_word word ∷ app.now ∷ name.now ∷ prio_word_lem prio ∷ [])) }
+    ensures { OnOk result (out.new ≡ out.old ++ spaced (event_word word ∷ app_word apps.now app ∷ name_of topo.now entity ∷ prio_word_lem prio ∷ [])) }
 {
     print_words(
         &[
             Word::Plain(word.word()),
-            Word::Plain(app),
-            Word::Plain(name),
+            Word::Plain(app_name(apps, app)),
+            Word::Plain(entity_name(topo, entity)),
             Word::Plain(prio_word(prio)),
         ],
         out,
@@ -151,20 +154,12 @@ pub fn print_event<'a>(
             print_submit(topo, app_name(apps, *app), rows.as_slice(), out)
         }
         Event::Check => print_word(Word::Plain(EventWord::Check.word()), out),
-        Event::Lock { app, entity, prio } => print_lock(
-            EventWord::Lock,
-            app_name(apps, *app),
-            entity_name(topo, *entity),
-            *prio,
-            out,
-        ),
-        Event::Unlock { app, entity, prio } => print_lock(
-            EventWord::Unlock,
-            app_name(apps, *app),
-            entity_name(topo, *entity),
-            *prio,
-            out,
-        ),
+        Event::Lock { app, entity, prio } => {
+            print_lock(topo, apps, EventWord::Lock, *app, *entity, *prio, out)
+        }
+        Event::Unlock { app, entity, prio } => {
+            print_lock(topo, apps, EventWord::Unlock, *app, *entity, *prio, out)
+        }
         Event::Send { entity } => print_named(EventWord::Send, entity_name(topo, *entity), out),
         Event::Deliver { command } => print_numbered(EventWord::Deliver, *command, out),
         Event::Finish { entity } => {

@@ -335,7 +335,7 @@ broken_fits : (g : Group) (up : Entity → Bool) (i : ℕ) (p : Promise) → IsS
 broken_fits g up i p sound among low =
     let rising = numbers_rise (length g.devices) (is_in_least_side (length g.devices) g.links up p.a p.b) in
     record {
-      promise = low;
+      demand = low;
       need = omega (arith, need_small g p sound among.share);
       has = omega (arith, least_small g up p.a p.b sound);
       some = numbers_some (length g.devices) (is_in_least_side (length g.devices) g.links up p.a p.b) p.a among.a_in (has_first g up p.a p.b among.apart);

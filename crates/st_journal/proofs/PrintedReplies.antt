@@ -15,10 +15,13 @@ use Rattle.st_net.specs.declared.entity.Row.{Row}
 use Rattle.st_net.specs.declared.promise.Promise.{Promise}
 use Rattle.st_net.specs.declared.topo.DeviceOpening.{DeviceOpening}
 use Rattle.st_net.specs.declared.promise.Broken.{Broken}
+use Rattle.st_net.specs.declared.promise.BrokenOf.{BrokenOf}
+use Rattle.st_net.specs.declared.promise.BrokenOf.TheVariants.{Promise as of_promise}
 use Rattle.st_net.specs.declared.promise.BrokenKind.{BrokenKind}
 use Rattle.st_net.specs.declared.promise.BrokenKind.TheVariants.{CutOff, Short}
 use Rattle.st_net.specs.Names.{is_name}
-use Rattle.st_net.specs.Groups.{Group, IsSound, IsEntityOf, IsPromiseAmong, ArePromises, name_of, find_in, promise_of, no_promise, is_on_pair, is_promised, are_other_pairs}
+use Rattle.st_net.specs.Groups.{Group, IsSound, IsEntityOf, IsPromiseAmong, ArePromises, name_of, find_in, no_promise, is_on_pair, is_promised, are_other_pairs}
+use Rattle.st_net.specs.Demands.{demand_count, number_of_broken, broken_demand, pair_of_broken, broken_pair}
 use Rattle.st_net.specs.Ranges.{RowFits}
 use Rattle.st_event.specs.declared.reply.Lack.{Lack}
 use Rattle.st_event.specs.declared.reply.Lack.TheVariants.{Level, PowerOff}
@@ -55,13 +58,13 @@ Ascends [] = Unit {0}
 Ascends (d ∷ []) = Unit {0}
 Ascends (d ∷ e ∷ ds) = (d < e) × Ascends (e ∷ ds)
 
--- what a reply may name: entities and promises of the group, applications, and numbers of 32 bits
+-- what a reply may name: entities and demands of the group, applications, and numbers of 32 bits
 abbrev pub LackFits : Group → Lack → Type 0
 LackFits g (Level e level needs) = IsEntityOf g e × (level < 2 ^ 32) × (needs < 2 ^ 32)
 LackFits g PowerOff = Unit {0}
 
 pub record BrokenFits (g : Group) (b : Broken) : Type 0 where
-  pub promise : b.promise < length g.promises
+  pub demand : broken_demand g b < demand_count g
   pub need : b.need < 2 ^ 32
   pub has : b.has < 2 ^ 32
   pub some : 1 ≤ length b.side
@@ -357,23 +360,34 @@ module _ (g : Group) (apps : List (List ℕ)) (sound : IsSound g) (are : AreName
   unfolding locked_of
   locked_again e app prio within low = rw (entity_name_again g e sound within, app_again apps app are low, prio_again prio) refl
 
-  ends_again : (b : Broken) → BrokenFits g b → ends_in g (name_of g (Device (promise_of g b.promise).a) ∷ name_of g (Device (promise_of g b.promise).b) ∷ kind_word b.kind ∷ []) ≡ Ok ((promise_of g b.promise).a, (promise_of g b.promise).b, b.kind)
+  -- the devices between which a demand breaks are of the group, and by them it is found
+  pair_among : (of : BrokenOf) → number_of_broken g of < demand_count g → ((pair_of_broken g of).0 < length g.devices) × ((pair_of_broken g of).1 < length g.devices)
+  pair_among (of_promise i) low = let among = promise_among g.devices g.promises i sound.promises low in (among.a_in, among.b_in)
+
+  pair_placed : (of : BrokenOf) → number_of_broken g of < demand_count g → promise_place (pair_of_broken g of).0 (pair_of_broken g of).1 g.promises ≡ Some (number_of_broken g of)
+  pair_placed (of_promise i) low = placed [] g.promises i sound.pairs low
+
+  of_number : (of : BrokenOf) → of_promise (number_of_broken g of) ≡ of
+  of_number (of_promise i) = refl
+
+  ends_again : (b : Broken) → BrokenFits g b → ends_in g (name_of g (Device (broken_pair g b).0) ∷ name_of g (Device (broken_pair g b).1) ∷ kind_word b.kind ∷ []) ≡ Ok ((broken_pair g b).0, (broken_pair g b).1, b.kind)
   unfolding ends_in
   ends_again b fits =
-      let among = promise_among g.devices g.promises b.promise sound.promises fits.promise in
-      rw (device_again (promise_of g b.promise).a among.a_in, device_again (promise_of g b.promise).b among.b_in, kind_again b.kind) refl
+      let among = pair_among b.of fits.demand in
+      rw (device_again (broken_pair g b).0 among.0, device_again (broken_pair g b).1 among.1, kind_again b.kind) refl
 
   broken_again : (b : Broken) → BrokenFits g b
-      → broken_of g (name_of g (Device (promise_of g b.promise).a) ∷ name_of g (Device (promise_of g b.promise).b) ∷ kind_word b.kind ∷ need_word ∷ decimal b.need ∷ has_word ∷ decimal b.has ∷ side_word ∷ device_words g b.side) ≡ Ok (broken_cause b)
+      → broken_of g (name_of g (Device (broken_pair g b).0) ∷ name_of g (Device (broken_pair g b).1) ∷ kind_word b.kind ∷ need_word ∷ decimal b.need ∷ has_word ∷ decimal b.has ∷ side_word ∷ device_words g b.side) ≡ Ok (broken_cause b)
   unfolding broken_of
   broken_again b fits =
       rw (
-        cut_three (name_of g (Device (promise_of g b.promise).a)) (name_of g (Device (promise_of g b.promise).b)) (kind_word b.kind) (need_word ∷ decimal b.need ∷ has_word ∷ decimal b.has ∷ side_word ∷ device_words g b.side),
+        cut_three (name_of g (Device (broken_pair g b).0)) (name_of g (Device (broken_pair g b).1)) (kind_word b.kind) (need_word ∷ decimal b.need ∷ has_word ∷ decimal b.has ∷ side_word ∷ device_words g b.side),
         ends_again b fits,
         cut_four need_word (decimal b.need) has_word (decimal b.has) (side_word ∷ device_words g b.side),
         told_again need_word has_word b.need b.has refl refl fits.need fits.has,
         side_again b.side fits.ascends fits.within,
-        placed [] g.promises b.promise sound.pairs fits.promise,
+        pair_placed b.of fits.demand,
+        of_number b.of,
       ) refl
 
 -- what a refusal names: its word is one of a cause's, behind which as many words stand as it takes, and these say the cause
@@ -422,19 +436,19 @@ module _ (g : Group) (apps : List (List ℕ)) (sound : IsSound g) (are : AreName
 
   says_broken : (b : Broken) → BrokenFits g b → SaysCause g apps (broken_cause b)
   says_broken b fits =
-      let among = promise_among g.devices g.promises b.promise sound.promises fits.promise in
+      let among = pair_among g apps sound are b.of fits.demand in
       record {
         word = causes.Broken;
-        args = name_of g (Device (promise_of g b.promise).a) ∷ name_of g (Device (promise_of g b.promise).b) ∷ kind_word b.kind ∷ need_word ∷ decimal b.need ∷ has_word ∷ decimal b.has ∷ side_word ∷ device_words g b.side;
+        args = name_of g (Device (broken_pair g b).0) ∷ name_of g (Device (broken_pair g b).1) ∷ kind_word b.kind ∷ need_word ∷ decimal b.need ∷ has_word ∷ decimal b.has ∷ side_word ∷ device_words g b.side;
         words = refl;
-        counted = at_most 9 (length (name_of g (Device (promise_of g b.promise).a) ∷ name_of g (Device (promise_of g b.promise).b) ∷ kind_word b.kind ∷ need_word ∷ decimal b.need ∷ has_word ∷ decimal b.has ∷ side_word ∷ device_words g b.side))
+        counted = at_most 9 (length (name_of g (Device (broken_pair g b).0) ∷ name_of g (Device (broken_pair g b).1) ∷ kind_word b.kind ∷ need_word ∷ decimal b.need ∷ has_word ∷ decimal b.has ∷ side_word ∷ device_words g b.side))
             (omega (arith, length-map b.side (λ d. name_of g (Device d)), fits.some));
         again = broken_again g apps sound are b fits;
         first = literal (codes "broken") refl refl;
         rest = (
-          name_is_word (Device (promise_of g b.promise).a) among.a_in,
+          name_is_word (Device (broken_pair g b).0) among.0,
           (
-            name_is_word (Device (promise_of g b.promise).b) among.b_in,
+            name_is_word (Device (broken_pair g b).1) among.1,
             (
               kind_is_word b.kind,
               (literal (codes "need") refl refl, (number_is_word b.need fits.need, (literal (codes "has") refl refl, (number_is_word b.has fits.has, (literal (codes "side") refl refl, devices_are_words b.side fits.within))))),

@@ -6,7 +6,7 @@ use Rattle.std.proofs.lemmas.List.Elements.{All-nil, All-cons}
 use Rattle.st_net.specs.declared.entity.Entity.TheVariants.{Device}
 use Rattle.st_net.specs.declared.entity.Row.{Row}
 use Rattle.st_net.specs.declared.entity.Var.TheVariants.{Firmware}
-use Rattle.st_net.specs.Groups.{Group}
+use Rattle.st_net.specs.Groups.{Group, no_group}
 use Rattle.st_net.specs.Ranges.{RowFits}
 use Rattle.st_event.specs.declared.event.Event.TheVariants.{Submit, Check}
 use Rattle.st_event.specs.declared.journal.Entry.{Entry}
@@ -19,13 +19,10 @@ use Rattle.st_journal.proofs.ReplayLemmas.{wrong_is_illegal}
 
 -- a ToR t1 and a switch a1, which nothing joins
 abbrev small : Group
-small = record {
+small = record no_group {
   name = codes "dc1";
   device_names = codes "t1" ∷ codes "a1" ∷ [];
-  link_names = [];
   devices = record { tor = true; vals = record { v0 = 1; v1 = 1; v2 = 1; v3 = 1 }; health = 5 } ∷ record { tor = false; vals = record { v0 = 1; v1 = 1; v2 = 1; v3 = 1 }; health = 5 } ∷ [];
-  links = [];
-  promises = [];
 }
 
 abbrev firmware : Row

@@ -9,8 +9,9 @@ use Rattle.st_net.specs.declared.entity.Prio.TheVariants.{Low, High}
 use Rattle.st_net.specs.declared.entity.Row.{Row}
 use Rattle.st_net.specs.declared.entity.Var.TheVariants.{Firmware}
 use Rattle.st_net.specs.declared.promise.BrokenKind.TheVariants.{Short}
+use Rattle.st_net.specs.declared.promise.BrokenOf.TheVariants.{Promise as of_promise}
 use Rattle.st_net.specs.declared.topo.DeviceOpening.{DeviceOpening}
-use Rattle.st_net.specs.Groups.{Group}
+use Rattle.st_net.specs.Groups.{Group, no_group}
 use Rattle.st_event.specs.declared.event.Event.{Event}
 use Rattle.st_event.specs.declared.event.Event.TheVariants.{Submit, Check, Lock, Unlock, Send, Deliver, Finish, Report as make_report, Hear, Fail}
 use Rattle.st_event.specs.declared.reply.Lack.TheVariants.{Level, PowerOff}
@@ -36,7 +37,7 @@ device tor = record { tor = tor; vals = record { v0 = 1; v1 = 1; v2 = 1; v3 = 1 
 
 -- two ToRs with a promise between them, a switch and a link
 abbrev q : Group
-q = record {
+q = record no_group {
   name = codes "dc1";
   device_names = codes "t1" ∷ codes "t2" ∷ codes "a1" ∷ [];
   link_names = codes "l1" ∷ [];
@@ -46,7 +47,7 @@ q = record {
 }
 
 abbrev other : Group
-other = record { name = codes "dc2"; device_names = []; link_names = []; devices = []; links = []; promises = [] }
+other = record no_group { name = codes "dc2" }
 
 abbrev apps : List (List ℕ)
 apps = codes "te" ∷ codes "up" ∷ []
@@ -114,7 +115,7 @@ replies =
     first (codes "1 check : receipt 1 refused off a1.firmware=2") Check (decided (Refused (NotControllable (firmware 2) PowerOff))) ∷
     first (codes "1 check : receipt 1 refused level a1.firmware=2 of t1 has 1 needs 2") Check (decided (Refused (NotControllable (firmware 2) (Level (Device 0) 1 2)))) ∷
     first (codes "1 check : receipt 1 refused locked l1 te high") Check (decided (Refused (Locked (Link 0) (record { 0 = 0 }) High))) ∷
-    first (codes "1 check : receipt 1 refused broken t1 t2 short need 10 has 5 side t1 a1") Check (decided (Refused (broken_cause (record { promise = 0; kind = Short; need = 10; has = 5; side = 0 ∷ 2 ∷ [] })))) ∷
+    first (codes "1 check : receipt 1 refused broken t1 t2 short need 10 has 5 side t1 a1") Check (decided (Refused (broken_cause (record { of = of_promise 0; kind = Short; need = 10; has = 5; side = 0 ∷ 2 ∷ [] })))) ∷
     first (codes "1 lock up a1 low : held te") (Lock up a1 Low) (Held (record { 0 = 0 })) ∷
     first (codes "1 send a1 : blocked a1.firmware=2") (Send a1) (Blocked (firmware 2)) ∷
     first (codes "1 hear 9 : nosuch 1") (Hear 9) (NoSuch 1) ∷ []

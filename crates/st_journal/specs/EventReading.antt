@@ -123,4 +123,12 @@ event_of g apps events.Fail args = fail_of g args
 -- a proposal has at most 16 rows
 abbrev pub has_few_rows : Event → Bool
 has_few_rows (Submit app rows) = nat_le (length rows) MAX_ROWS
-has_few_rows _ = true
+has_few_rows Check = true
+has_few_rows (Lock app e prio) = true
+has_few_rows (Unlock app e prio) = true
+has_few_rows (Send e) = true
+has_few_rows (Deliver n) = true
+has_few_rows (Finish e) = true
+has_few_rows (make_report e) = true
+has_few_rows (Hear n) = true
+has_few_rows (Fail e vals health) = true

@@ -8,6 +8,7 @@ use Rattle.st_net.specs.declared.entity.Row.{Row}
 use Rattle.st_net.specs.declared.promise.Promise.{Promise}
 use Rattle.st_net.specs.declared.promise.BrokenKind.{BrokenKind}
 use Rattle.st_net.specs.declared.promise.BrokenKind.TheVariants.{CutOff, Short}
+use Rattle.st_net.specs.declared.promise.BrokenOf.TheVariants.{Promise as of_promise}
 use Rattle.st_net.specs.Groups.{Group, find_in}
 use Rattle.st_event.specs.declared.reply.Lack.TheVariants.{Level, PowerOff}
 use Rattle.st_event.specs.declared.reply.Cause.{Cause}
@@ -145,7 +146,7 @@ broken_of g args = do
   told ← two_told_in need_word has_word more.0
   side ← side_in g more.1
   promise ← ok_or (promise_place ends.0 ends.1 g.promises) kinds.Pair
-  Ok (broken_cause (record { promise = promise; kind = ends.2; need = told.0; has = told.1; side = side }))
+  Ok (broken_cause (record { of = of_promise promise; kind = ends.2; need = told.0; has = told.1; side = side }))
 
 -- what the cause of a word says
 abbrev pub cause_of : Group → List (List ℕ) → CauseWord → List (List ℕ) → Result Cause FaultKind

@@ -12,11 +12,11 @@ fn is_same_side(a: &Side, b: &Side) -> bool
     a.as_slice() == b.as_slice()
 }
 
-/// Whether the same promise breaks, in the same way.
+/// Whether the same demand breaks, in the same way.
 fn is_same_broken(a: &Broken, b: &Broken) -> bool
     ensures { IsTrue result ↔ (a.now ≡ b.now) }
 {
-    a.promise == b.promise
+    a.of == b.of
         && a.kind == b.kind
         && a.need == b.need
         && a.has == b.has

@@ -7,7 +7,7 @@ use Rattle.st_net.specs.declared.entity.Row.{Row}
 use Rattle.st_net.specs.declared.entity.Var.{Var}
 use Rattle.st_net.specs.declared.entity.Var.TheVariants.{Power, Firmware, Config, Routing, Iface}
 use Rattle.st_net.specs.declared.topo.DeviceOpening.{DeviceOpening}
-use Rattle.st_net.specs.Groups.{Group}
+use Rattle.st_net.specs.Groups.{Group, no_group}
 use Rattle.st_net.specs.Merge.{merge_of}
 use Rattle.st_event.specs.declared.event.Event.TheVariants.{Submit, Check}
 use Rattle.st_event.specs.declared.journal.Entry.{Entry}
@@ -23,13 +23,11 @@ abbrev device : DeviceOpening
 device = record { tor = false; vals = record { v0 = 1; v1 = 1; v2 = 1; v3 = 1 }; health = 5 }
 
 abbrev pair : Group
-pair = record {
-  name = [];
+pair = record no_group {
   device_names = [] ∷ [] ∷ [];
   link_names = [] ∷ [];
   devices = device ∷ device ∷ [];
   links = record { a = 0; b = 1; capacity = 10; vals = record { v0 = 1; v1 = 1; v2 = 0; v3 = 0 }; health = 1 } ∷ [];
-  promises = [];
 }
 
 abbrev row : Entity → Var → ℕ → Row

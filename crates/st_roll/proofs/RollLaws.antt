@@ -6,7 +6,7 @@ use Rattle.std.proofs.lemmas.List.Sums.{sum_by-append, sum_by-cons}
 use Rattle.st_net.specs.declared.entity.AppId.{AppId}
 use Rattle.st_net.specs.declared.entity.Entity.{Entity}
 use Rattle.st_net.specs.declared.promise.Broken.{Broken}
-use Rattle.st_net.specs.Demands.{is_held_in, first_broken_of, demand_count}
+use Rattle.st_net.specs.Demands.{is_held_in, first_broken_of, broken_demand, demand_count}
 use Rattle.st_net.specs.Groups.{Group}
 use Rattle.st_net.specs.Laws.{DemandsHoldWithMore, TellsDemands, BreaksNone}
 use Rattle.st_net.specs.Merge.{target_with}
@@ -43,7 +43,7 @@ true_not_false : (b : Bool) → b ≡ true → b ≡ false → ⊥
 true_not_false b held failed = cc
 
 -- a demand that breaks bars every application
-broken_by : (g : Group) (st : Standing) (f : ℕ) (devices : List ℕ) (broken : Broken) → HasLaws g → IsBreak g (sure_in g st) (left_up g st (firmware_rows f devices)) broken.promise → IsBrokenBy g st f devices broken
+broken_by : (g : Group) (st : Standing) (f : ℕ) (devices : List ℕ) (broken : Broken) → HasLaws g → IsBreak g (sure_in g st) (left_up g st (firmware_rows f devices)) (broken_demand g broken) → IsBrokenBy g st f devices broken
 broken_by g st f devices broken laws is = record {
   among = is.among;
   holds = is.held;
@@ -51,7 +51,7 @@ broken_by g st f devices broken laws is = record {
   refused = λ app none.
       let rows = firmware_rows f devices in
       let first = none_named (first_lack g st.observed (target_with st.target rows) rows) (first_locked st.holder app rows) (first_broken_of g (sure_in g st) (left_up g st rows)) none in
-      true_not_false (is_held_in g (left_up g st rows) broken.promise) (laws.none_breaks (sure_in g st) (left_up g st rows) broken.promise first is.among is.held) is.fails;
+      true_not_false (is_held_in g (left_up g st rows) (broken_demand g broken)) (laws.none_breaks (sure_in g st) (left_up g st rows) (broken_demand g broken) first is.among is.held) is.fails;
 }
 
 first_says : (g : Group) (st : Standing) (f : ℕ) (devices : List ℕ) (o : Option Broken) → HasLaws g → first_broken_of g (sure_in g st) (left_up g st (firmware_rows f devices)) ≡ o → IfSome o (IsBrokenBy g st f devices)
@@ -85,7 +85,7 @@ grows_of g st f laws batch x d (broken_cause broken) is =
     broken_by g st f ((batch ++ x ∷ []) ++ d ∷ []) broken laws (record {
       among = is.among;
       held = is.holds;
-      fails = still_fails g up more broken.promise (is_held_in g up broken.promise) laws (left_within g (sure_in g st) st.target f batch x d) is.among is.fails refl;
+      fails = still_fails g up more (broken_demand g broken) (is_held_in g up (broken_demand g broken)) laws (left_within g (sure_in g st) st.target f batch x d) is.among is.fails refl;
     })
 
 said_of : (g : Group) (st : Standing) (app : AppId) (f : ℕ) → HasLaws g → IsSaid (device_refusal g st app f) (says_of g st f)

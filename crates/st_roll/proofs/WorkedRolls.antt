@@ -8,9 +8,10 @@ use Rattle.st_net.specs.declared.entity.Entity.TheVariants.{Device}
 use Rattle.st_net.specs.declared.entity.Prio.TheVariants.{High}
 use Rattle.st_net.specs.declared.promise.Broken.{Broken}
 use Rattle.st_net.specs.declared.promise.BrokenKind.TheVariants.{CutOff}
+use Rattle.st_net.specs.declared.promise.BrokenOf.TheVariants.{Promise as of_promise}
 use Rattle.st_net.specs.declared.topo.DeviceOpening.{DeviceOpening}
 use Rattle.st_net.specs.declared.topo.LinkOpening.{LinkOpening}
-use Rattle.st_net.specs.Groups.{Group}
+use Rattle.st_net.specs.Groups.{Group, no_group}
 use Rattle.st_event.specs.declared.event.Event.TheVariants.{Submit, Check, Lock}
 use Rattle.st_event.specs.declared.journal.Entry.{Entry}
 use Rattle.st_event.specs.declared.reply.Cause.{Cause}
@@ -35,8 +36,7 @@ abbrev link : ℕ → ℕ → LinkOpening
 link a b = record { a = a; b = b; capacity = 10; vals = record { v0 = 1; v1 = 1; v2 = 0; v3 = 0 }; health = 1 }
 
 abbrev q : Group
-q = record {
-  name = [];
+q = record no_group {
   device_names = [] ∷ [] ∷ [] ∷ [] ∷ [];
   link_names = [] ∷ [] ∷ [] ∷ [] ∷ [];
   devices = device true ∷ device true ∷ device false ∷ device false ∷ [];
@@ -57,7 +57,7 @@ all = 0 ∷ 1 ∷ 2 ∷ 3 ∷ []
 
 -- the ToRs are cut off, with these devices on the first one's side
 abbrev cut_off : List ℕ → Broken
-cut_off side = record { promise = 0; kind = CutOff; need = 10; has = 0; side = side }
+cut_off side = record { of = of_promise 0; kind = CutOff; need = 10; has = 0; side = side }
 
 abbrev is_stuck : ℕ → List ℕ → Stuck
 is_stuck d side = record { device = d; cause = broken_cause (cut_off side) }
@@ -134,7 +134,7 @@ not_of_another : IsStuck q opening te 2 (is_stuck 1 (0 ∷ [])) → ⊥
 not_of_another is = let sides : 3 ≡ 1 = ap side_length is in omega (arith, sides)
 
 -- there is no second promise
-not_among : IsBrokenBy q opening 2 (2 ∷ 3 ∷ []) (record (cut_off (0 ∷ [])) { promise = 1 }) → ⊥
+not_among : IsBrokenBy q opening 2 (2 ∷ 3 ∷ []) (record (cut_off (0 ∷ [])) { of = of_promise 1 }) → ⊥
 not_among is = omega (arith, is.among)
 
 -- while both switches change, the promise fails already, and a device that is not of the group can't be set: all but that it holds is so
@@ -162,7 +162,7 @@ not_empty is = omega (arith, is.some)
 
 -- nobody needs these switches: 17 of them would be accepted, and are too many for a batch
 abbrev lone : Group
-lone = record q { device_names = replicate 17 []; link_names = []; devices = replicate 17 (device false); links = []; promises = [] }
+lone = record no_group { device_names = replicate 17 []; devices = replicate 17 (device false) }
 
 abbrev seventeen : List ℕ
 seventeen = range_with_len 0 17

@@ -6,7 +6,7 @@ use Rattle.st_net.specs.declared.entity.Prio.{Prio}
 use Rattle.st_net.specs.declared.entity.Row.{Row}
 use Rattle.st_net.specs.declared.promise.Broken.{Broken}
 use Rattle.st_net.specs.declared.topo.TheConstants.{MAX_ROWS}
-use Rattle.st_net.specs.Demands.{demand_count, is_held_in}
+use Rattle.st_net.specs.Demands.{demand_count, is_held_in, broken_demand}
 use Rattle.st_net.specs.Groups.{Group, IsSound}
 use Rattle.st_net.specs.Holders.{is_held_by}
 use Rattle.st_event.specs.declared.reply.Cause.{Cause}
@@ -25,9 +25,9 @@ use Rattle.st_roll.specs.Roll.{is_at, roll_of}
 
 -- the demand holds of the sure entities, and fails without these devices; so whoever asks them all is refused
 pub record IsBrokenBy (g : Group) (st : Standing) (firmware : ℕ) (devices : List ℕ) (broken : Broken) : Type 0 where
-  pub among : broken.promise < demand_count g
-  pub holds : is_held_in g (sure_in g st) broken.promise ≡ true
-  pub fails : is_held_in g (left_up g st (firmware_rows firmware devices)) broken.promise ≡ false
+  pub among : broken_demand g broken < demand_count g
+  pub holds : is_held_in g (sure_in g st) (broken_demand g broken) ≡ true
+  pub fails : is_held_in g (left_up g st (firmware_rows firmware devices)) (broken_demand g broken) ≡ false
   pub refused : (app : AppId) → device_refusal g st app firmware devices ≢ None
 
 -- what is said of the demand that a cause names, where it names one

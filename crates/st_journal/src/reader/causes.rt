@@ -8,7 +8,7 @@ ghost use Rattle.st_journal.specs.ReplyReading.{device_in as device_in_lem, brok
 use crate::reader::events::app_in;
 use st_entry::{CauseWord, kind_word};
 use st_event::{Cause, Lack};
-use st_net::{Broken, BrokenKind, Entity, GroupTopo, Name, Row, Side};
+use st_net::{Broken, BrokenKind, BrokenOf, Entity, GroupTopo, Name, Row, Side};
 use st_text::Token;
 use st_token::{
     FaultKind, LineError, NamedEntities, assignment_in, four_of, number_in, one_of, prio_in,
@@ -254,7 +254,7 @@ fn broken_of(
     match promise_place(topo, a, b) {
         None => Err(LineError::Bad(FaultKind::Pair)),
         Some(promise) => Ok(Cause::Broken(Broken {
-            promise,
+            of: BrokenOf::Promise(promise),
             kind,
             need: need as u64,
             has: has as u64,
