@@ -20,9 +20,9 @@ use Rattle.st_net.specs.Names.{is_name, is_among, place_of}
 use Rattle.st_net.specs.Entities.{is_var_of}
 use Rattle.st_net.specs.Groups.{Group, IsEntityOf, name_of, are_new}
 use Rattle.st_net.specs.Ranges.{RowFits, RowsFit, is_health_of, IsVariableOf, IsChangeOf, IsOn, most_health}
-use Rattle.st_net.specs.Faults.{group_of, device_names, link_names, device_opening, link_opening}
+use Rattle.st_net.specs.Faults.{no_parts, group_of, device_names, link_names, device_opening, link_opening}
 use Rattle.st_event.specs.declared.act.Act.{Act}
-use Rattle.st_event.specs.declared.act.Act.TheVariants.{Propose, Await, Settle, Lock, Unlock, Read, ReadAt, Fail, Poll}
+use Rattle.st_event.specs.declared.act.Act.TheVariants.{Propose, Await, Settle, Lock, Unlock, Read, ReadAt, Fail, Poll, Span}
 use Rattle.st_token.specs.ReadingBack.{IsNamed, IsPrintable}
 use Rattle.st_token.proofs.PrintedRows.{IsOwnValue, rows_again, rows_words, values_again, values_words, free_of_none}
 use Rattle.st_token.specs.Spelling.{known_name_in, is_comment}
@@ -42,7 +42,7 @@ use Rattle.st_grammar.specs.Sound.{IsSoundGroup, IsSoundAct, IsGroupWith}
 use Rattle.st_grammar.proofs.SoundGroups.{IsSoundDraftGroup}
 use Rattle.st_grammar.proofs.SoundParts.{drafted, sound_parts}
 use Rattle.st_grammar.proofs.SoundDocs.{names_of}
-use Rattle.st_doc.specs.Printed.{Words, no_parts, group_at, entity_word, assignment_words, value_words, act_words}
+use Rattle.st_doc.specs.Printed.{Words, group_at, entity_word, assignment_words, value_words, act_words}
 use Rattle.st_doc.proofs.PrintSteps.{Prints, prints_line, amid, new_before}
 use Rattle.st_doc.proofs.PrintedParts.{each_spelled, names_amid, device_new, link_new}
 use Rattle.st_doc.proofs.PrintedOpenings.{place_amid, device_found, link_found}
@@ -286,3 +286,4 @@ module _ (groups : List Parts) (sound : AllByRecursion IsSoundGroup groups) (new
       let in_group = group_fact groups n (λ g. IsEntityOf g e) fact in
       let k = known n in_group.0 in
       line_printed (codes "poll") act_words.Poll _ _ refl refl (literal (codes "poll") refl refl) room (poll_asked n e k (entity_at n e k in_group.1))
+  act_printed (Span first first_rows second second_rows) fact room = absurd fact

@@ -11,9 +11,9 @@ use Rattle.st_net.specs.declared.parts.LinkPart.{LinkPart}
 use Rattle.st_net.specs.declared.parts.PromisePart.{PromisePart}
 use Rattle.st_net.specs.Entities.{device_value, link_value}
 use Rattle.st_net.specs.Groups.{name_of}
-use Rattle.st_net.specs.Faults.{group_of}
+use Rattle.st_net.specs.Faults.{no_parts, group_of}
 use Rattle.st_event.specs.declared.act.Act.{Act}
-use Rattle.st_event.specs.declared.act.Act.TheVariants.{Propose, Await, Settle, Lock, Unlock, Read, ReadAt, Fail, Poll}
+use Rattle.st_event.specs.declared.act.Act.TheVariants.{Propose, Await, Settle, Lock, Unlock, Read, ReadAt, Fail, Poll, Span}
 use Rattle.st_wire.specs.declared.line.WireKind.{WireKind}
 use Rattle.st_wire.specs.declared.line.WireKind.TheVariants.{Command, Report}
 use Rattle.st_wire.specs.declared.line.WireLine.{WireLine}
@@ -95,9 +95,6 @@ wires_lines (g ∷ groups) [] = []
 wires_lines (g ∷ groups) (lines ∷ wires) = map (wire_words g.name) lines ++ wires_lines groups wires
 
 -- the group of a number and its name, and the name of one of its entities
-abbrev pub no_parts : Parts
-no_parts = record { name = []; devices = []; links = []; promises = [] }
-
 abbrev pub group_at : List Parts → ℕ → Parts
 group_at groups n = slice_index_or groups n no_parts
 
@@ -111,7 +108,7 @@ assignment_words groups n rows = map (λ row. assignment_word (entity_word group
 abbrev pub value_words : List Row → Words
 value_words rows = map (λ row. value_word row.var row.value) rows
 
--- an act's line
+-- an act's line; no document has a span yet, so that a span has no words
 abbrev pub act_words : List Parts → Act → Words
 act_words groups (Propose n rows) = codes "propose" ∷ (group_at groups n).name ∷ assignment_words groups n rows
 act_words groups (Await n) = codes "await" ∷ (group_at groups n).name ∷ []
@@ -122,6 +119,7 @@ act_words groups (Read n entity var) = codes "read" ∷ (group_at groups n).name
 act_words groups (ReadAt n version entity var) = codes "readat" ∷ (group_at groups n).name ∷ decimal version ∷ variable_word (entity_word groups n entity) var ∷ []
 act_words groups (Fail n entity health rows) = codes "fail" ∷ (group_at groups n).name ∷ entity_word groups n entity ∷ decimal health ∷ value_words rows
 act_words groups (Poll n entity) = codes "poll" ∷ (group_at groups n).name ∷ entity_word groups n entity ∷ []
+act_words groups (Span first first_rows second second_rows) = []
 
 -- an application with its acts
 abbrev pub app_words : List ℕ → Words

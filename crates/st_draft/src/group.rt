@@ -99,12 +99,12 @@ impl Group {
         drop(opens);
         drop(told_devices);
         drop(told_links);
-        let parts = Parts {
+        let parts = Parts::of(
             name,
-            devices: Items::new(devices),
-            links: Items::new(links),
-            promises: Items::new(promises),
-        };
+            Items::new(devices),
+            Items::new(links),
+            Items::new(promises),
+        );
         (parts, wires)
     }
 

@@ -6,6 +6,7 @@ use Rattle.st_net.specs.declared.parts.EndPart.{EndPart}
 use Rattle.st_net.specs.declared.parts.LinkPart.{LinkPart}
 use Rattle.st_net.specs.declared.parts.Parts.{Parts}
 use Rattle.st_net.specs.declared.parts.PromisePart.{PromisePart}
+use Rattle.st_net.specs.Faults.{plain_parts}
 use Rattle.st_grammar.specs.Draft.{device_default, link_default}
 use Rattle.st_gen.specs.TreeNames.{name_at}
 use Rattle.st_gen.specs.declared.step.Step.{Step}
@@ -96,4 +97,4 @@ promises_among [] = []
 promises_among (a ∷ later) = map (promise a) later ++ promises_among later
 
 abbrev pub fat_tree : ℕ → Parts
-fat_tree pods = record { name = codes "dc1"; devices = devices pods; links = links pods; promises = promises_among (tor_names pods) }
+fat_tree pods = plain_parts (codes "dc1") (devices pods) (links pods) (promises_among (tor_names pods))

@@ -21,12 +21,12 @@ fn fat_tree(alloc: Global, pods: u32) -> Result<Parts, AllocError>
     requires { IsPods pods }
     ensures { IfOk result (λ parts. parts ≡ fat_tree_lem pods) }
 {
-    Ok(Parts {
-        name: name_of(alloc, b"dc1")?,
-        devices: devices(alloc, pods)?,
-        links: links(alloc, pods)?,
-        promises: promises(alloc, pods)?,
-    })
+    Ok(Parts::of(
+        name_of(alloc, b"dc1")?,
+        devices(alloc, pods)?,
+        links(alloc, pods)?,
+        promises(alloc, pods)?,
+    ))
 }
 
 /// That group alone.

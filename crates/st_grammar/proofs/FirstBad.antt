@@ -19,8 +19,8 @@ Explains lines at (Ok doc) = IsDeclared lines at doc
 Explains lines at (Err fault) = IsFirstBad line_of nothing 1 lines fault ⊎ LacksHeader lines fault
 
 at_end : (lines : List (List ℕ)) (at : Option JournalAt) (d : Draft) (b : Bool) → has_header d ≡ b → AreGood line_of nothing lines d → Explains lines at (doc_with at (cond b (Ok d) (Err (record { line = length lines + 1; kind = kinds.Header }))))
-at_end lines at d true e good = record { before = good.before; draft = d; lines_are = good.lines_are; declares = good.declares; version = e; doc_is = refl }
-at_end lines at d false e good = inr (record { before = good.before; draft = d; lines_are = good.lines_are; declares = good.declares; version = e; kind = refl; number = refl })
+at_end lines at d true e good = record { before = good.before; draft = d; lines_are = good.lines_are; declares = good.declares; header = e; doc_is = refl }
+at_end lines at d false e good = inr (record { before = good.before; draft = d; lines_are = good.lines_are; declares = good.declares; header = e; kind = refl; number = refl })
 
 explain : (ls : List (List ℕ)) (at : Option JournalAt) (read : Result Draft LineFault) → lines.Explains line_of nothing 1 ls read → Explains ls at (doc_with at (read >>= headed (length ls + 1)))
 explain ls at (Ok d) good = at_end ls at d (has_header d) refl good

@@ -18,7 +18,7 @@ use Rattle.st_net.specs.declared.range.TheConstants.{DEVICE_HEALTH, LINK_HEALTH}
 use Rattle.st_net.specs.Names.{is_among}
 use Rattle.st_net.specs.Groups.{are_device_vals, are_link_vals}
 use Rattle.st_net.specs.Faults.{device_names, link_names, first_link, first_promise, has_unknown_end, is_loop, device_limit, link_limit, promise_limit, tors_with, first_device_limit, first_link_limit, first_promise_limit, is_tor_name, is_bad_pair, was_promised, first_bad_pair, promises_at}
-use Rattle.st_grammar.specs.Draft.{GroupDraft, tors}
+use Rattle.st_grammar.specs.Draft.{GroupDraft, empty_group, tors}
 use Rattle.st_grammar.specs.Sound.{HasOwnEnds, IsSoundGroup}
 use Rattle.st_grammar.proofs.SoundGroups.{IsSoundDevice, IsSoundLink, IsSoundPromise, AreOtherPairs, IsSoundDraftGroup}
 
@@ -33,15 +33,13 @@ nothing_noted = record { opens = []; devices = []; links = [] }
 
 -- a group of parts that is being declared
 abbrev pub group_with : List ℕ → List DevicePart → List LinkPart → List PromisePart → Noted → GroupDraft
-group_with name devices links promises noted = record {
-  name = name;
+group_with name devices links promises noted = record (empty_group name) {
   devices = devices;
   links = links;
   promises = promises;
   opens = noted.opens;
   told_devices = noted.devices;
   told_links = noted.links;
-  wires = [];
 }
 
 abbrev pub drafted : Parts → GroupDraft

@@ -14,7 +14,7 @@ use Rattle.st_net.specs.declared.topo.TheConstants.{MAX_DEVICES, MAX_LINKS, MAX_
 use Rattle.st_net.specs.Names.{is_among}
 use Rattle.st_net.specs.Entities.{device_value_set, link_value_set}
 use Rattle.st_net.specs.Ranges.{is_free_of, is_in_range}
-use Rattle.st_net.specs.Faults.{device_names, link_names, was_promised}
+use Rattle.st_net.specs.Faults.{plain_parts, device_names, link_names, was_promised}
 use Rattle.st_wire.specs.declared.line.WireLine.{WireLine}
 use Rattle.st_grammar.specs.declared.doc.Script.{Script}
 
@@ -153,7 +153,7 @@ wired (g ∷ gs) (suc n) line = g ∷ wired gs n line
 
 -- the group's parts
 abbrev pub parts_of : GroupDraft → Parts
-parts_of g = record { name = g.name; devices = g.devices; links = g.links; promises = g.promises }
+parts_of g = plain_parts g.name g.devices g.links g.promises
 
 -- what holds of a part that is added, and of a row that is set behind others
 pub record MayAddDevice (g : GroupDraft) (d : DevicePart) : Type 0 where

@@ -92,7 +92,7 @@ pub record LacksHeader (lines : List (List ℕ)) (fault : LineFault) : Type 0 wh
   pub draft : Draft
   pub lines_are : lines ≡ reverse before
   pub declares : Declares line_of nothing before draft
-  pub version : has_header draft ≡ false
+  pub header : has_header draft ≡ false
   pub kind : fault.kind ≡ kinds.Header
   pub number : fault.line ≡ length lines + 1
 
@@ -102,7 +102,7 @@ pub record IsDeclared (lines : List (List ℕ)) (at : Option JournalAt) (doc : D
   pub draft : Draft
   pub lines_are : lines ≡ reverse before
   pub declares : Declares line_of nothing before draft
-  pub version : has_header draft ≡ true
+  pub header : has_header draft ≡ true
   pub doc_is : doc ≡ doc_at at draft
 
 -- what was read is what the lines declare, one after another, or their first bad line

@@ -8,7 +8,7 @@ use Rattle.st_net.specs.Groups.{Group, IsEntityOf, are_new, are_names}
 use Rattle.st_net.specs.Ranges.{RowsFit, IsVariableOf, IsChangeOf}
 use Rattle.st_net.specs.Faults.{fault_of, group_of, device_names, link_names}
 use Rattle.st_event.specs.declared.act.Act.{Act}
-use Rattle.st_event.specs.declared.act.Act.TheVariants.{Propose, Await, Settle, Lock, Unlock, Read, ReadAt, Fail, Poll}
+use Rattle.st_event.specs.declared.act.Act.TheVariants.{Propose, Await, Settle, Lock, Unlock, Read, ReadAt, Fail, Poll, Span}
 use Rattle.st_wire.specs.declared.line.WireLine.{WireLine}
 use Rattle.st_wire.specs.declared.line.WireLine.TheVariants.{Drop, Repeat, Hold}
 use Rattle.st_grammar.specs.declared.doc.Doc.{Doc}
@@ -34,7 +34,7 @@ pub record IsSoundGroup (parts : Parts) : Type 0 where
 abbrev pub IsGroupWith : List Parts → ℕ → (Group → Type 0) → Type 0
 IsGroupWith groups n P = IsSomeAnd (slice_get groups n) (λ parts. P (group_of parts))
 
--- an act names a group, entities and variables of it, and numbers within their ranges
+-- an act names a group, entities and variables of the group, and numbers within their ranges; no document has a span yet
 abbrev pub IsSoundAct : List Parts → Act → Type 0
 IsSoundAct groups (Propose n rows) = IsGroupWith groups n (λ g. RowsFit g rows)
 IsSoundAct groups (Await n) = n < length groups
@@ -45,6 +45,7 @@ IsSoundAct groups (Read n entity var) = IsGroupWith groups n (IsVariableOf entit
 IsSoundAct groups (ReadAt n version entity var) = (version < 2 ^ 32) × IsGroupWith groups n (IsVariableOf entity var)
 IsSoundAct groups (Fail n entity health rows) = IsGroupWith groups n (IsChangeOf entity health rows)
 IsSoundAct groups (Poll n entity) = IsGroupWith groups n (λ g. IsEntityOf g entity)
+IsSoundAct groups (Span first first_rows second second_rows) = ⊥
 
 -- a message has a number from 1, and comes again at no earlier turn, and late at a later one
 abbrev pub IsSoundWire : WireLine → Type 0

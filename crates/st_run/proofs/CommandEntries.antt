@@ -9,7 +9,7 @@ use Rattle.st_net.specs.declared.entity.Entity.{Entity}
 use Rattle.st_net.specs.declared.entity.Row.{Row}
 use Rattle.st_net.specs.Groups.{Group}
 use Rattle.st_event.specs.declared.act.Act.{Act}
-use Rattle.st_event.specs.declared.act.Act.TheVariants.{Propose, Await, Settle, Lock, Unlock, Read, ReadAt, Fail, Poll}
+use Rattle.st_event.specs.declared.act.Act.TheVariants.{Propose, Await, Settle, Lock, Unlock, Read, ReadAt, Fail, Poll, Span}
 use Rattle.st_event.specs.declared.event.Event.{Event}
 use Rattle.st_event.specs.declared.event.Event.TheVariants.{Submit, Check, Lock as lock_event, Unlock as unlock_event}
 use Rattle.st_event.specs.declared.journal.Entry.{Entry}
@@ -225,3 +225,4 @@ command_adds (Fail n entity health rows) g lines number before was after now leg
     (enters_only NoRequest _ On number e.0 before was after now (only_enter NoRequest g (past_in e.0) (course_from (past_in e.0)) _ (refl, refl) (only_none NoRequest (past_in e.0))) e.1)
 command_adds (Poll n entity) g lines number before was after now legal e = none_added number (Poll n entity) before was after now refl
     (enters_only NoRequest _ On number e.0 before was after now (only_poll NoRequest g lines (past_in e.0) (course_from (past_in e.0)) entity no_turns (only_none NoRequest (past_in e.0))) e.1)
+command_adds (Span first first_rows second second_rows) g lines number before was after now legal e = absurd e

@@ -11,7 +11,7 @@ use Rattle.st_net.specs.declared.entity.Entity.{Entity}
 use Rattle.st_net.specs.declared.entity.Row.{Row}
 use Rattle.st_net.specs.Groups.{Group}
 use Rattle.st_event.specs.declared.act.Act.{Act}
-use Rattle.st_event.specs.declared.act.Act.TheVariants.{Propose, Await, Settle, Lock, Unlock, Read, ReadAt, Fail, Poll}
+use Rattle.st_event.specs.declared.act.Act.TheVariants.{Propose, Await, Settle, Lock, Unlock, Read, ReadAt, Fail, Poll, Span}
 use Rattle.st_event.specs.declared.event.Event.{Event}
 use Rattle.st_event.specs.declared.event.Event.TheVariants.{Submit, Check, Lock as lock_event, Unlock as unlock_event, Fail as fail_event}
 use Rattle.st_event.specs.declared.journal.Entry.{Entry}
@@ -243,6 +243,7 @@ command_fails (Fail n entity health rows) g lines number before was after now w 
 command_fails (Poll n entity) g lines number before was after now w grows e = calm_command g (Poll n entity) _ before was after now refl w grows
     (enters_only (NeverFails g) _ On number e.0 before was after now (only_poll (NeverFails g) g lines (past_in e.0) (course_from (past_in e.0)) entity
     (calm_turns g) (only_none (NeverFails g) (past_in e.0))) e.1)
+command_fails (Span first first_rows second second_rows) g lines number before was after now w grows e = absurd e
 
 -- a chain of commands
 pub script_fails : (g : Group) (lines : List WireLine) (number : ℕ) (acts : List Act) (before : List Made) (was : List ℕ) (after : List Made) (now : List ℕ)

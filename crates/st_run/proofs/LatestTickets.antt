@@ -8,7 +8,7 @@ use mathlib.Core.List.{IsPrefix}
 use Rattle.st_net.specs.declared.entity.AppId.{AppId}
 use Rattle.st_net.specs.Numbered.{nth}
 use Rattle.st_event.specs.declared.act.Act.{Act}
-use Rattle.st_event.specs.declared.act.Act.TheVariants.{Propose, Await, Settle, Lock, Unlock, Read, ReadAt, Fail, Poll}
+use Rattle.st_event.specs.declared.act.Act.TheVariants.{Propose, Await, Settle, Lock, Unlock, Read, ReadAt, Fail, Poll, Span}
 use Rattle.st_event.specs.declared.event.Event.{Event}
 use Rattle.st_event.specs.declared.event.Event.TheVariants.{Check}
 use Rattle.st_event.specs.declared.journal.Entry.{Entry}
@@ -91,6 +91,7 @@ proposals_count app (Read n entity var ∷ acts) = proposals_count app acts
 proposals_count app (ReadAt n version entity var ∷ acts) = proposals_count app acts
 proposals_count app (Fail n entity health rows ∷ acts) = proposals_count app acts
 proposals_count app (Poll n entity ∷ acts) = proposals_count app acts
+proposals_count app (Span first first_rows second second_rows ∷ acts) = proposals_count app acts
 
 -- what the journal of a group has of a pass that did these commands: their requests, and that the last answer to a proposal gives its latest ticket
 pub record HasAsked (app : AppId) (n : ℕ) (before : List Act) (front : List Made) (mine : List ℕ) : Type 0 where

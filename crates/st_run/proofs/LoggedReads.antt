@@ -7,7 +7,7 @@ use Rattle.st_net.specs.declared.entity.Var.{Var}
 use Rattle.st_net.specs.Groups.{Group}
 use Rattle.st_net.specs.Merge.{merge_of}
 use Rattle.st_event.specs.declared.act.Act.{Act}
-use Rattle.st_event.specs.declared.act.Act.TheVariants.{Propose, Await, Settle, Lock, Unlock, Read, ReadAt, Fail, Poll}
+use Rattle.st_event.specs.declared.act.Act.TheVariants.{Propose, Await, Settle, Lock, Unlock, Read, ReadAt, Fail, Poll, Span}
 use Rattle.st_event.specs.declared.act.LogEntry.{LogEntry}
 use Rattle.st_event.specs.declared.act.LogSaw.{LogSaw}
 use Rattle.st_event.specs.declared.act.LogSaw.TheVariants.{Seen, At, NoVersion}
@@ -54,6 +54,7 @@ IsLineBy (Lock n entity prio) g new line = ⊥
 IsLineBy (Unlock n entity prio) g new line = ⊥
 IsLineBy (Fail n entity health rows) g new line = ⊥
 IsLineBy (Poll n entity) g new line = ⊥
+IsLineBy (Span first first_rows second second_rows) g new line = ⊥
 
 last_line : (log now : List LogEntry) (line : LogEntry) → now ≡ log ++ line ∷ [] → reverse now ≡ line ∷ reverse log
 last_line log now line is = ap reverse is ∙ reverse-append log (line ∷ [])
@@ -82,6 +83,7 @@ log_either (Lock n entity prio) g old new logs = inl logs
 log_either (Unlock n entity prio) g old new logs = inl logs
 log_either (Fail n entity health rows) g old new logs = inl logs
 log_either (Poll n entity) g old new logs = inl logs
+log_either (Span first first_rows second second_rows) g old new logs = inl logs
 
 -- each line so far, and that of one command more
 read_more : (P : List Act → Act → LogEntry → Type 0) (before : List Act) (act : Act) (g : Group) (old new : Holder) → ActLogs act g old new → ((line : LogEntry) → IsLineBy act g new line → P before act line)
@@ -99,6 +101,7 @@ read_more P before (Lock n entity prio) g old new logs one all = subst (λ (log 
 read_more P before (Unlock n entity prio) g old new logs one all = subst (λ (log : List LogEntry). EachRead P before (reverse log)) (sym logs) all
 read_more P before (Fail n entity health rows) g old new logs one all = subst (λ (log : List LogEntry). EachRead P before (reverse log)) (sym logs) all
 read_more P before (Poll n entity) g old new logs one all = subst (λ (log : List LogEntry). EachRead P before (reverse log)) (sym logs) all
+read_more P before (Span first first_rows second second_rows) g old new logs one all = subst (λ (log : List LogEntry). EachRead P before (reverse log)) (sym logs) all
 
 -- it has what was asked for
 
@@ -122,6 +125,7 @@ is_line_of (Lock n entity prio) g new line is = absurd is
 is_line_of (Unlock n entity prio) g new line is = absurd is
 is_line_of (Fail n entity health rows) g new line is = absurd is
 is_line_of (Poll n entity) g new line is = absurd is
+is_line_of (Span first first_rows second second_rows) g new line is = absurd is
 
 -- the awaits at the end log nothing
 
@@ -135,6 +139,7 @@ await_logs (Read n entity var) g old new is logs = absurd cc
 await_logs (ReadAt n asked entity var) g old new is logs = absurd cc
 await_logs (Fail n entity health rows) g old new is logs = absurd cc
 await_logs (Poll n entity) g old new is logs = absurd cc
+await_logs (Span first first_rows second second_rows) g old new is logs = absurd cc
 
 all_await : (k : ℕ) → Each (λ act. is_await act ≡ true) (awaits_on k)
 all_await zero = tt
@@ -222,6 +227,7 @@ knows_line (Lock n entity prio) g new line taught is = absurd is
 knows_line (Unlock n entity prio) g new line taught is = absurd is
 knows_line (Fail n entity health rows) g new line taught is = absurd is
 knows_line (Poll n entity) g new line taught is = absurd is
+knows_line (Span first first_rows second second_rows) g new line taught is = absurd is
 
 -- and no less than an earlier one
 
@@ -258,6 +264,7 @@ line_goes_on (Lock n entity prio) g new line earlier is k = absurd is
 line_goes_on (Unlock n entity prio) g new line earlier is k = absurd is
 line_goes_on (Fail n entity health rows) g new line earlier is k = absurd is
 line_goes_on (Poll n entity) g new line earlier is k = absurd is
+line_goes_on (Span first first_rows second second_rows) g new line earlier is k = absurd is
 
 each_goes_on : (act : Act) (g : Group) (new : Holder) (line : LogEntry) (log : List LogEntry) → IsLineBy act g new line → Each (KnowsIn new) log → Each (goes_on line) log
 each_goes_on act g new line [] is e = tt

@@ -9,7 +9,7 @@ use Rattle.st_net.specs.Groups.{Group}
 use Rattle.st_net.specs.InOrder.{entities_of, entity_count}
 use Rattle.st_net.proofs.EntityOrder.{entities_count}
 use Rattle.st_event.specs.declared.act.Act.{Act}
-use Rattle.st_event.specs.declared.act.Act.TheVariants.{Propose, Await, Settle, Lock, Unlock, Read, ReadAt, Fail, Poll}
+use Rattle.st_event.specs.declared.act.Act.TheVariants.{Propose, Await, Settle, Lock, Unlock, Read, ReadAt, Fail, Poll, Span}
 use Rattle.st_event.specs.declared.journal.TheConstants.{MAX_PENDING}
 use Rattle.st_wire.specs.declared.line.WireLine.{WireLine}
 use Rattle.st_world.specs.Acts.{group_number}
@@ -48,6 +48,7 @@ share_within (Fail n entity health rows) g lines = omega arith
 share_within (Poll n entity) g lines = omega arith
 share_within (Read n entity var) g lines = omega arith
 share_within (ReadAt n version entity var) g lines = omega arith
+share_within (Span first first_rows second second_rows) g lines = omega arith
 
 -- so are those of a script's commands on a group
 

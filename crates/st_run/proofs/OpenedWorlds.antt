@@ -5,7 +5,7 @@ use Rattle.std.proofs.Math.ListN.{get_or-map}
 use Rattle.std.proofs.lemmas.List.{get_or_default, length-map}
 use Rattle.st_net.specs.declared.parts.Parts.{Parts}
 use Rattle.st_net.specs.Faults.{group_of}
-use Rattle.st_net.specs.Groups.{Group}
+use Rattle.st_net.specs.Groups.{Group, no_group}
 use Rattle.st_event.specs.declared.act.Act.{Act}
 use Rattle.st_event.specs.declared.act.Act.TheVariants.{Settle}
 use Rattle.st_event.specs.declared.act.Log.{Log}
@@ -17,7 +17,6 @@ use Rattle.st_grammar.specs.Sound.{IsSoundAct, IsSoundDoc}
 use Rattle.st_wire.specs.declared.line.WireLine.{WireLine}
 use Rattle.st_world.specs.World.{WorldView}
 use Rattle.st_world.specs.Acts.{group_number}
-use Rattle.st_board.specs.Posts.{no_group}
 use Rattle.st_serial.specs.Serial.{FitsIn, GroupState, all_opened, groups_in, state_of, states_of}
 use Rattle.st_serial.proofs.Runs.{opened_groups, scripts_fit}
 use Rattle.st_serial.proofs.Worlds.{world_fits, world_there}

@@ -9,7 +9,7 @@ use Rattle.st_net.specs.declared.entity.AppId.{AppId}
 use Rattle.st_net.specs.Groups.{Group}
 use Rattle.st_net.proofs.Tests.{equal_numbers}
 use Rattle.st_event.specs.declared.act.Act.{Act}
-use Rattle.st_event.specs.declared.act.Act.TheVariants.{Propose, Await, Settle, Lock, Unlock, Read, ReadAt, Fail, Poll}
+use Rattle.st_event.specs.declared.act.Act.TheVariants.{Propose, Await, Settle, Lock, Unlock, Read, ReadAt, Fail, Poll, Span}
 use Rattle.st_event.specs.declared.journal.Entry.{Entry}
 use Rattle.st_wire.specs.declared.line.WireLine.{WireLine}
 use Rattle.st_event.proofs.Prefixes.{prefix_trans, prefix_length}
@@ -57,6 +57,7 @@ await_decides groups lines n (Read m entity var) old new t is here d latest = ab
 await_decides groups lines n (ReadAt m version entity var) old new t is here d latest = absurd cc
 await_decides groups lines n (Fail m entity health rows) old new t is here d latest = absurd cc
 await_decides groups lines n (Poll m entity) old new t is here d latest = absurd cc
+await_decides groups lines n (Span first first_rows second second_rows) old new t is here d latest = absurd cc
 
 -- what holds of the tickets awaited before, and of the one that is awaited now, if there is one
 pub adds_ticket : (P : ℕ → Type 0) (waits here : Bool) (latest : Option ℕ) (tickets : List ℕ) → All P tickets → (waits ≡ true → here ≡ true → (t : ℕ) → latest ≡ Some t → P t)

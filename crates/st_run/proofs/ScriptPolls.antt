@@ -9,7 +9,7 @@ use Rattle.st_net.specs.declared.entity.Entity.{Entity}
 use Rattle.st_net.specs.Groups.{Group}
 use Rattle.st_net.proofs.Tests.{same_entity}
 use Rattle.st_event.specs.declared.act.Act.{Act}
-use Rattle.st_event.specs.declared.act.Act.TheVariants.{Propose, Await, Settle, Lock, Unlock, Read, ReadAt, Fail, Poll}
+use Rattle.st_event.specs.declared.act.Act.TheVariants.{Propose, Await, Settle, Lock, Unlock, Read, ReadAt, Fail, Poll, Span}
 use Rattle.st_event.specs.declared.event.Event.{Event}
 use Rattle.st_event.specs.declared.event.Event.TheVariants.{Deliver, Hear, Report as make_report}
 use Rattle.st_event.specs.declared.reply.Reply.{Reply}
@@ -168,6 +168,7 @@ poll_one (Unlock n entity prio) g lines e number before was after now is h = abs
 poll_one (Read n entity var) g lines e number before was after now is h = absurd (cc is)
 poll_one (ReadAt n version entity var) g lines e number before was after now is h = absurd (cc is)
 poll_one (Fail n entity health rows) g lines e number before was after now is h = absurd (cc is)
+poll_one (Span first first_rows second second_rows) g lines e number before was after now is h = absurd (cc is)
 
 -- the polls of a chain of commands
 

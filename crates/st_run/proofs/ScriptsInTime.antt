@@ -8,7 +8,7 @@ use Rattle.st_net.specs.declared.entity.AppId.{AppId}
 use Rattle.st_net.specs.Numbered.{nth}
 use Rattle.st_net.specs.Groups.{Group}
 use Rattle.st_event.specs.declared.act.Act.{Act}
-use Rattle.st_event.specs.declared.act.Act.TheVariants.{Propose, Await, Settle, Lock, Unlock, Read, ReadAt, Fail, Poll}
+use Rattle.st_event.specs.declared.act.Act.TheVariants.{Propose, Await, Settle, Lock, Unlock, Read, ReadAt, Fail, Poll, Span}
 use Rattle.st_event.specs.declared.journal.Entry.{Entry}
 use Rattle.st_event.specs.declared.reply.Reply.{Reply}
 use Rattle.st_wire.specs.declared.line.WireLine.{WireLine}
@@ -120,6 +120,7 @@ settles_one app n g entries lines before (Read m entity var) one = tt
 settles_one app n g entries lines before (ReadAt m version entity var) one = tt
 settles_one app n g entries lines before (Fail m entity health rows) one = tt
 settles_one app n g entries lines before (Poll m entity) one = tt
+settles_one app n g entries lines before (Span first first_rows second second_rows) one = tt
 
 pub settles_all : (groups : ℕ → Group) (lines : ℕ → List WireLine) (rooms : ℕ) (scripts : List (List Act)) (passes : List Holder) (n : ℕ) (entries : List Entry) (front : List Made) (a : ℕ) (acts : List Act) (p : Holder)
     → HaveRun groups lines rooms scripts passes → n < rooms → IsWhole (groups n) passes n entries front → slice_get scripts a ≡ Some acts → slice_get passes a ≡ Some p → SettlesAll (record { 0 = a }) n acts (history_of (groups n) entries) (lines n)

@@ -8,7 +8,7 @@ use Rattle.st_net.specs.declared.entity.AppId.{AppId}
 use Rattle.st_net.specs.Groups.{Group}
 use Rattle.st_net.proofs.Tests.{equal_numbers}
 use Rattle.st_event.specs.declared.act.Act.{Act}
-use Rattle.st_event.specs.declared.act.Act.TheVariants.{Propose, Await, Settle, Lock, Unlock, Read, ReadAt, Fail, Poll}
+use Rattle.st_event.specs.declared.act.Act.TheVariants.{Propose, Await, Settle, Lock, Unlock, Read, ReadAt, Fail, Poll, Span}
 use Rattle.st_event.specs.declared.act.LogEntry.{LogEntry}
 use Rattle.st_event.specs.declared.act.LogSaw.TheVariants.{At, NoVersion}
 use Rattle.st_event.specs.declared.journal.Entry.{Entry}
@@ -76,6 +76,7 @@ knows_awaited groups lines n (Read m entity var) old new front t legal p is here
 knows_awaited groups lines n (ReadAt m asked entity var) old new front t legal p is here d latest = absurd cc
 knows_awaited groups lines n (Fail m entity health rows) old new front t legal p is here d latest = absurd cc
 knows_awaited groups lines n (Poll m entity) old new front t legal p is here d latest = absurd cc
+knows_awaited groups lines n (Span first first_rows second second_rows) old new front t legal p is here d latest = absurd cc
 
 -- at each moment of a chain a pass knows of what was accepted up to the tickets that it awaited
 knows_all : (groups : ℕ → Group) (lines : ℕ → List WireLine) (app : AppId) (n : ℕ) (entries : List Entry) (front : List Made) (start last : Holder)
@@ -114,6 +115,7 @@ line_has_seen groups n (Lock m entity prio) new line count is k = absurd is
 line_has_seen groups n (Unlock m entity prio) new line count is k = absurd is
 line_has_seen groups n (Fail m entity health rows) new line count is k = absurd is
 line_has_seen groups n (Poll m entity) new line count is k = absurd is
+line_has_seen groups n (Span first first_rows second second_rows) new line count is k = absurd is
 
 -- of a script's whole log, where the journal tells the latest tickets
 pub sees_awaited_by : (groups : ℕ → Group) (lines : ℕ → List WireLine) (rooms : ℕ) (passes : List Holder) (n : ℕ) (entries : List Entry) (front : List Made) (a : ℕ) (acts : List Act) (p : Holder)

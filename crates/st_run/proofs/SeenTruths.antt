@@ -9,7 +9,7 @@ use Rattle.st_net.specs.declared.entity.Var.{Var}
 use Rattle.st_net.specs.Groups.{Group}
 use Rattle.st_net.specs.Merge.{merge_of}
 use Rattle.st_event.specs.declared.act.Act.{Act}
-use Rattle.st_event.specs.declared.act.Act.TheVariants.{Propose, Await, Settle, Lock, Unlock, Read, ReadAt, Fail, Poll}
+use Rattle.st_event.specs.declared.act.Act.TheVariants.{Propose, Await, Settle, Lock, Unlock, Read, ReadAt, Fail, Poll, Span}
 use Rattle.st_event.specs.declared.act.LogEntry.{LogEntry}
 use Rattle.st_event.specs.declared.act.LogSaw.TheVariants.{Seen, At, NoVersion}
 use Rattle.st_event.specs.declared.journal.Entry.{Entry}
@@ -69,6 +69,7 @@ true_line groups n (Lock m entity prio) new line front p q is = absurd is
 true_line groups n (Unlock m entity prio) new line front p q is = absurd is
 true_line groups n (Fail m entity health rows) new line front p q is = absurd is
 true_line groups n (Poll m entity) new line front p q is = absurd is
+true_line groups n (Span first first_rows second second_rows) new line front p q is = absurd is
 
 -- what each read's line has, each line of the log has
 
@@ -86,6 +87,7 @@ lines_read Q (Lock n entity prio ∷ before) log e = lines_read Q before log e
 lines_read Q (Unlock n entity prio ∷ before) log e = lines_read Q before log e
 lines_read Q (Fail n entity health rows ∷ before) log e = lines_read Q before log e
 lines_read Q (Poll n entity ∷ before) log e = lines_read Q before log e
+lines_read Q (Span first first_rows second second_rows ∷ before) log e = lines_read Q before log e
 
 each_turned : {X : Type 0} (Q : X → Type 0) (xs : List X) → Each Q xs → Each Q (reverse xs)
 each_turned Q [] e = tt

@@ -8,7 +8,7 @@ use Rattle.st_net.specs.declared.entity.Entity.TheVariants.{Device}
 use Rattle.st_net.specs.declared.entity.Row.{Row}
 use Rattle.st_net.specs.declared.entity.Vals.{Vals}
 use Rattle.st_net.specs.declared.entity.Var.TheVariants.{Firmware, Config}
-use Rattle.st_net.specs.Groups.{Group}
+use Rattle.st_net.specs.Groups.{Group, no_group}
 use Rattle.st_event.specs.declared.act.Act.{Act}
 use Rattle.st_event.specs.declared.act.LogEntry.{LogEntry}
 use Rattle.st_event.specs.declared.act.LogSaw.{LogSaw}
@@ -28,13 +28,10 @@ usual = record { v0 = 1; v1 = 1; v2 = 1; v3 = 1 }
 
 -- one switch, whose variables open with 1
 abbrev pub small : Group
-small = record {
+small = record no_group {
   name = codes "dc1";
   device_names = codes "a1" ∷ [];
-  link_names = [];
   devices = record { tor = false; vals = usual; health = 5 } ∷ [];
-  links = [];
-  promises = [];
 }
 
 abbrev pub a1 : Entity

@@ -8,7 +8,7 @@ use Rattle.std.proofs.lemmas.List.Sums.{sum_by-cons, sum_by-append}
 use Rattle.st_net.specs.Groups.{Group}
 use Rattle.st_net.proofs.Tests.{equal_numbers}
 use Rattle.st_event.specs.declared.act.Act.{Act}
-use Rattle.st_event.specs.declared.act.Act.TheVariants.{Propose, Await, Settle, Lock, Unlock, Read, ReadAt, Fail, Poll}
+use Rattle.st_event.specs.declared.act.Act.TheVariants.{Propose, Await, Settle, Lock, Unlock, Read, ReadAt, Fail, Poll, Span}
 use Rattle.st_grammar.specs.declared.doc.Script.{Script}
 use Rattle.st_wire.specs.declared.line.WireLine.{WireLine}
 use Rattle.st_world.specs.Acts.{group_number}
@@ -57,6 +57,7 @@ one_command n g lines (Read m entity var) = omega arith
 one_command n g lines (ReadAt m version entity var) = omega arith
 one_command n g lines (Fail m entity health rows) = omega arith
 one_command n g lines (Poll m entity) = omega arith
+one_command n g lines (Span first first_rows second second_rows) = omega arith
 
 script_works : (n : ℕ) (g : Group) (lines : List WireLine) (acts : List Act) → worked (count_by (is_propose_of n) acts) (count_by (is_settle_of n) acts) g lines ≤ worker_shares_on n g lines acts
 script_works n g lines [] = omega arith

@@ -131,6 +131,11 @@ pub went_more : (groups : ℕ → Group) (lines : ℕ → List WireLine) (acts :
 went_more groups lines acts k act a b c lt is w kept =
     subst (λ (xs : List Act). Went groups lines xs a c) (take_more acts k act lt is) (went_then groups lines (take k acts) (act ∷ []) a b c w (went_one groups lines act b c kept))
 
+-- one command more, of all the commands
+pub went_on : (groups : ℕ → Group) (lines : ℕ → List WireLine) (acts : List Act) (k : ℕ) (act : Act) (a b c : Holder) → k < length acts → act ≡ get_or acts k act → Went groups lines (take k acts) a b
+    → Kept b c (group_number act) (act_share act (groups (group_number act)) (lines (group_number act))) → Went groups lines acts a c
+went_on groups lines acts k act a b c lt is w kept = went_first groups lines acts (k + 1) a c (went_more groups lines acts k act a b c lt is w kept)
+
 pub did_more : (groups : ℕ → Group) (lines : ℕ → List WireLine) (acts : List Act) (k : ℕ) (act : Act) (a b c : Holder) → k < length acts → act ≡ get_or acts k act → Did groups lines (take k acts) a b
     → Does groups lines act b c → Did groups lines (take (k + 1) acts) a c
 did_more groups lines acts k act a b c lt is d does =

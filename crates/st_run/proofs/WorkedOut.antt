@@ -6,7 +6,7 @@ use Rattle.std.proofs.lemmas.List.Elements.{All-cons}
 use Rattle.st_net.specs.declared.entity.Prio.TheVariants.{Low}
 use Rattle.st_net.specs.declared.entity.Var.TheVariants.{Firmware, Config}
 use Rattle.st_net.specs.declared.parts.Parts.{Parts}
-use Rattle.st_net.specs.Faults.{group_of}
+use Rattle.st_net.specs.Faults.{no_parts, group_of}
 use Rattle.st_event.specs.declared.act.Act.{Act}
 use Rattle.st_event.specs.declared.act.Act.TheVariants.{Propose, Await, Lock, Read}
 use Rattle.st_event.specs.declared.act.LogSaw.TheVariants.{Seen}
@@ -25,7 +25,7 @@ use Rattle.st_run.proofs.SmallCases.{usual, a1, app, firmware, after_all, line, 
 
 -- a group of one switch
 abbrev parts : List ℕ → Parts
-parts name = record { name = name; devices = record { name = codes "a1"; tor = false; vals = usual; health = 5 } ∷ []; links = []; promises = [] }
+parts name = record no_parts { name = name; devices = record { name = codes "a1"; tor = false; vals = usual; health = 5 } ∷ [] }
 
 -- it updates the firmware on the first group
 abbrev updates : List Act

@@ -7,7 +7,7 @@ use Rattle.st_net.specs.declared.entity.Entity.{Entity}
 use Rattle.st_net.specs.Entities.{is_same_entity}
 use Rattle.st_net.specs.Groups.{IsEntityOf}
 use Rattle.st_event.specs.declared.act.Act.{Act}
-use Rattle.st_event.specs.declared.act.Act.TheVariants.{Propose, Await, Settle, Lock, Unlock, Read, ReadAt, Fail, Poll}
+use Rattle.st_event.specs.declared.act.Act.TheVariants.{Propose, Await, Settle, Lock, Unlock, Read, ReadAt, Fail, Poll, Span}
 use Rattle.st_event.specs.declared.act.LogEntry.{LogEntry}
 use Rattle.st_event.specs.declared.journal.Entry.{Entry}
 use Rattle.st_event.specs.History.{History}
@@ -68,7 +68,7 @@ pub record WasSettled (h : History) (from : List Entry) (e : Entity) : Type 0 wh
   pub within : IsBeginning moment h.past
   pub settled : is_settled h.group moment e ≡ true
 
--- at least so many turns of the entity stand behind it
+-- at least so many turns of the entity stand behind this beginning
 abbrev pub HasTurns : History → List WireLine → List Entry → Entity → ℕ → Type 0
 HasTurns h lines from e count = Stand (λ past. turn h.group lines (course_from past) e) count from h.past
 
@@ -86,6 +86,7 @@ Settles app n h lines before (Read m entity var) = Unit {0}
 Settles app n h lines before (ReadAt m version entity var) = Unit {0}
 Settles app n h lines before (Fail m entity health rows) = Unit {0}
 Settles app n h lines before (Poll m entity) = Unit {0}
+Settles app n h lines before (Span first first_rows second second_rows) = Unit {0}
 
 abbrev pub SettlesAll : AppId → ℕ → List Act → History → List WireLine → Type 0
 SettlesAll app n acts h lines = EachAct (Settles app n h lines) (reverse acts)

@@ -36,18 +36,18 @@ DoesDuty Check n g lines old new = (off : OffLock) × HadRoom off × ChecksOff o
 DoesDuty Update n g lines old new = RoundOf update_half g lines old.number (front_at old.fronts n) (mine_at old.mines n) (front_at new.fronts n) (mine_at new.mines n)
 DoesDuty Monitor n g lines old new = RoundOf monitor_half g lines old.number (front_at old.fronts n) (mine_at old.mines n) (front_at new.fronts n) (mine_at new.mines n)
 
--- or it met a full journal
+-- a duty of group n met a full journal
 abbrev pub StopsDuty : Duty → ℕ → Group → List WireLine → Holder → Holder → Type 0
 StopsDuty Check n g lines old new = (entries : ℕ) × ChecksOff (met_full entries) g old.number (front_at old.fronts n) (mine_at old.mines n) (front_at new.fronts n) (mine_at new.mines n)
 StopsDuty Update n g lines old new = RoundToFull update_half g lines old.number (front_at old.fronts n) (mine_at old.mines n) (front_at new.fronts n) (mine_at new.mines n)
 StopsDuty Monitor n g lines old new = RoundToFull monitor_half g lines old.number (front_at old.fronts n) (mine_at old.mines n) (front_at new.fronts n) (mine_at new.mines n)
 
--- it was done so many times, one after another
+-- a duty was done so many times, one after another
 abbrev pub DoesTimes : ℕ → Duty → ℕ → Group → List WireLine → Holder → Holder → Type 0
 DoesTimes zero duty n g lines old new = new ≡ old
 DoesTimes (suc k) duty n g lines old new = (mid : Holder) × DoesTimes k duty n g lines old mid × DoesDuty duty n g lines mid new
 
--- of so many times it was done some, and the next met a full journal
+-- of so many times a duty was done some, and the next time met a full journal
 pub record StopsOf (times : ℕ) (duty : Duty) (n : ℕ) (g : Group) (lines : List WireLine) (old new : Holder) : Type 0 where
   pub done : ℕ
   pub few : done < times
@@ -61,7 +61,7 @@ came_by_half group (Ok (Did unsettled)) = Through
 came_by_half group (Ok (JournalFull entries)) = ToFull group
 came_by_half group (Err error) = OutOfMemory
 
--- how far it came with a check
+-- how far a pass came with a check
 abbrev pub came_by_check : {E : Type 0} → ℕ → Result OffLock E → Came
 came_by_check group (Ok (Decided receipt)) = Through
 came_by_check group (Ok (Gone entry)) = Through
@@ -69,13 +69,13 @@ came_by_check group (Ok Idle) = Through
 came_by_check group (Ok (met_full entries)) = ToFull group
 came_by_check group (Err error) = OutOfMemory
 
--- of how far a worker's pass came with a duty: it did it, or met a full journal
+-- of how far a worker's pass came with a duty: the duty was done, or met a full journal
 abbrev pub DidOnce : Came → Duty → ℕ → Group → List WireLine → Holder → Holder → Type 0
 DidOnce Through duty n g lines old new = DoesDuty duty n g lines old new
 DidOnce (ToFull m) duty n g lines old new = (m ≡ n) × HasFull new m × StopsDuty duty n g lines old new
 DidOnce OutOfMemory duty n g lines old new = Unit {0}
 
--- and with a task: it did its duty as often as it was to, or up to a full journal
+-- of how far a worker's pass came with a task: the duty was done as often as the task says, or up to a full journal
 abbrev pub WorkedTo : Came → ℕ → Duty → ℕ → Group → List WireLine → Holder → Holder → Type 0
 WorkedTo Through times duty n g lines old new = DoesTimes times duty n g lines old new
 WorkedTo (ToFull m) times duty n g lines old new = (m ≡ n) × HasFull new m × StopsOf times duty n g lines old new

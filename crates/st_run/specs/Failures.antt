@@ -4,7 +4,7 @@ use Rattle.st_net.specs.declared.entity.Entity.{Entity}
 use Rattle.st_net.specs.declared.entity.Vals.{Vals}
 use Rattle.st_net.specs.Groups.{Group}
 use Rattle.st_event.specs.declared.act.Act.{Act}
-use Rattle.st_event.specs.declared.act.Act.TheVariants.{Propose, Await, Settle, Lock, Unlock, Read, ReadAt, Fail, Poll}
+use Rattle.st_event.specs.declared.act.Act.TheVariants.{Propose, Await, Settle, Lock, Unlock, Read, ReadAt, Fail, Poll, Span}
 use Rattle.st_event.specs.declared.event.Event.{Event}
 use Rattle.st_event.specs.declared.event.Event.TheVariants.{Submit, Check, Lock as lock_event, Unlock as unlock_event, Send, Deliver, Finish, Report, Hear, Fail as fail_event}
 use Rattle.st_event.specs.declared.journal.Entry.{Entry}
@@ -47,3 +47,4 @@ IsFailureBy f (Unlock n entity prio) = ⊥
 IsFailureBy f (Read n entity var) = ⊥
 IsFailureBy f (ReadAt n version entity var) = ⊥
 IsFailureBy f (Poll n entity) = ⊥
+IsFailureBy f (Span first first_rows second second_rows) = ⊥

@@ -1,4 +1,4 @@
--- What is left of a job whose pass has awaited behind it.
+-- What is left of a job whose pass has awaited behind the job.
 use Rattle.std.specs.Prelude.{ℕ, ◌≡◌, ◌⊎◌, ◌≤◌, ◌<◌, List, length, slice_index_or, Option, Some, None, IfSome}
 use Rattle.st_net.specs.Groups.{Group}
 use Rattle.st_event.specs.declared.act.Act.{Act}
@@ -20,7 +20,7 @@ SomePair P xs ys = (n : ℕ) × (n < length xs) × ((x : _) (y : _) → P (slice
 abbrev pub CameThrough : (ℕ → Group) → (ℕ → List WireLine) → List Act → Came → Holder → Holder → Type 0
 CameThrough groups lines awaits came left end = (came ≡ Through) × Did groups lines awaits left end
 
--- a job came to the full journal of group n, or its pass has seen it full behind its awaits
+-- a job came to the full journal of group n, or the job's pass has seen that journal full behind the awaits
 abbrev pub MetFull : ℕ → Came → Holder → Type 0
 MetFull n came end = (came ≡ ToFull n) ⊎ HasFull end n
 
@@ -30,7 +30,7 @@ met_full Through = None
 met_full (ToFull n) = Some n
 met_full OutOfMemory = None
 
--- there is a group, and it is n or a lower one
+-- a group is named, n or a lower one
 abbrev pub IsNoHigher : Option ℕ → ℕ → Type 0
 IsNoHigher full n = (m : ℕ) × (full ≡ Some m) × (m ≤ n)
 

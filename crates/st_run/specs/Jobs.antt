@@ -12,7 +12,7 @@ use Rattle.st_service.specs.Passes.{Holder}
 use Rattle.st_service.specs.Shares.{act_share}
 use Rattle.st_run.specs.Workers.{MadeByWorker}
 
--- a command was done: it kept what every call keeps, and left what such an act leaves
+-- a command was done: what every call keeps was kept, and what is left is what such an act leaves
 pub record Does (groups : ℕ → Group) (lines : ℕ → List WireLine) (act : Act) (old new : Holder) : Type 0 where
   pub kept : Kept old new (group_number act) (act_share act (groups (group_number act)) (lines (group_number act)))
   pub done : ActDone act (groups (group_number act)) (lines (group_number act)) old new

@@ -4,7 +4,7 @@ use Rattle.std.specs.Prelude.{ℕ, ◌≡◌, ◌<◌, ◌≤◌, List, [], ◌�
 use Rattle.st_net.specs.declared.entity.Entity.{Entity}
 use Rattle.st_net.specs.declared.entity.Var.{Var}
 use Rattle.st_event.specs.declared.act.Act.{Act}
-use Rattle.st_event.specs.declared.act.Act.TheVariants.{Propose, Await, Settle, Lock, Unlock, Read, ReadAt, Fail, Poll}
+use Rattle.st_event.specs.declared.act.Act.TheVariants.{Propose, Await, Settle, Lock, Unlock, Read, ReadAt, Fail, Poll, Span}
 use Rattle.st_event.specs.declared.act.LogEntry.{LogEntry}
 use Rattle.st_event.specs.declared.act.LogSaw.{LogSaw}
 use Rattle.st_event.specs.declared.act.LogSaw.TheVariants.{Seen, At, NoVersion}
@@ -28,6 +28,7 @@ EachRead P (Lock n entity prio ∷ before) lines = EachRead P before lines
 EachRead P (Unlock n entity prio ∷ before) lines = EachRead P before lines
 EachRead P (Fail n entity health rows ∷ before) lines = EachRead P before lines
 EachRead P (Poll n entity ∷ before) lines = EachRead P before lines
+EachRead P (Span first first_rows second second_rows ∷ before) lines = EachRead P before lines
 
 -- a line has what was asked for
 pub record IsOf (n : ℕ) (e : Entity) (v : Var) (line : LogEntry) : Type 0 where
@@ -56,6 +57,7 @@ IsLineOf (Lock n entity prio) line = ⊥
 IsLineOf (Unlock n entity prio) line = ⊥
 IsLineOf (Fail n entity health rows) line = ⊥
 IsLineOf (Poll n entity) line = ⊥
+IsLineOf (Span first first_rows second second_rows) line = ⊥
 
 -- a variable had this value at a version that a journal has; or there was no such version yet at one that it has
 abbrev pub IsTrueOf : History → Entity → Var → LogSaw → Type 0

@@ -5,7 +5,7 @@ use Rattle.std.specs.List.{filter, filter_map}
 use Rattle.st_net.specs.declared.entity.AppId.{AppId}
 use Rattle.st_net.specs.Numbered.{nth}
 use Rattle.st_event.specs.declared.act.Act.{Act}
-use Rattle.st_event.specs.declared.act.Act.TheVariants.{Propose, Await, Settle, Lock, Unlock, Read, ReadAt, Fail, Poll}
+use Rattle.st_event.specs.declared.act.Act.TheVariants.{Propose, Await, Settle, Lock, Unlock, Read, ReadAt, Fail, Poll, Span}
 use Rattle.st_event.specs.declared.event.Event.{Event}
 use Rattle.st_event.specs.declared.event.Event.TheVariants.{Submit, Lock as lock_event, Unlock as unlock_event}
 use Rattle.st_event.specs.declared.journal.Entry.{Entry}
@@ -25,6 +25,7 @@ request_by app (Read n entity var) = None
 request_by app (ReadAt n version entity var) = None
 request_by app (Fail n entity health rows) = None
 request_by app (Poll n entity) = None
+request_by app (Span first first_rows second second_rows) = None
 
 -- the commands on group n
 abbrev pub acts_on : ℕ → List Act → List Act

@@ -25,16 +25,16 @@ pub record Went (groups : ℕ → Group) (lines : ℕ → List WireLine) (acts :
   pub fronts : (n : ℕ) → IsPrefix (front_at old.fronts n) (front_at new.fronts n)
   pub few : (n : ℕ) → length (mine_at new.mines n) ≤ length (mine_at old.mines n) + shares_on n (groups n) (lines n) acts
 
--- what the pass has seen of group n fills its journal
+-- what the pass has seen of group n fills the group's journal
 abbrev pub HasFull : Holder → ℕ → Type 0
 HasFull p n = (n < length p.fronts) × (MAX_ENTRIES ≤ length (front_at p.fronts n))
 
--- a command met a full journal: it kept what every call keeps, and left what such an act leaves
+-- a command met a full journal: what every call keeps was kept, and what is left is what such an act leaves
 pub record MeetsFull (groups : ℕ → Group) (lines : ℕ → List WireLine) (act : Act) (old new : Holder) : Type 0 where
   pub kept : Kept old new (group_number act) (act_share act (groups (group_number act)) (lines (group_number act)))
   pub full : ActFull act old new
 
--- of these commands some were done, one after another, and the next met the journal of group n full. Behind it the pass made no call
+-- of these commands some were done, one after another, and the next met the journal of group n full. Behind that one the pass made no call
 pub record StopsAt (groups : ℕ → Group) (lines : ℕ → List WireLine) (n : ℕ) (acts : List Act) (old new : Holder) : Type 0 where
   pub done : List Act
   pub last : Act
@@ -50,7 +50,7 @@ HadMemory Through = Unit {0}
 HadMemory (ToFull n) = Unit {0}
 HadMemory OutOfMemory = ⊥
 
--- of how far the pass came: through all of the commands, or to a full journal, behind which it did nothing
+-- of how far the pass came: through all of the commands, or to a full journal, behind which the pass did nothing
 abbrev pub CameTo : Came → (ℕ → Group) → (ℕ → List WireLine) → List Act → Holder → Holder → Type 0
 CameTo Through groups lines acts old new = Did groups lines acts old new
 CameTo (ToFull n) groups lines acts old new = HasFull new n × StopsAt groups lines n acts old new

@@ -2,7 +2,7 @@
 use Rattle.std.specs.Prelude.{ℕ, ◌≡◌, ◌+◌, ◌==◌, Bool, true, false, Option, Some, None, List, All, slice_get, sum_by, if◌then◌else◌}
 use Rattle.st_net.specs.Groups.{Group}
 use Rattle.st_event.specs.declared.act.Act.{Act}
-use Rattle.st_event.specs.declared.act.Act.TheVariants.{Propose, Await, Settle, Lock, Unlock, Read, ReadAt, Fail, Poll}
+use Rattle.st_event.specs.declared.act.Act.TheVariants.{Propose, Await, Settle, Lock, Unlock, Read, ReadAt, Fail, Poll, Span}
 use Rattle.st_event.specs.declared.event.Event.{Event}
 use Rattle.st_event.specs.declared.event.Event.TheVariants.{Submit, Check, Lock as lock_event, Unlock as unlock_event, Send, Deliver, Finish, Report, Hear, Fail as fail_event}
 use Rattle.st_wire.specs.declared.line.WireLine.{WireLine}
@@ -45,6 +45,7 @@ worker_share (Read n entity var) g lines = 0
 worker_share (ReadAt n version entity var) g lines = 0
 worker_share (Fail n entity health rows) g lines = 0
 worker_share (Poll n entity) g lines = 0
+worker_share (Span first first_rows second second_rows) g lines = 0
 
 -- and for the commands of a script on group n
 abbrev pub worker_shares_on : ℕ → Group → List WireLine → List Act → ℕ

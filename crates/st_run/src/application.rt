@@ -1,4 +1,4 @@
-//! An application of a document: its pass goes through its script on a service that all jobs of a run share.
+//! An application of a document: the application's pass goes through its script on a service that all jobs of a run share.
 
 ghost use Rattle.std.specs.Prelude.{◌≡◌, ◌<◌, All, length};
 ghost use Rattle.st_service.specs.Acts.{CanDo};

@@ -1,5 +1,5 @@
-//! Laws of scripts that threads have done on a service, and of the journals that it keeps. A function here does nothing: its contract is
-//! the law.
+//! Laws of scripts that threads have done on a service, and of the journals that the service keeps. A function here does nothing: its
+//! contract is the law.
 
 ghost use Rattle.st_run.specs.CarriedLaws.{AllAreCarriedOut, EachIsCarriedOut, ScriptsAreLogged};
 ghost use Rattle.st_run.specs.Isolation.{EventsTellJournals};

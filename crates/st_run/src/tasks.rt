@@ -14,14 +14,7 @@ fn is_settle_of(group: u32, act: &Act) -> bool
 {
     match act {
         Act::Settle { group: settled, .. } => *settled == group,
-        Act::Propose { .. }
-        | Act::Await { .. }
-        | Act::Lock { .. }
-        | Act::Unlock { .. }
-        | Act::Read { .. }
-        | Act::ReadAt { .. }
-        | Act::Fail { .. }
-        | Act::Poll { .. } => false,
+        _ => false,
     }
 }
 
@@ -50,14 +43,7 @@ fn is_propose_of(group: u32, act: &Act) -> bool
 {
     match act {
         Act::Propose { group: asked, .. } => *asked == group,
-        Act::Settle { .. }
-        | Act::Await { .. }
-        | Act::Lock { .. }
-        | Act::Unlock { .. }
-        | Act::Read { .. }
-        | Act::ReadAt { .. }
-        | Act::Fail { .. }
-        | Act::Poll { .. } => false,
+        _ => false,
     }
 }
 

@@ -54,7 +54,7 @@ fn came_by_check(group: u32, checked: Result<OffLock, AllocError>) -> Came
     }
 }
 
-/// Does a duty once. The gate is called before a half of a round, while no lock is held, and by a check before its judgement, likewise.
+/// Does a duty once. The gate is called before a half of a round, and by a check before it judges; no lock is held then.
 fn do_once<J: Naming, L: Ledger, H: Wait + Drop, R: Threads + Wait + Sync, G: Gate>(
     rt: &R,
     alloc: Global,

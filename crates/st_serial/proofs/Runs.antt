@@ -10,7 +10,7 @@ use Rattle.st_net.specs.declared.parts.Parts.{Parts}
 use Rattle.st_net.specs.Groups.{Group, IsEntityOf}
 use Rattle.st_net.specs.Faults.{group_of}
 use Rattle.st_event.specs.declared.act.Act.{Act}
-use Rattle.st_event.specs.declared.act.Act.TheVariants.{Propose, Await, Settle, Lock, Unlock, Read, ReadAt, Fail, Poll}
+use Rattle.st_event.specs.declared.act.Act.TheVariants.{Propose, Await, Settle, Lock, Unlock, Read, ReadAt, Fail, Poll, Span}
 use Rattle.st_event.specs.declared.act.LogEntry.{LogEntry}
 use Rattle.st_grammar.specs.declared.doc.Doc.{Doc}
 use Rattle.st_grammar.specs.declared.doc.Script.{Script}
@@ -65,6 +65,7 @@ act_fits groups (Read n entity var) fits = with_one groups n (IsVariableOf entit
 act_fits groups (ReadAt n version entity var) fits = with_one groups n (IsVariableOf entity var) fits.1
 act_fits groups (Fail n entity health rows) fits = with_one groups n (IsChangeOf entity health rows) fits
 act_fits groups (Poll n entity) fits = with_one groups n (λ g. IsEntityOf g entity) fits
+act_fits groups (Span first first_rows second second_rows) fits = absurd fits
 
 -- the scripts of a document fit its groups
 pub scripts_fit : (doc : Doc) → IsSoundDoc doc → AllFitIn doc.apps (map group_of doc.groups)

@@ -10,7 +10,7 @@ use Rattle.st_net.specs.Groups.{Group}
 use Rattle.st_net.specs.InOrder.{entities_of, entity_count}
 use Rattle.st_net.proofs.EntityOrder.{entities_count}
 use Rattle.st_event.specs.declared.act.Act.{Act}
-use Rattle.st_event.specs.declared.act.Act.TheVariants.{Propose, Await, Settle, Lock, Unlock, Read, ReadAt, Fail, Poll}
+use Rattle.st_event.specs.declared.act.Act.TheVariants.{Propose, Await, Settle, Lock, Unlock, Read, ReadAt, Fail, Poll, Span}
 use Rattle.st_event.specs.declared.event.Event.{Event}
 use Rattle.st_event.specs.declared.event.Event.TheVariants.{Submit, Check, Lock as lock_event, Unlock as unlock_event, Fail as fail_event, Send, Finish, Report as make_report}
 use Rattle.st_event.specs.declared.event.Proposal.{Proposal}
@@ -89,6 +89,7 @@ course-within app (Fail n entity health rows) g lines course = enter-length g co
 course-within app (Poll n entity) g lines course = poll-length g lines course entity
 course-within app (Read n entity var) g lines course = omega arith
 course-within app (ReadAt n version entity var) g lines course = omega arith
+course-within app (Span first first_rows second second_rows) g lines course = omega arith
 
 pub act-within : (app : AppId) (act : Act) (h : History) (lines : List WireLine) → length (act_course app act h lines).past ≤ length h.past + share act h.group lines
 act-within app act h lines = course-within app act h.group lines (course_from h.past)
@@ -135,6 +136,7 @@ module _ (g : Group) (P : Course → Type 0) (keeps : (course : Course) (event :
   course-keeps app (Poll n entity) lines course is = told-keeps lines course (make_report entity) is
   course-keeps app (Read n entity var) lines course is = is
   course-keeps app (ReadAt n version entity var) lines course is = is
+  course-keeps app (Span first first_rows second second_rows) lines course is = is
 
 -- a course that has stopped has a full journal
 abbrev pub IsFullAtStop : Course → Type 0

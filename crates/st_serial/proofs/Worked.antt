@@ -8,6 +8,7 @@ use Rattle.st_net.specs.declared.entity.Var.TheVariants.{Firmware}
 use Rattle.st_net.specs.declared.parts.DevicePart.{DevicePart}
 use Rattle.st_net.specs.declared.parts.LinkPart.{LinkPart}
 use Rattle.st_net.specs.declared.parts.Parts.{Parts}
+use Rattle.st_net.specs.Faults.{no_parts}
 use Rattle.st_event.specs.declared.act.Act.{Act}
 use Rattle.st_event.specs.declared.act.Act.TheVariants.{Propose, Await, Settle, Lock, Unlock, Read, ReadAt, Fail, Poll}
 use Rattle.st_grammar.specs.declared.doc.Doc.{Doc}
@@ -26,7 +27,7 @@ link name a b = record { name = name; a = record { group = None; name = a }; b =
 
 -- two ToRs, each linked to two switches: 8 entities
 abbrev two_paths : Parts
-two_paths = record {
+two_paths = record no_parts {
   name = codes "dc1";
   devices = device (codes "t1") true ∷ device (codes "t2") true ∷ device (codes "a1") false ∷ device (codes "a2") false ∷ [];
   links = link (codes "l1") (codes "t1") (codes "a1") ∷ link (codes "l2") (codes "t1") (codes "a2") ∷ link (codes "l3") (codes "t2") (codes "a1") ∷ link (codes "l4") (codes "t2") (codes "a2") ∷ [];

@@ -7,7 +7,7 @@ use Rattle.st_net.specs.declared.entity.Row.{Row}
 use Rattle.st_net.specs.Groups.{Group}
 use Rattle.st_net.proofs.Tests.{both, turned, less, equal_self}
 use Rattle.st_event.specs.declared.act.Act.{Act}
-use Rattle.st_event.specs.declared.act.Act.TheVariants.{Propose, Await, Settle, Lock, Unlock, Read, ReadAt, Fail, Poll}
+use Rattle.st_event.specs.declared.act.Act.TheVariants.{Propose, Await, Settle, Lock, Unlock, Read, ReadAt, Fail, Poll, Span}
 use Rattle.st_event.specs.declared.event.Event.{Event}
 use Rattle.st_event.specs.declared.event.Event.TheVariants.{Submit, Check, Lock as lock_event, Unlock as unlock_event, Send, Deliver, Finish, Report as make_report, Hear, Fail as fail_event}
 use Rattle.st_event.specs.declared.reply.Reply.{Reply}
@@ -216,6 +216,7 @@ act-ran (Read n entity var) number g lines past one = absurd cc
 act-ran (ReadAt n version entity var) number g lines past one = absurd cc
 act-ran (Fail n entity health rows) number g lines past one = one-ran g number past _ (record { check = refl; own = refl })
 act-ran (Poll n entity) number g lines past one = part-ran Monitor g lines number past entity
+act-ran (Span first first_rows second second_rows) number g lines past one = absurd cc
 
 -- each work
 pub work-ran : (work : Work) (number : ℕ) (g : Group) (lines : List WireLine) (past : List Entry) → WorkFits work g → Ran (may_overlay work) number (work_share work g lines) past (course_at number work g lines past)

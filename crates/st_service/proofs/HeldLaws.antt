@@ -1,4 +1,4 @@
--- What a pass can rely on after a hold of a room's lock: a legal journal, a reader that has all that it accepts, and units for what it made.
+-- What a pass can rely on after a hold of a room's lock: a legal journal, a reader that has all overlays of the journal, and units for what the pass made.
 use Rattle.std.proofs.Common.{◌≡◌, ℕ, ◌+◌, List, length, ap, sym, subst, arith, length-append}
 use Rattle.std.specs.Prelude.{Result, Ok, Err, IfOk, OnOk, OnErr}
 use mathlib.Core.List.{IsPrefix}
@@ -16,7 +16,7 @@ use Rattle.st_service.proofs.Lines.{length_numbers}
 pub legal_taught : (g h : Group) (front : List Made) (past : List Entry) → past_in front ≡ past → h ≡ g → IsLegal h past → IsLegal g (past_in front)
 legal_taught g h front past is same legal = subst (λ (xs : List Entry). IsLegal g xs) (sym is) (subst (λ (k : Group). IsLegal k past) same legal)
 
--- a reader that has what a journal accepts has all that its front accepts
+-- a reader that has the overlays of a journal has those of the front that is taught
 pub reads_taught : {T E : Type 0} (r : Result T E) (front : List Made) (past : List Entry) (reader : List (List Row)) → past_in front ≡ past → OnOk r (IsPrefix (overlays past) reader) → IfOk r (λ _. IsPrefix (overlays (past_in front)) reader)
 reads_taught (Ok x) front past reader is begins = subst (λ (xs : List Entry). IsPrefix (overlays xs) reader) (sym is) begins
 reads_taught (Err error) front past reader is begins = tt

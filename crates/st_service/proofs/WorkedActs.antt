@@ -8,7 +8,7 @@ use Rattle.st_net.specs.declared.entity.Row.{Row}
 use Rattle.st_net.specs.declared.entity.Var.TheVariants.{Firmware}
 use Rattle.st_net.specs.Groups.{Group}
 use Rattle.st_event.specs.declared.act.Act.{Act}
-use Rattle.st_event.specs.declared.act.Act.TheVariants.{Propose, Await, Settle, Lock, Unlock, Read, ReadAt, Fail, Poll}
+use Rattle.st_event.specs.declared.act.Act.TheVariants.{Propose, Await, Settle, Lock, Unlock, Read, ReadAt, Fail, Poll, Span}
 use Rattle.st_event.specs.declared.act.LogEntry.{LogEntry}
 use Rattle.st_event.specs.declared.act.LogSaw.{LogSaw}
 use Rattle.st_event.specs.declared.act.LogSaw.TheVariants.{Seen, At, NoVersion}
@@ -433,7 +433,7 @@ can_settle = (omega arith, tt, omega arith)
 pub can_lock : CanDo groups 1 (Lock 0 a1 Low)
 can_lock = (omega arith, omega arith, tt)
 
--- on a room that is not there, on an entity that is not there, and without a round
+-- on a room that is not there, on an entity that is not there, without a round, and over two groups
 pub not_in_no_room : CanDo groups 1 (Lock 1 a1 Low) → ⊥
 not_in_no_room c = absurd (omega (arith, c.0))
 
@@ -442,6 +442,9 @@ not_on_no_entity c = absurd (omega (arith, c.1))
 
 pub not_without_a_round : CanDo groups 1 (Settle 0 0) → ⊥
 not_without_a_round c = absurd (omega (arith, c.2))
+
+pub not_a_span : CanDo groups 2 (Span 0 (firmware 2) 1 (firmware 3)) → ⊥
+not_a_span c = c.1
 
 pub has_rounds : HasRounds (Await 0) × HasRounds (Settle 0 1)
 has_rounds = (tt, omega arith)

@@ -4,14 +4,13 @@ use Rattle.std.specs.Prelude.{Bool, true, false, sum_by}
 use Rattle.std.proofs.lemmas.List.{append-nil}
 use Rattle.st_line.specs.Lines.{LineName}
 use Rattle.st_net.specs.declared.entity.Row.{Row}
-use Rattle.st_net.specs.Groups.{Group, IsSound}
+use Rattle.st_net.specs.Groups.{Group, no_group, IsSound}
 use Rattle.st_event.specs.declared.act.LogEntry.{LogEntry}
 use Rattle.st_event.specs.declared.act.LogSaw.TheVariants.{Seen}
 use Rattle.st_net.specs.declared.entity.Var.TheVariants.{Firmware}
 use Rattle.st_event.specs.declared.journal.Entry.{Entry}
 use Rattle.st_event.specs.History.{History}
 use Rattle.st_event.specs.Legal.{IsLegal}
-use Rattle.st_board.specs.Posts.{no_group}
 use Rattle.st_board.specs.Published.{Published}
 use Rattle.st_wire.specs.declared.line.WireKind.TheVariants.{Command}
 use Rattle.st_wire.specs.declared.line.WireLine.{WireLine}

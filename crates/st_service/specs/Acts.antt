@@ -3,7 +3,7 @@ use Rattle.std.specs.Prelude.{ℕ, ◌≡◌, ◌<◌, List, ◌++◌, ◌∷◌
 use mathlib.Core.List.{IsPrefix}
 use Rattle.st_net.specs.Groups.{Group}
 use Rattle.st_event.specs.declared.act.Act.{Act}
-use Rattle.st_event.specs.declared.act.Act.TheVariants.{Propose, Await, Settle, Lock, Unlock, Read, ReadAt, Fail, Poll}
+use Rattle.st_event.specs.declared.act.Act.TheVariants.{Propose, Await, Settle, Lock, Unlock, Read, ReadAt, Fail, Poll, Span}
 use Rattle.st_event.specs.declared.journal.TheConstants.{MAX_ENTRIES}
 use Rattle.st_wire.specs.declared.line.WireLine.{WireLine}
 use Rattle.st_world.specs.Acts.{ActFits, course_of, group_number, seen_at}
@@ -27,7 +27,7 @@ HasRounds _ = Unit {0}
 abbrev pub EntersAct : Act → Group → List WireLine → ℕ → List Made → List ℕ → List Made → List ℕ → Type 0
 EntersAct act g lines number before was after now = (mid : List Made) × Enters (λ past. course_of (record { 0 = number }) act g lines (course_from past)) On number mid before was after now
 
--- the entries of an act that is done
+-- the entries of an act that is done; a span is not done, since no group does it alone
 abbrev pub ActEnters : Act → Group → List WireLine → ℕ → List Made → List ℕ → List Made → List ℕ → Type 0
 ActEnters (Await n) g lines number before was after now = Awaits (latest_in before was) g number before was after now
 ActEnters (Settle n rounds) g lines number before was after now = Settles g lines number rounds before was after now
@@ -38,15 +38,16 @@ ActEnters (Lock n entity prio) g lines number before was after now = EntersAct (
 ActEnters (Unlock n entity prio) g lines number before was after now = EntersAct (Unlock n entity prio) g lines number before was after now
 ActEnters (Fail n entity health rows) g lines number before was after now = EntersAct (Fail n entity health rows) g lines number before was after now
 ActEnters (Poll n entity) g lines number before was after now = EntersAct (Poll n entity) g lines number before was after now
+ActEnters (Span first first_rows second second_rows) g lines number before was after now = ⊥
 
--- what it logs: one that reads logs what it saw, a read of the reader's front, and one of a version of the new front of the journal
+-- what an act logs: an act that reads logs what it saw, a read by the reader's front, and a read of a version by the new front of the journal
 abbrev pub ActLogs : Act → Group → Holder → Holder → Type 0
 ActLogs (Read n entity var) g old new = Reads g n entity var old new
 ActLogs (ReadAt n version entity var) g old new =
     new.log ≡ old.log ++ record { group = n; entity = entity; var = var; saw = seen_at (record { group = g; past = past_in (front_at new.fronts n) }) version entity var } ∷ []
 ActLogs _ g old new = new.log ≡ old.log
 
--- one that takes the lock teaches the reader: what the new front accepts begins the reader's
+-- an act that takes the lock teaches the reader: what the new front overlays its target with begins the reader's front
 abbrev pub ActTeaches : Act → Holder → Type 0
 ActTeaches (Read n entity var) new = Unit {0}
 ActTeaches act new = IsTaught new (group_number act)
@@ -62,7 +63,7 @@ MayMeetFull (Read n entity var) = ⊥
 MayMeetFull (ReadAt n version entity var) = ⊥
 MayMeetFull _ = Unit {0}
 
--- an act of which an event met a full journal: the pass has seen it so, its reader is taught, and nothing is logged
+-- an act of which an event met a full journal: the pass has seen the journal full, the reader is taught, and nothing is logged
 pub record ActFull (act : Act) (old new : Holder) : Type 0 where
   pub enters : MayMeetFull act
   pub full : length (front_at new.fronts (group_number act)) ≡ MAX_ENTRIES

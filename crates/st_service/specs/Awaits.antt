@@ -31,13 +31,13 @@ pub record WentOn (g : Group) (ticket number : ℕ) (before : List Made) (was : 
   pub decided : length (deciders (past_in seen)) < length (deciders (past_in after))
   pub made : (now ≡ was) ⊎ Puts number (entry_after g (past_in seen) Check ∷ []) seen seen was after now
 
--- what is taken for a check while a ticket is pending, among 64 at the most: a basis of the oldest. At Idle this ticket is decided, and others may be
+-- what is taken for a check while a ticket is pending, among 64 at the most: a basis of the oldest. At Idle the ticket is decided, and others may be
 -- pending
 abbrev pub BeginsFor : ℕ → Group → List Entry → Begin → Type 0
 BeginsFor ticket g past (Basis basis) = IsBasisAt g past basis × (length (deciders past) < ticket) × (ticket ≤ length (deciders past) + MAX_PENDING)
 BeginsFor ticket g past Idle = IsDecided ticket past
 
--- what a check comes to by its commit
+-- what a check comes to, by the answer to its commit
 abbrev pub checked_of : Committed → Checked
 checked_of (Did receipt) = Went
 checked_of (Gone entry) = Went
@@ -58,7 +58,7 @@ Waits g ticket number (suc k) before was after now = (mid : List Made) × (got :
 abbrev pub WaitsOut : Group → ℕ → ℕ → List Made → List ℕ → List Made → List ℕ → Type 0
 WaitsOut g ticket number before was after now = (k : ℕ) × (k ≤ MAX_PENDING) × Waits g ticket number k before was after now × IsDecided ticket (past_in after)
 
--- the same for the latest ticket of a pass, if it has one
+-- the same for the latest ticket of a pass, if the pass has one
 abbrev pub Awaits : Option ℕ → Group → ℕ → List Made → List ℕ → List Made → List ℕ → Type 0
 Awaits (Some ticket) g number before was after now = WaitsOut g ticket number before was after now
 Awaits None g number before was after now = IsPrefix before after × (now ≡ was)

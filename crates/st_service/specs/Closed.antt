@@ -14,7 +14,7 @@ abbrev pub positions : ℕ → ℕ → List Made → List ℕ
 positions p i [] = []
 positions p i (m ∷ ms) = if m.by == p then i ∷ positions p (suc i) ms else positions p (suc i) ms
 
--- what a pass has seen of a room begins this journal, and the places in its list are of its own entries there
+-- what a pass has seen of a room begins this journal, and the places in the pass's list are of its own entries there
 pub record Stands (p : Holder) (front : List Made) (g : ℕ) : Type 0 where
   pub begins : IsPrefix (front_at p.fronts g) front
   pub mine : IsMine p.number front (mine_at p.mines g)
@@ -24,8 +24,9 @@ pub record Stands (p : Holder) (front : List Made) (g : ℕ) : Type 0 where
 abbrev pub entered : Holder → ℕ
 entered p = sum_by length p.mines
 
--- the journal of a room with its makers: it is legal, and its group is sound; for each pass, by its number, what it has seen begins it, its reader's front is a beginning of what it
--- accepts, its list has the places of just the entries that it made, and those of them that are requests are all that name it
+-- the journal of a room with its makers: the journal is legal, and the group is sound; for each pass, by the pass's number, what the pass has seen begins the journal, the front of
+-- its reader begins what the journal overlays the target with, the pass's list has the places of just the entries that the pass made, and those of them that are requests are all that
+-- name it
 pub record IsWhole (group : Group) (passes : List Holder) (g : ℕ) (entries : List Entry) (front : List Made) : Type 0 where
   pub journal : past_in front ≡ reverse entries
   pub legal : IsLegal group (past_in front)

@@ -9,7 +9,7 @@ abbrev pub AllWithin : ℕ → ℕ → List ℕ → Type 0
 AllWithin lo hi [] = Unit {0}
 AllWithin lo hi (n ∷ ns) = (lo ≤ n) × (n < hi) × AllWithin lo hi ns
 
--- the front went on, and at most so many places were added, behind the old front and within the new one
+-- the front went on, and at most so many places were added to the list, each behind the old front and within the new one
 abbrev pub Grows : ℕ → List Made → List ℕ → List Made → List ℕ → Type 0
 Grows most before was after now = IsPrefix before after × ((more : List ℕ) × (now ≡ was ++ more) × (length more ≤ most) × AllWithin (length before) (length after) more)
 

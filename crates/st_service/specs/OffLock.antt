@@ -42,7 +42,7 @@ going_by (Did receipt) = On
 going_by (Gone entry) = On
 going_by (JournalFull entries) = Full
 
--- what is told of a commit that had room: which entry had decided its ticket, or the verdict that it made
+-- what is told of a commit that met no full journal: which entry had decided the ticket before, or the verdict that the commit made
 abbrev pub IsToldOf : Option ℕ → List Entry → Committed → Type 0
 IsToldOf (Some entry) made committed = committed ≡ Gone entry
 IsToldOf None made (Did receipt) = IsVerdictOf made receipt
@@ -57,7 +57,7 @@ CommitsIn (Gone entry) g ticket number before was after now = IsPrefix before af
 CommitsIn (JournalFull entries) g ticket number before was after now =
     IsPrefix before after × (now ≡ was) × (length (deciders (past_in after)) < ticket) × (length after ≡ MAX_ENTRIES) × (entries ≡ MAX_ENTRIES)
 
--- what it answers by its commit
+-- what a check off the lock answers, by the answer to its commit
 abbrev pub off_of : Committed → OffLock
 off_of (Did receipt) = Decided receipt
 off_of (Gone entry) = was_gone entry

@@ -20,7 +20,7 @@ pub record Enters (course : List Entry → Course) (going : Going) (number : ℕ
   pub run : course (past_in mid) ≡ record { past = past_in after; stopped = is_full going }
   pub full : is_full going ≡ true → length after ≡ MAX_ENTRIES
 
--- a part of it was entered, from its start
+-- a part of the course was entered, from its first event on
 pub record EntersPart (course : List Entry → Course) (number : ℕ) (mid before : List Made) (was : List ℕ) (after : List Made) (now : List ℕ) : Type 0 where
   pub entries : List Entry
   pub puts : Puts number entries mid before was after now

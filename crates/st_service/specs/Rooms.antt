@@ -15,7 +15,7 @@ pub record RoomView : Type 0 where
   pub published : Published
   pub spent : Bool
 
--- the same once nothing more is published
+-- a room once nothing more is published
 pub record EndedView : Type 0 where
   pub history : History
   pub published : Published
@@ -33,7 +33,7 @@ pub record IsSameRoom (old new : RoomView) : Type 0 where
   pub lines : new.lines ≡ old.lines
   pub board : new.published.book ≡ old.published.book
 
--- a publication was refused: the board is as it was, and there are more overlays than it has
+-- a publication was refused: the board is as it was, and the target has more overlays than the board
 pub record WasRefused (old new : RoomView) : Type 0 where
   pub board : new.published ≡ old.published
   pub more : length old.published.proposals < length (overlays new.history.past)

@@ -3,7 +3,7 @@ use Rattle.std.specs.Prelude.{ℕ, ◌*◌, List, length}
 use Rattle.st_net.specs.Groups.{Group}
 use Rattle.st_net.specs.InOrder.{entities_of}
 use Rattle.st_event.specs.declared.act.Act.{Act}
-use Rattle.st_event.specs.declared.act.Act.TheVariants.{Propose, Await, Settle, Lock, Unlock, Read, ReadAt, Fail, Poll}
+use Rattle.st_event.specs.declared.act.Act.TheVariants.{Propose, Await, Settle, Lock, Unlock, Read, ReadAt, Fail, Poll, Span}
 use Rattle.st_event.specs.declared.journal.TheConstants.{MAX_PENDING}
 use Rattle.st_wire.specs.declared.line.WireLine.{WireLine}
 use Rattle.st_world.specs.Shares.{poll_most, turn_most, update_most}
@@ -33,6 +33,7 @@ act_share (Read n entity var) g lines = 0
 act_share (ReadAt n version entity var) g lines = 0
 act_share (Fail n entity health rows) g lines = 1
 act_share (Poll n entity) g lines = poll_most lines
+act_share (Span first first_rows second second_rows) g lines = 0
 
 -- a check of a checker
 abbrev pub check_share : ℕ

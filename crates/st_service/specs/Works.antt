@@ -3,7 +3,7 @@ use Rattle.std.specs.Prelude.{◌≡◌, ℕ, ◌+◌, ◌≤◌, Bool, true, fa
 use Rattle.st_net.specs.declared.entity.Entity.{Entity}
 use Rattle.st_net.specs.Groups.{Group, IsEntityOf}
 use Rattle.st_event.specs.declared.act.Act.{Act}
-use Rattle.st_event.specs.declared.act.Act.TheVariants.{Propose, Await, Settle, Lock, Unlock, Read, ReadAt, Fail, Poll}
+use Rattle.st_event.specs.declared.act.Act.TheVariants.{Propose, Await, Settle, Lock, Unlock, Read, ReadAt, Fail, Poll, Span}
 use Rattle.st_event.specs.declared.event.Event.TheVariants.{Check}
 use Rattle.st_event.specs.declared.journal.Entry.{Entry}
 use Rattle.st_event.specs.Proposals.{deciders, proposals}
@@ -24,7 +24,7 @@ IsDecided ticket past = ticket ≤ length (deciders past)
 abbrev pub IsGiven : ℕ → List Entry → Type 0
 IsGiven ticket past = ticket ≤ length (proposals past)
 
--- it is the lowest that is not decided, and it was given: so it is the oldest that is pending
+-- the ticket is the lowest that is not decided, and it was given: so it is the oldest that is pending
 pub record IsOldest (ticket : ℕ) (past : List Entry) : Type 0 where
   pub next : ticket ≡ length (deciders past) + 1
   pub given : IsGiven ticket past
@@ -60,6 +60,7 @@ is_of_one_hold (Read n entity var) = false
 is_of_one_hold (ReadAt n version entity var) = false
 is_of_one_hold (Fail n entity health rows) = true
 is_of_one_hold (Poll n entity) = true
+is_of_one_hold (Span first first_rows second second_rows) = false
 
 abbrev pub WorkFits : Work → Group → Type 0
 WorkFits (OneAct act) g = ActFits act.now g × (is_of_one_hold act.now ≡ true)
@@ -83,6 +84,7 @@ act_may_overlay (Read n entity var) = false
 act_may_overlay (ReadAt n version entity var) = false
 act_may_overlay (Fail n entity health rows) = false
 act_may_overlay (Poll n entity) = false
+act_may_overlay (Span first first_rows second second_rows) = false
 
 abbrev pub may_overlay : Work → Bool
 may_overlay (OneAct act) = act_may_overlay act.now

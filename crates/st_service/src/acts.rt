@@ -34,11 +34,11 @@ pub enum Acted {
 
 impl<J: Naming, L: Ledger, H: Wait + Drop> Service<J, L, H> {
     /// Does an act for the pass of an application. An act that takes the lock of a room teaches the pass the room's latest front, and what
-    /// that accepts; a read takes no lock, and the gate is called behind it; the checks of an await are judged off the lock, and the gate
-    /// is called before each. Entries made before a refusal stand, and are in the pass's list. Where a publication is refused the room is
-    /// spent: this call answers want of memory, and so does each later call that takes its lock, which enters nothing. A read goes on. At
-    /// `Err` nothing is logged. What is said of a spent room stands in clauses inside the crate (`Room::work`, `Locked::work`). It may wait
-    /// for the room, and for readers.
+    /// that front overlays the target with; a read takes no lock, and the gate is called behind the read; the checks of an await are judged
+    /// off the lock, and the gate is called before each. Entries made before a refusal stand, and are in the pass's list. Where a
+    /// publication is refused the room is spent: this call answers want of memory, and so does each later call that takes the room's lock,
+    /// and enters nothing. A read goes on. At `Err` nothing is logged. What is said of a spent room stands in clauses inside the crate
+    /// (`Room::work`, `Locked::work`). May wait for the room, and for readers.
     pub fn step_app<R: Threads + Wait + Sync, G: Gate>(
         &self,
         rt: &R,
@@ -61,7 +61,7 @@ impl<J: Naming, L: Ledger, H: Wait + Drop> Service<J, L, H> {
         }
     }
 
-    /// Does an act for a pass. At `Full` an event met the journal of its group full.
+    /// Does an act for a pass. At `Full` an event met the journal of the act's group full.
     fn act<R: Threads + Wait + Sync, G: Gate>(
         &self,
         rt: &R,
@@ -100,6 +100,7 @@ impl<J: Naming, L: Ledger, H: Wait + Drop> Service<J, L, H> {
             | Act::Unlock { .. }
             | Act::Fail { .. }
             | Act::Poll { .. } => self.work(rt, alloc, pass, group, Work::OneAct(act)),
+            Act::Span { .. } => unreachable!(),
         }
     }
 

@@ -28,9 +28,9 @@ use std::thread::Threads;
 pub enum Checked {
     /// The ticket was decided before.
     Over,
-    /// It was pending, and the ticket that was then the oldest is decided now.
+    /// The ticket was pending, and the one that was then the oldest is decided now.
     Went,
-    /// It was pending, and the journal is full.
+    /// The ticket was pending, and the journal is full.
     Full,
 }
 
@@ -44,8 +44,8 @@ fn checked_by(committed: &Committed) -> Checked
     }
 }
 
-/// What the oldest proposal is judged on in a room that is lent to a pass, while a ticket is pending there. `Idle` where it is decided,
-/// whatever else is pending.
+/// What the oldest proposal is judged on in a room that is lent to a pass, while a ticket is pending there. `Idle` where the ticket is
+/// decided, whatever else is pending.
 fn begin_for_in<J: Naming, L: Ledger, H: Wait + Drop>(
     pass: &mut Pass<J, L>,
     room: &mut Locked<J, L, H>,
@@ -67,8 +67,8 @@ fn begin_for_in<J: Naming, L: Ledger, H: Wait + Drop>(
 }
 
 impl<J: Naming, L: Ledger, H: Wait + Drop> Service<J, L, H> {
-    /// What the oldest proposal of a room is judged on, while a ticket is pending there. `Idle` where it is decided, whatever else is
-    /// pending. It may wait for the room.
+    /// What the oldest proposal of a room is judged on, while a ticket is pending there. `Idle` where the ticket is decided, whatever else
+    /// is pending. May wait for the room.
     fn begin_for<R: Wait>(
         &self,
         rt: &R,
@@ -87,7 +87,7 @@ impl<J: Naming, L: Ledger, H: Wait + Drop> Service<J, L, H> {
         begin_for_in(pass, &mut room, ticket)
     }
 
-    /// Makes one check in a room off the lock, unless the ticket is decided. It may wait for the room, and for readers.
+    /// Makes one check in a room off the lock, unless the ticket is decided. May wait for the room, and for readers.
     fn check_for<R: Threads + Wait + Sync, G: Gate>(
         &self,
         rt: &R,

@@ -26,14 +26,14 @@ use std::marker::PhantomData;
 use std::sync::ledger::{Ledger, Share};
 use std::sync::{Mutex, Wait};
 
-/// What a closed service hands out: the journal of each room, in their order, and the log of each application, in theirs.
+/// What a closed service hands out: the journals of the rooms, and the logs of the applications, each in order.
 #[derive(Drop)]
 pub struct Closed {
     pub journals: Vec<Journal>,
     pub logs: Vec<AppLog>,
 }
 
-/// A room that is ended, with the line of its journal.
+/// A room that is ended, with the line of the room's journal.
 #[derive(Drop)]
 pub(crate) struct Shut<J: Naming, H: Wait + Drop> {
     pub group: usize,
@@ -50,7 +50,7 @@ pub(crate) struct Shut<J: Naming, H: Wait + Drop> {
 impl<J: Naming, L: Ledger, H: Wait + Drop> Service<J, L, H> {
     /// Ends the service, of which all passes are handed in, in their order, and gives the journals of the rooms and the logs of the
     /// applications. Each journal is legal, of a sound group, and each pass's list has the places of just its own entries (`IsWhole`). At
-    /// `Err`, as where a room is spent, the service and the passes are given up. It may wait for readers.
+    /// `Err`, as where a room is spent, the service and the passes are given up. May wait for readers.
     pub fn close(self, alloc: Global, passes: Vec<Pass<J, L>>) -> Result<Closed, AllocError>
         requires all { length passes.items ≡ self.passes }
         requires numbers { (n : ℕ) (p : _) → n < length passes.items → (slice_index_or passes.items n p).number ≡ n }
@@ -96,7 +96,7 @@ fn shut_all<J: Naming, L: Ledger, H: Wait + Drop>(
     Ok(shut)
 }
 
-/// Ends the room of this number, and takes its units back. At `Err`, as where it is spent, the room is given up.
+/// Ends the room of this number, and takes the room's units back. At `Err`, as where the room is spent, it is given up.
 fn shut_one<J: Naming, L: Ledger, H: Wait + Drop>(
     alloc: Global,
     locked: Locked<J, L, H>,
@@ -167,7 +167,7 @@ fn hand_in_all<J: Naming, L: Ledger, H: Wait + Drop>(
     Ok(logs)
 }
 
-/// Takes in a pass, and gives its log.
+/// Takes in a pass, and gives the pass's log.
 fn hand_in<J: Naming, L: Ledger, H: Wait + Drop>(
     pass: Pass<J, L>,
     shut: &mut [Shut<J, H>],

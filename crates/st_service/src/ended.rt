@@ -35,7 +35,7 @@ impl<H: Wait + Drop> Model for Ended<H> {
 }
 
 impl<H: Wait + Drop> Ended<H> {
-    /// Ends what a room publishes. At `Err`, as where it is spent, the room is given up.
+    /// Ends what a room publishes. At `Err`, as where the room is spent, it is given up.
     pub fn new(room: Room<H>, alloc: Global) -> Result<Ended<H>, AllocError>
         ensures open { OnOk result (room.spent ≡ false) }
         ensures history { IfOk result (λ ended. ended.history ≡ room.history) }
@@ -59,7 +59,7 @@ impl<H: Wait + Drop> Ended<H> {
         }
     }
 
-    /// Teaches a reader of the room the whole front, which has every overlay of its journal.
+    /// Teaches a reader of the room the whole front, which has every overlay of the room's journal.
     pub fn teach(&self, reader: &mut TargetReader)
         requires { reader.old.book ≡ self.now.published.book }
         ensures same { (reader.new.book ≡ reader.old.book) × (reader.new.group ≡ reader.old.group) }

@@ -1,5 +1,5 @@
 //! The rooms of all groups behind their locks, and the passes by which threads work in them. `st_run` starts a service over worlds,
-//! hands each job a pass, and takes journals and logs when it closes.
+//! hands each job a pass, and takes journals and logs when the service closes.
 #![tactic(auto)]
 
 mod acts;

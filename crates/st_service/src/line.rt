@@ -1,4 +1,4 @@
-//! The line of a journal, in proofs alone: who entered what, under which hold of the lock.
+//! The line of a journal: which pass entered what, under which hold of the lock. Only proofs see what stands on the line.
 
 ghost use Rattle.std.specs.Prelude.{◌≡◌, ◌+◌, ◌≤◌, ◌++◌, []};
 ghost use Rattle.std.specs.Vec.{vec_len, vec_capacity};
@@ -9,7 +9,7 @@ use st_line::{Tells, Writer};
 use std::collections::LinkedList;
 use std::marker::Model;
 
-/// What a pass entered under one hold of a room's lock. No value of it is made.
+/// What a pass entered under one hold of a room's lock. No value of this type is made.
 pub struct Batch {
     pub by: u32,
     pub entries: LinkedList<Entry>,

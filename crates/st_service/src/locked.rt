@@ -1,5 +1,5 @@
-//! What lies under a room's lock: the room, and the line that tells which pass made each entry of its journal. Every hold of the lock is a
-//! call of this type, which is lent a pass's place.
+//! What lies under a room's lock: the room, and the line that tells which pass made each entry of the room's journal. Each hold of the lock
+//! makes one call of this type, to which the place of a pass is lent; what else a hold asks, it asks of the room.
 
 ghost use Rattle.std.specs.Prelude.{◌≡◌, ◌+◌, ◌<◌, true, false, length, IfOk, IsErr, OnOk, OnErr};
 ghost use mathlib.Core.List.{IsPrefix};
@@ -23,7 +23,7 @@ use std::alloc::{AllocError, Global};
 use std::sync::Wait;
 use std::sync::ledger::{Ledger, Share};
 
-/// A room with the line of its journal.
+/// A room with the line of the room's journal.
 #[derive(Drop)]
 pub struct Locked<J: Naming, L: Ledger, H: Wait + Drop> {
     pub group: usize,
@@ -38,9 +38,9 @@ pub struct Locked<J: Naming, L: Ledger, H: Wait + Drop> {
 }
 
 impl<J: Naming, L: Ledger, H: Wait + Drop> Locked<J, L, H> {
-    /// Does a work for a pass, and teaches it the journal and what is published. At `Full` an event met a full journal; then, and at
-    /// `Err`, a part of the events was entered, from the first, and stands. What was entered is the pass's, whatever the answer. A room
-    /// that is spent stays as it is.
+    /// Does a work for a pass, and teaches the pass the journal and what is published. At `Full` an event met a full journal; then, and at
+    /// `Err`, a part of the events was entered, from the first, and stands. What was entered is the pass's, whatever the answer. A spent
+    /// room stays as it is.
     pub fn work(
         &mut self,
         alloc: Global,
@@ -67,7 +67,7 @@ impl<J: Naming, L: Ledger, H: Wait + Drop> Locked<J, L, H> {
         ensures reads { IfOk result (λ _. IsPrefix (overlays (past_in (flat place.new.seen.log))) place.new.reader.proposals) }
     {
         self.room.still_open()?;
-        // Before the world: what it enters has to be numbered.
+        // First, since it may be refused: each entry that the work makes needs a place in the pass's list.
         place.mine.reserve(self.room.most_of(work))?;
         self.makers.has_all(place);
         let from = self.room.count();

@@ -1,4 +1,4 @@
-//! Which pass made each entry of a room's journal, in proofs; and the units of the entries that may still come.
+//! Which pass made each entry of a room's journal, which stands in proofs alone; and the units of the entries that may still come.
 
 ghost use Rattle.std.specs.Prelude.{◌≡◌, ◌+◌, ◌<◌, ◌≤◌, ◌++◌, ◌∷◌, [], length, true};
 ghost use Rattle.std.specs.Vec.{vec_len, vec_capacity};
@@ -44,7 +44,7 @@ impl<J: Naming, L: Ledger> Makers<J, L> {
         }
     }
 
-    /// In proofs alone: whatever a pass has seen of the journal is of this one's beginning. Nothing changes.
+    /// Whatever a pass has seen of the journal begins what this one has. The line's writer tells so by an exchange, which changes nothing.
     pub fn has_all(&mut self, place: &Place<J>)
         requires group { place.now.group ≡ self.old.group }
         ensures same { (self.new.group ≡ self.old.group) × (self.new.line ≡ self.old.line) × (self.new.units ≡ self.old.units) }
@@ -63,8 +63,8 @@ impl<J: Naming, L: Ledger> Makers<J, L> {
         place.look(&self.line.log());
     }
 
-    /// Takes in what a room has entered for a pass at the end of the journal, which may be nothing: hands over its units, and teaches the
-    /// pass the journal.
+    /// Takes in the entries that a room has made for a pass at the end of the journal, which may be none: hands the pass a unit for each of
+    /// them, and teaches the pass the journal.
     pub fn take_in(
         &mut self,
         place: &mut Place<J>,

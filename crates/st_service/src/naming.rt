@@ -1,5 +1,5 @@
-//! The group, the lines and the loss plan of each room of a service, by its number. It stands in proofs alone: under a lock only the type
-//! is known.
+//! The group, the lines and the loss plan of each room of a service, by the room's number. All this stands in proofs alone: under a lock
+//! only the type is known.
 
 use std::marker::Brand;
 
@@ -21,8 +21,8 @@ pub trait Naming {
 
 impl Naming for Brand {
     ghost use Rattle.std.specs.Prelude.{[]};
-    ghost use Rattle.st_board.specs.Posts.{no_group};
     ghost use Rattle.st_line.specs.Lines.{no_line};
+    ghost use Rattle.st_net.specs.Groups.{no_group};
 
     ghost book = { λ n. no_line };
 

@@ -1,5 +1,5 @@
-//! A check off the lock: a basis is taken under a room's lock, judged while others hold it, and committed under it. Whoever commits first
-//! decides the ticket; the other is told by which entry.
+//! A check off the lock: a basis is taken under a room's lock, judged while others may hold the lock, and committed under the lock again.
+//! Who commits first decides the ticket; who comes later is told by which entry.
 
 ghost use Rattle.std.specs.Prelude.{◌≡◌, ◌<◌, None, length, IfOk};
 ghost use Rattle.st_control.specs.Basis.{IsJudgedOf};
@@ -29,7 +29,7 @@ use std::thread::Threads;
 pub enum OffLock {
     /// The ticket that was the oldest is decided now, with this receipt, by one Check of the pass.
     Decided(Receipt),
-    /// It was decided meanwhile, by this entry, counted from 1. Nothing was entered.
+    /// That ticket was decided meanwhile, by this entry, counted from 1. Nothing was entered.
     Gone { entry: u32 },
     /// Nothing was pending. Nothing was entered.
     Idle,
@@ -37,7 +37,7 @@ pub enum OffLock {
     JournalFull { entries: u32 },
 }
 
-/// Judges a basis, with no room at hand: so no lock is held meanwhile. The gate is called before.
+/// Judges a basis, with no room at hand: so no lock is held meanwhile. The gate is called first.
 fn judge_at<R: Threads + Wait + Sync, G: Gate>(
     rt: &R,
     alloc: Global,
@@ -68,7 +68,8 @@ fn receipt_in(alloc: Global, entries: &[Entry]) -> Result<Receipt, AllocError>
     }
 }
 
-/// What is told of a commit that had room: the entry that had decided its ticket, or the receipt of the entry that it made.
+/// What is told of a commit that met no full journal: the entry that had decided the ticket before, or the receipt of the entry that the
+/// commit made.
 fn told_of(alloc: Global, gone: Option<u32>, made: &[Entry]) -> Result<Committed, AllocError>
     requires { gone ≡ None → (receipt : _) × IsVerdictOf made.now receipt }
     ensures { IfOk result (IsToldOf gone made.now) }
@@ -119,7 +120,7 @@ fn off_lock(committed: Committed) -> OffLock
 }
 
 impl<J: Naming, L: Ledger, H: Wait + Drop> Service<J, L, H> {
-    /// What the oldest proposal of a room is judged on, if one is pending. It may wait for the room.
+    /// What the oldest proposal of a room is judged on, if one is pending. May wait for the room.
     fn begin<R: Wait>(
         &self,
         rt: &R,
@@ -139,7 +140,7 @@ impl<J: Naming, L: Ledger, H: Wait + Drop> Service<J, L, H> {
         }
     }
 
-    /// Commits a ticket in a room. It may wait for the room, and for readers.
+    /// Commits a ticket in a room. May wait for the room, and for readers.
     fn commit<R: Wait>(
         &self,
         rt: &R,
@@ -159,7 +160,7 @@ impl<J: Naming, L: Ledger, H: Wait + Drop> Service<J, L, H> {
         commit_in(alloc, pass, &mut room, judged)
     }
 
-    /// Judges a basis that was taken in a room, and commits its ticket there.
+    /// Judges a basis that was taken in a room, and commits the basis's ticket there.
     pub(crate) fn decide<R: Threads + Wait + Sync, G: Gate>(
         &self,
         rt: &R,
@@ -185,7 +186,7 @@ impl<J: Naming, L: Ledger, H: Wait + Drop> Service<J, L, H> {
     /// A check for any pass, which is judged off the lock. Under the lock a basis is taken of the oldest proposal; the gate is called at
     /// `BeforeJudge`, and the basis judged, with no lock held; and the ticket is committed under the lock, by what is sure then. `Idle`
     /// comes only where nothing was pending at the first lock. At `Err` a Check may have been entered, which stands and is in the pass's
-    /// list; a room whose publication is refused is spent, as by an act. It may wait for the room, and for readers.
+    /// list; a room whose publication is refused is spent, as by an act. May wait for the room, and for readers.
     pub fn check_off_lock<R: Threads + Wait + Sync, G: Gate>(
         &self,
         rt: &R,

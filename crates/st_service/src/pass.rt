@@ -24,7 +24,7 @@ use std::marker::Model;
 use std::sync::Wait;
 use std::sync::ledger::{Ledger, Share};
 
-/// What one thread has seen of each room, the places of the entries that it made there, and its log.
+/// What one thread has seen of each room, the places of the entries that the thread made there, and its log.
 #[derive(Drop)]
 pub struct Pass<J: Naming, L: Ledger> {
     pub(crate) number: u32,
@@ -61,7 +61,7 @@ impl<J: Naming, L: Ledger> Pass<J, L> {
         }
     }
 
-    /// Takes a place in the next room, in which it has seen and made nothing. At `Err` nothing has changed.
+    /// Takes a place in the next room, of which nothing was seen, and where nothing was made. At `Err` nothing has changed.
     pub(crate) fn seat(&mut self, place: Place<J>) -> Result<(), AllocError>
         requires next { (place.group ≡ length self.old.fronts) × (place.number ≡ self.old.number) }
         requires opens { (place.seen.log ≡ []) × (place.mine.items ≡ []) }
@@ -72,28 +72,28 @@ impl<J: Naming, L: Ledger> Pass<J, L> {
         Ok(())
     }
 
-    /// Its number: the applications' come first, in their order, and then the workers'.
+    /// The number of the pass: those of applications come first, in their order, and then those of workers.
     pub fn number(&self) -> u32
         ensures { result ≡ self.now.number }
     {
         self.number
     }
 
-    /// Of how many rooms it is.
+    /// In how many rooms the pass has a place.
     pub fn rooms(&self) -> usize
         ensures { result ≡ length self.now.fronts }
     {
         self.places.len()
     }
 
-    /// What it has logged, in order.
+    /// What the pass has logged, in order.
     pub fn log(&self) -> &Items<LogEntry>
         ensures { result.now ≡ self.now.log }
     {
         &self.log
     }
 
-    /// The ticket of its last proposal in a room, which is one of its own; `None` where it made no proposal there. It takes no lock.
+    /// The ticket of the last proposal that the pass made in a room; `None` where the pass made none there. No lock is taken.
     pub fn latest(&self, group: usize) -> Option<u32>
         requires { group < length self.now.fronts }
         ensures latest { result ≡ latest_in (front_at self.now.fronts group) (mine_at self.now.mines group) }
@@ -102,7 +102,7 @@ impl<J: Naming, L: Ledger> Pass<J, L> {
         self.places[group].latest
     }
 
-    /// Does a work in a room that is lent to it.
+    /// Does a work in a room that is lent to the pass.
     pub(crate) fn work_in<H: Wait + Drop>(
         &mut self,
         alloc: Global,
@@ -123,7 +123,7 @@ impl<J: Naming, L: Ledger> Pass<J, L> {
         room.work(alloc, &mut self.places[group], &mut self.share, work)
     }
 
-    /// Learns what stands in a room that is lent to it, and stays as it is.
+    /// Learns what stands in a room that is lent to the pass. The room stays as it is.
     pub(crate) fn look_in<H: Wait + Drop>(
         &mut self,
         room: &mut Locked<J, L, H>,
@@ -139,7 +139,7 @@ impl<J: Naming, L: Ledger> Pass<J, L> {
         room.look(&mut self.places[group])
     }
 
-    /// Logs a variable's value at a version, or that there is none, by a room that is lent to it.
+    /// Logs a variable's value at a version, or that there is no such version, by a room that is lent to the pass.
     pub(crate) fn read_at_in<H: Wait + Drop>(
         &mut self,
         room: &mut Locked<J, L, H>,
@@ -163,8 +163,9 @@ impl<J: Naming, L: Ledger> Pass<J, L> {
         })
     }
 
-    /// Reads a variable's value in the published target of a group, which is one of its rooms', and logs it with the target's version.
-    /// It takes no lock, and waits for nobody. At `Err` nothing is logged; what its reader has caught up with stays.
+    /// Reads a variable's value in the published target of a group in whose room the pass has a place, and logs the value with the
+    /// target's version. No lock is taken, and nobody waited for. At `Err` nothing is logged; what the pass's reader has caught up with
+    /// stays.
     pub fn read(&mut self, group: usize, entity: Entity, var: Var) -> Result<(), AllocError>
         requires room { (group < length self.old.fronts) × (group < 16) }
         requires fits { IsEntityOf (J.group group) entity }

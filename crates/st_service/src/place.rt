@@ -19,7 +19,7 @@ use st_net::{Entity, Var};
 use std::alloc::Global;
 use std::marker::PhantomData;
 
-/// A beginning of a room's journal, the places of the entries that a pass made in it, the ticket of the last proposal among these, and a
+/// A beginning of a room's journal, the places of the entries that a pass made there, the ticket of the last proposal among these, and a
 /// reader of the room's board.
 #[derive(Drop)]
 pub struct Place<J: Naming> {
@@ -83,7 +83,7 @@ impl<J: Naming> Place<J> {
         }
     }
 
-    /// Learns the journal as it is in its room.
+    /// Learns the journal as it stands in the room.
     pub fn look(&mut self, seen: &Log<Batch>)
         requires line { seen.now.book ≡ self.old.seen.book }
         requires later { IsPrefix self.old.seen.log seen.now.log }

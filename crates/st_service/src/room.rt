@@ -1,5 +1,5 @@
-//! A room: a group's world with the board by which its target is published. It lies behind a lock, and every event of the group is
-//! entered here.
+//! A room: a group's world with the board by which the group's target is published. A room lies behind a lock, and every event of its
+//! group is entered there.
 
 ghost use Rattle.std.specs.Prelude.{ℕ, ◌≡◌, ◌^◌, ◌<◌, ◌≤◌, ◌++◌, List, [], true, false, IfOk, IsErr, MatchResult, OnOk, OnErr, is_some, length, reverse};
 ghost use mathlib.Core.List.{IsPrefix};
@@ -29,7 +29,7 @@ use std::alloc::{AllocError, Global};
 use std::marker::Model;
 use std::sync::Wait;
 
-/// A group's world and its board. Once a publication was refused the room is spent: nothing more is entered.
+/// A group's world and the group's board. Once a publication was refused the room is spent: nothing more is entered.
 #[derive(Drop)]
 pub struct Room<H: Wait + Drop> {
     pub(crate) world: World,
@@ -174,8 +174,8 @@ impl<H: Wait + Drop> Room<H> {
         }
     }
 
-    /// What may be published of this work: the rows that an entry of it overlays the target with, if one does. These are those that its
-    /// check would decide; none where it makes no check, or nothing waits.
+    /// What may have to be published of a work: the rows that an entry of the work overlays the target with, if one does. They are those of
+    /// the proposal that waits longest, which the work's check would decide; none where the work makes no check, or nothing waits.
     fn may_publish(&self, alloc: Global, work: Work<'_>) -> Result<Rows, AllocError>
         ensures { IfOk result (λ rows. may_overlay work.entry ≡ true → rows ≡ first_rows (pending self.now.history.past)) }
     {
@@ -275,7 +275,7 @@ impl<H: Wait + Drop> Room<H> {
         going
     }
 
-    /// Refused exactly where a publication was refused: the room is spent.
+    /// Refused exactly where the room is spent, since a publication was refused.
     pub fn still_open(&self) -> Result<(), AllocError>
         ensures { MatchResult result (λ _. self.now.spent ≡ false) (λ _. self.now.spent ≡ true) }
     {

@@ -47,7 +47,7 @@ impl<J: Naming, L: Ledger, H: Wait + Drop> Service<J, L, H> {
         Ok(Going::On)
     }
 
-    /// A round, or a half of one, of the entities that are not settled at its start.
+    /// A round, or a half of one, of the entities that are not settled as the round begins.
     fn round_of<R: Wait>(
         &self,
         rt: &R,
@@ -76,9 +76,9 @@ impl<J: Naming, L: Ledger, H: Wait + Drop> Service<J, L, H> {
         }
     }
 
-    /// A round for any pass: the entities that are not settled as it begins, in order, each have their turn, under a hold of its own.
-    /// `Did` says how many are not settled behind it. At `JournalFull` an event met a full journal. What was entered before that, or
-    /// before `Err`, stands. It may wait for the room.
+    /// A round for any pass: each entity that is not settled as the round begins has a turn, in order, under a hold of its own. `Did` says
+    /// how many are not settled behind the round. At `JournalFull` an event met a full journal. What was entered before that, or before
+    /// `Err`, stands. May wait for the room.
     pub fn round<R: Wait>(
         &self,
         rt: &R,
@@ -95,8 +95,8 @@ impl<J: Naming, L: Ledger, H: Wait + Drop> Service<J, L, H> {
         self.round_of(rt, alloc, pass, group as usize, Part::Whole)
     }
 
-    /// The half of a round that updates: for each entity that is not settled as it begins, a Send, the deliveries of its command, and a
-    /// Finish. Otherwise it is as `round`.
+    /// The half of a round that updates: for each entity that is not settled as the half begins, a Send, the deliveries of the command that
+    /// was sent, and a Finish. All else is as with `round`.
     pub fn update<R: Wait>(
         &self,
         rt: &R,
@@ -113,8 +113,8 @@ impl<J: Naming, L: Ledger, H: Wait + Drop> Service<J, L, H> {
         self.round_of(rt, alloc, pass, group as usize, Part::Update)
     }
 
-    /// The half of a round that monitors: for each entity that is not settled as it begins, a Report, and the hearings of that report.
-    /// Otherwise it is as `round`.
+    /// The half of a round that monitors: for each entity that is not settled as the half begins, a Report, and the hearings of that report.
+    /// All else is as with `round`.
     pub fn monitor<R: Wait>(
         &self,
         rt: &R,

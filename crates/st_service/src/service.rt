@@ -1,4 +1,4 @@
-//! The rooms behind their locks. Threads share a service, and each carries a pass of its own through its calls, each of which holds one
+//! The rooms behind their locks. Threads share a service, and each carries a pass of its own through the service's calls. A call holds one
 //! lock at the most.
 
 ghost use Rattle.std.specs.Prelude.{◌≡◌, ◌+◌, ◌*◌, ◌^◌, ◌<◌, ◌≤◌, List, length, IfOk, OnOk};
@@ -21,7 +21,7 @@ use std::alloc::{AllocError, Global};
 use std::sync::ledger::{Ledger, Share, Total};
 use std::sync::{Mutex, MutexGuard, Wait};
 
-/// The share to which the others come back at the end. It lies behind a lock, since a share is not `Sync`.
+/// The share to which the others come back at the end. This share lies behind a lock, since a share is not `Sync`.
 #[derive(Drop)]
 pub struct Own<L: Ledger> {
     pub(crate) share: Share<L>,
@@ -51,7 +51,7 @@ pub(crate) fn cannot_be() -> AllocError {
 }
 
 impl<J: Naming, L: Ledger, H: Wait + Drop> Service<J, L, H> {
-    /// The room of a number, under its lock. It may wait for the room, and is never refused (`cannot_be`).
+    /// The room of a number, under the room's lock. May wait for the room, and is never refused (`cannot_be`).
     pub(crate) fn room_at<R: Wait>(
         &self,
         rt: &R,
@@ -67,7 +67,7 @@ impl<J: Naming, L: Ledger, H: Wait + Drop> Service<J, L, H> {
         Ok(room)
     }
 
-    /// Does a work in a room, under one hold of its lock. It may wait for the room.
+    /// Does a work in a room, under one hold of the room's lock. May wait for the room.
     pub(crate) fn work<R: Wait>(
         &self,
         rt: &R,
@@ -88,7 +88,7 @@ impl<J: Naming, L: Ledger, H: Wait + Drop> Service<J, L, H> {
         pass.work_in(alloc, &mut room, work)
     }
 
-    /// Teaches a pass a room's latest front. It may wait for the room.
+    /// Teaches a pass a room's latest front. May wait for the room.
     pub(crate) fn look<R: Wait>(
         &self,
         rt: &R,
@@ -104,7 +104,7 @@ impl<J: Naming, L: Ledger, H: Wait + Drop> Service<J, L, H> {
         pass.look_in(&mut room)
     }
 
-    /// The entities that are not settled in a room's latest front, which the pass is taught. It may wait for the room.
+    /// The entities that are not settled in a room's latest front, which the pass is taught. May wait for the room.
     pub(crate) fn unsettled<R: Wait>(
         &self,
         rt: &R,
@@ -125,6 +125,6 @@ impl<J: Naming, L: Ledger, H: Wait + Drop> Service<J, L, H> {
         }
     }
 
-    /// Ends the service without its passes, at any time. It may wait for readers, and cannot be refused.
+    /// Ends the service without its passes, at any time. May wait for readers, and cannot be refused.
     pub fn give_up(self) {}
 }

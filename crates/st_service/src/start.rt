@@ -41,7 +41,7 @@ impl RoomLines {
 impl<'a, J: Naming, L: Ledger, R: Wait> Service<J, L, &'a R> {
     /// A room for each world, in their order, and a pass for each application and then for each worker, numbered from 0, which have seen
     /// nothing yet. There are 16 worlds at the most, each at its opening, and 512 passes at the most. At `Err` the boards already made
-    /// are given up, and nothing is handed out. It may wait for readers.
+    /// are given up, and nothing is handed out. May wait for readers.
     pub fn start(
         rt: &'a R,
         alloc: Global,

@@ -1,4 +1,5 @@
-//! What a pass enters under one hold of a room's lock. The calls of a service make each of their holds a work, and the room does it.
+//! What a pass enters under one hold of a room's lock. The calls of a service make a work of each hold that enters anything, and the room
+//! does the work.
 
 ghost use Rattle.std.specs.Prelude.{◌≡◌};
 ghost use Rattle.st_service.specs.Works.{may_overlay as may_overlay_lem};
@@ -27,7 +28,7 @@ pub enum Work<'a> {
 }
 
 impl Work<'_> {
-    /// Whether it may make an entry by which the target is overlaid, as a check may be.
+    /// Whether the work may make an entry that overlays the target, as a check may.
     pub fn may_overlay(self) -> bool
         ensures { result ≡ may_overlay_lem self.entry }
     {

@@ -14,7 +14,7 @@ use Rattle.st_net.specs.declared.parts.Parts.{Parts}
 use Rattle.st_net.specs.Faults.{group_of}
 use Rattle.st_net.specs.Groups.{Group}
 use Rattle.st_event.specs.declared.act.Act.{Act}
-use Rattle.st_event.specs.declared.act.Act.TheVariants.{Propose, Await, Settle, Lock, Unlock, Read, ReadAt, Fail, Poll}
+use Rattle.st_event.specs.declared.act.Act.TheVariants.{Propose, Await, Settle, Lock, Unlock, Read, ReadAt, Fail, Poll, Span}
 use Rattle.st_event.specs.declared.event.Event.{Event}
 use Rattle.st_event.specs.declared.event.Event.TheVariants.{Submit, Check, Lock as lock_event, Unlock as unlock_event, Send, Deliver, Finish, Report as make_report, Hear, Fail as fail_event}
 use Rattle.st_event.specs.declared.event.Proposal.{Proposal}
@@ -266,6 +266,7 @@ module _ (apps : List (List ℕ)) where
   act_asked app (Poll n entity) g lines course low sound asked = poll_asked g lines course entity sound asked
   act_asked app (Read n entity var) g lines course low sound asked = asked
   act_asked app (ReadAt n version entity var) g lines course low sound asked = asked
+  act_asked app (Span first first_rows second second_rows) g lines course low sound asked = asked
 
   -- groups whose lines are sound and whose entries are asked for
 

@@ -3,7 +3,7 @@ use Rattle.std.proofs.Common.{◌≡◌, List, [], ◌∷◌, codes, decimal, re
 use Rattle.st_net.specs.declared.entity.Entity.TheVariants.{Device}
 use Rattle.st_net.specs.declared.entity.Prio.TheVariants.{High}
 use Rattle.st_net.specs.declared.entity.Row.{Row}
-use Rattle.st_net.specs.Groups.{Group}
+use Rattle.st_net.specs.Groups.{Group, no_group}
 use Rattle.st_event.specs.declared.event.Event.TheVariants.{Submit, Check}
 use Rattle.st_event.specs.declared.reply.Cause.TheVariants.{Locked}
 use Rattle.st_revert.specs.declared.back.Revert.TheVariants.{Rows, TooMany}
@@ -16,7 +16,7 @@ use Rattle.st_top.specs.Rolling.{plan_lines}
 
 -- three names, of which an application has the third one's lock
 abbrev switches : Group
-switches = record { name = codes "dc1"; device_names = codes "a1" ∷ codes "a2" ∷ codes "a3" ∷ []; link_names = []; devices = []; links = []; promises = [] }
+switches = record no_group { name = codes "dc1"; device_names = codes "a1" ∷ codes "a2" ∷ codes "a3" ∷ [] }
 
 abbrev plan : Roll
 plan = record {

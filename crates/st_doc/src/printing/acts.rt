@@ -245,6 +245,7 @@ fn print_act(groups: &[Parts], act: &Act, out: &mut Text) -> Result<(), AllocErr
             rows,
         } => print_fail(groups, *group, *entity, *health, rows.as_slice(), out),
         Act::Poll { group, entity } => print_poll(groups, *group, *entity, out),
+        Act::Span { .. } => out.word(b"\n"),
     }
 }
 

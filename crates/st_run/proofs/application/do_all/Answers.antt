@@ -5,7 +5,7 @@ use Rattle.st_world.specs.Acts.{group_number}
 use Rattle.st_service.specs.declared.acts.Acted.{Acted}
 use Rattle.st_service.specs.declared.acts.Acted.TheVariants.{JournalFull}
 use Rattle.st_service.specs.Acts.{ActDone, Acts, CanDo}
-use Rattle.st_run.proofs.WentLaws.{did_more, full_of, stops_at, went_first, went_more}
+use Rattle.st_run.proofs.WentLaws.{did_more, full_of, stops_at, went_more, went_on}
 use Rattle.st_run.proofs.application.do_all.Goals as goal
 
 pub step_app-requires-clause-app : goal.step_app-requires-clause-app
@@ -40,21 +40,11 @@ loop-act-preserved g c =
 
 pub returns-in-Ok-JournalFull-clause-went : goal.returns-in-Ok-JournalFull-clause-went
 returns-in-Ok-JournalFull-clause-went g c =
-    let groups = g.J.Naming.group in
-    let lines = g.J.Naming.lines in
-    let k = c.loop-act.act-index in
-    let new = c.step_app.new.pass in
-    went_first groups lines c.args.acts.now (k + 1) c.args.pass.now new
-    (went_more groups lines c.args.acts.now k c.act-item.result c.args.pass.now c.loop-act.pass new c.loop-act-test.true c.act-item.is c.loop-act.invariant.went c.step_app.ensures.kept)
+    went_on g.J.Naming.group g.J.Naming.lines c.args.acts.now c.loop-act.act-index c.act-item.result c.args.pass.now c.loop-act.pass c.step_app.new.pass c.loop-act-test.true c.act-item.is c.loop-act.invariant.went c.step_app.ensures.kept
 
 pub returns-in-Err-clause-went : goal.returns-in-Err-clause-went
 returns-in-Err-clause-went g c =
-    let groups = g.J.Naming.group in
-    let lines = g.J.Naming.lines in
-    let k = c.loop-act.act-index in
-    let new = c.step_app.new.pass in
-    went_first groups lines c.args.acts.now (k + 1) c.args.pass.now new
-    (went_more groups lines c.args.acts.now k c.act-item.result c.args.pass.now c.loop-act.pass new c.loop-act-test.true c.act-item.is c.loop-act.invariant.went c.step_app.ensures.kept)
+    went_on g.J.Naming.group g.J.Naming.lines c.args.acts.now c.loop-act.act-index c.act-item.result c.args.pass.now c.loop-act.pass c.step_app.new.pass c.loop-act-test.true c.act-item.is c.loop-act.invariant.went c.step_app.ensures.kept
 
 pub returns-in-Ok-JournalFull-clause-came : goal.returns-in-Ok-JournalFull-clause-came
 returns-in-Ok-JournalFull-clause-came g c =

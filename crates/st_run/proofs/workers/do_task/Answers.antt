@@ -1,6 +1,6 @@
 -- Each time goes on where the one before it stopped.
 use Rattle.std.proofs.Common.{◌*◌, ◌+◌}
-use Rattle.st_service.proofs.ChainLaws.{kept_on, share_fits, share_next}
+use Rattle.st_service.proofs.ChainLaws.{kept_on, kept_turn, share_next}
 use Rattle.st_run.specs.Duties.{duty_share}
 use Rattle.st_run.proofs.HalfLaws.{times_next}
 use Rattle.st_run.proofs.workers.do_task.Goals as goal
@@ -24,13 +24,9 @@ loop-time-preserved g c =
 pub returns-in-ToFull-clause-kept : goal.returns-in-ToFull-clause-kept
 returns-in-ToFull-clause-kept g c =
     let task = c.args.task in
-    let w = duty_share task.duty (g.J.Naming.group task.group) (g.J.Naming.lines task.group) in
-    let k = c.loop-time._time in
-    kept_on c.args.pass.now c.loop-time.pass c.do_once.new.pass task.group (k * w) w (task.times * w) (share_fits k task.times w c.loop-time-test.true) c.loop-time.invariant.kept c.do_once.ensures.kept
+    kept_turn c.args.pass.now c.loop-time.pass c.do_once.new.pass task.group c.loop-time._time task.times (duty_share task.duty (g.J.Naming.group task.group) (g.J.Naming.lines task.group)) c.loop-time-test.true c.loop-time.invariant.kept c.do_once.ensures.kept
 
 pub returns-in-OutOfMemory-clause-kept : goal.returns-in-OutOfMemory-clause-kept
 returns-in-OutOfMemory-clause-kept g c =
     let task = c.args.task in
-    let w = duty_share task.duty (g.J.Naming.group task.group) (g.J.Naming.lines task.group) in
-    let k = c.loop-time._time in
-    kept_on c.args.pass.now c.loop-time.pass c.do_once.new.pass task.group (k * w) w (task.times * w) (share_fits k task.times w c.loop-time-test.true) c.loop-time.invariant.kept c.do_once.ensures.kept
+    kept_turn c.args.pass.now c.loop-time.pass c.do_once.new.pass task.group c.loop-time._time task.times (duty_share task.duty (g.J.Naming.group task.group) (g.J.Naming.lines task.group)) c.loop-time-test.true c.loop-time.invariant.kept c.do_once.ensures.kept

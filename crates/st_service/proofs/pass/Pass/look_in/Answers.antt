@@ -1,4 +1,4 @@
--- What a look leaves with a pass: its place of the room goes on, and it is taught what the room accepts.
+-- What a look leaves with a pass: the pass's place of the room goes on, and the pass is taught what the room overlays.
 use Rattle.std.proofs.Common.{ℕ, ◌≡◌, ◌<◌, ◌+◌, length, map, set, sym, ap, subst, ◌∙◌, arith}
 use Rattle.std.proofs.lemmas.List.{length-map}
 use Rattle.st_event.specs.Legal.{IsLegal}

@@ -1,4 +1,4 @@
--- What a hold leaves with a pass: its place of the room goes on, its units are those of its entries, and it is taught what the room accepts.
+-- What a hold leaves with a pass: the pass's place of the room goes on, its units are those of its entries, and the pass is taught what the room overlays.
 use Rattle.std.proofs.Common.{ℕ, ◌≡◌, ◌<◌, length, List, [], map, get_or, set, sym, ap, subst, ◌∙◌, arith}
 use Rattle.std.proofs.lemmas.List.{length-map}
 use Rattle.st_event.specs.Legal.{IsLegal}

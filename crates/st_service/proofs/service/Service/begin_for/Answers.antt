@@ -1,4 +1,4 @@
--- The room that is held has the number that was asked for, so that what the pass is told of the one it is told of the other.
+-- The room that is held has the number that was asked for: so what the pass is told of the room that is held holds of the one that was asked for.
 use Rattle.std.proofs.Common.{◌∙◌, ℕ, ap, subst}
 use Rattle.std.specs.Prelude.{IfOk}
 use Rattle.st_service.specs.Awaits.{BeginsFor}
