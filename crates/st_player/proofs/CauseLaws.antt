@@ -1,5 +1,5 @@
 -- The version by which a variable is told to be set gives it the value that it has in the target; and a failure that is told left the health.
-use Rattle.std.proofs.Common.{◌≡◌, ◌∙◌, ℕ, ◌+◌, ◌≤◌, true, false, true≢false, Bool, Some, None, Option, List, [], ◌∷◌, length, take, refl, sym, ap, ap₂, subst, arith, length-append}
+use Rattle.std.proofs.Common.{◌≡◌, ◌∙◌, ℕ, ◌+◌, ◌≤◌, true, false, true≢false, Bool, Some, None, Option, List, [], ◌∷◌, ◌++◌, length, take, refl, sym, ap, ap₂, subst, arith, length-append}
 use Rattle.std.specs.Prelude.{◌&&◌, ◌||◌, ◌==◌, unwrap_or, if◌then◌else◌}
 use Rattle.std.proofs.lemmas.Bool.Decides.{nat_tests}
 use Rattle.std.proofs.lemmas.List.{take-append-le, take_all}
@@ -14,12 +14,13 @@ use Rattle.st_event.specs.declared.event.Event.{Event}
 use Rattle.st_event.specs.declared.event.Event.TheVariants.{Fail}
 use Rattle.st_event.specs.declared.journal.Entry.{Entry}
 use Rattle.st_event.specs.Moments.{health, health_after}
-use Rattle.st_event.specs.Proposals.{first_rows, is_acceptance, overlays, pending, target, version}
+use Rattle.st_event.specs.Overlaid.{overlaid_by}
+use Rattle.st_event.specs.Proposals.{overlays, target, version, with_overlay}
 use Rattle.st_event.specs.Versions.{value_at}
-use Rattle.st_event.proofs.Targets.{overlays_next, overlays_same, target_accepted, target_same}
+use Rattle.st_event.proofs.Targets.{target_overlaid}
 use Rattle.st_player.specs.declared.origins.Failure.{Failure}
 use Rattle.st_player.specs.declared.origins.Setter.{Setter}
-use Rattle.st_player.specs.Causes.{failure_after, failure_of, is_set_by, next_setter, setter_of, var_place}
+use Rattle.st_player.specs.Causes.{failure_after, failure_of, is_set_by, is_set_in, next_setter, overlay_of, setter_of, var_place}
 use Rattle.st_player.specs.Laws.{FailuresLeftHealth, SettersSet, UnsetAreOpening}
 
 -- a row on a variable is one on its place
@@ -57,33 +58,35 @@ record LeavesValue (g : Group) (past : List Entry) (entry : Entry) (e : Entity) 
   front : (n : ℕ) → n ≤ length (overlays past) → take n (overlays (entry ∷ past)) ≡ take n (overlays past)
   grown : length (overlays past) ≤ length (overlays (entry ∷ past))
 
-left_alone : (g : Group) (past : List Entry) (entry : Entry) (e : Entity) (v : Var) → (is_acceptance entry.event entry.reply && is_set_by (first_rows (pending past)) e (var_place v)) ≡ false → LeavesValue g past entry e v
-left_alone g past entry e v none = by_verdict (is_acceptance entry.event entry.reply) refl none
+left_alone : (g : Group) (past : List Entry) (entry : Entry) (e : Entity) (v : Var) → is_set_in (overlay_of past entry) e (var_place v) ≡ false → LeavesValue g past entry e v
+left_alone g past entry e v none = by_overlay (overlay_of past entry) refl none
   where
-    by_verdict : (accepts : Bool) → is_acceptance entry.event entry.reply ≡ accepts → (accepts && is_set_by (first_rows (pending past)) e (var_place v)) ≡ false → LeavesValue g past entry e v
-    by_verdict true accepts none =
-        let rows = first_rows (pending past) in
-        let next = overlays_next past entry accepts in
+    by_overlay : (o : Option (List Row)) → overlay_of past entry ≡ o → is_set_in o e (var_place v) ≡ false → LeavesValue g past entry e v
+    by_overlay None is none =
+        let same : overlays (entry ∷ past) ≡ overlays past = ap (λ (o : Option (List Row)). with_overlay o (overlays past)) is in
         record {
-          value = ap (λ (t : Entity → Var → ℕ). t e v) (target_accepted g past entry accepts) ∙ ap (λ (o : Option ℕ). unwrap_or o (target g past e v)) (unset_rows rows e v none);
-          front = λ n low. ap (take n) next ∙ take-append-le n (overlays past) (rows ∷ []) low;
-          grown = omega (arith, ap length next, length-append (overlays past) (rows ∷ []));
-        }
-    by_verdict false refused none =
-        let same = overlays_same past entry refused in
-        record {
-          value = ap (λ (t : Entity → Var → ℕ). t e v) (target_same g past entry refused);
+          value = ap (λ (t : Entity → Var → ℕ). t e v) (target_overlaid g past entry ∙ ap (λ (o : Option (List Row)). overlaid_by o (target g past)) is);
           front = λ n low. ap (take n) same;
           grown = omega (arith, ap length same);
+        }
+    by_overlay (Some rows) is none =
+        let next : overlays (entry ∷ past) ≡ overlays past ++ rows ∷ [] = ap (λ (o : Option (List Row)). with_overlay o (overlays past)) is in
+        record {
+          value =
+              ap (λ (t : Entity → Var → ℕ). t e v) (target_overlaid g past entry ∙ ap (λ (o : Option (List Row)). overlaid_by o (target g past)) is)
+              ∙ ap (λ (o : Option ℕ). unwrap_or o (target g past e v)) (unset_rows rows e v none);
+          front = λ n low. ap (take n) next ∙ take-append-le n (overlays past) (rows ∷ []) low;
+          grown = omega (arith, ap length next, length-append (overlays past) (rows ∷ []));
         }
 
 abbrev IsSet : Group → List Entry → Entity → Var → Setter → Type 0
 IsSet g past e v setter = (setter.version ≤ version past) × (value_at g past setter.version e v ≡ target g past e v)
 
-set_now : (g : Group) (past : List Entry) (entry : Entry) (e : Entity) (v : Var) → is_acceptance entry.event entry.reply ≡ true → IsSet g (entry ∷ past) e v (next_setter past)
-set_now g past entry e v accepts =
-    let next = overlays_next past entry accepts in
-    let long : length (overlays (entry ∷ past)) ≡ version past + 1 = omega (arith, ap length next, length-append (overlays past) (first_rows (pending past) ∷ [])) in (
+set_now : (g : Group) (past : List Entry) (entry : Entry) (e : Entity) (v : Var) (o : Option (List Row)) → overlay_of past entry ≡ o → is_set_in o e (var_place v) ≡ true → IsSet g (entry ∷ past) e v (next_setter past)
+set_now g past entry e v None is sets = absurd (true≢false (sym sets))
+set_now g past entry e v (Some rows) is sets =
+    let next : overlays (entry ∷ past) ≡ overlays past ++ rows ∷ [] = ap (λ (o : Option (List Row)). with_overlay o (overlays past)) is in
+    let long : length (overlays (entry ∷ past)) ≡ version past + 1 = omega (arith, ap length next, length-append (overlays past) (rows ∷ [])) in (
       omega (arith, long),
       ap (λ (rows : List (List Row)). merge_of g rows e v) (take_all (version past + 1) (overlays (entry ∷ past)) (omega (arith, long))),
     )
@@ -94,26 +97,22 @@ set_still g past entry e v setter left set = (
   ap (λ (rows : List (List Row)). merge_of g rows e v) (left.front setter.version set.0) ∙ (set.1 ∙ sym left.value),
 )
 
-and_parts : (a b : Bool) → (a && b) ≡ true → a ≡ true
-and_parts true b is = refl
-and_parts false b is = is
-
 pub setters_set : SettersSet
 setters_set g [] e v setter is = absurd cc
-setters_set g (entry ∷ past) e v setter is = by_test (is_acceptance entry.event entry.reply && is_set_by (first_rows (pending past)) e (var_place v)) refl (setters_set g past e v setter) is
+setters_set g (entry ∷ past) e v setter is = by_test (is_set_in (overlay_of past entry) e (var_place v)) refl (setters_set g past e v setter) is
   where
-    by_test : (b : Bool) → (is_acceptance entry.event entry.reply && is_set_by (first_rows (pending past)) e (var_place v)) ≡ b → (setter_of past e (var_place v) ≡ Some setter → IsSet g past e v setter) → (if b then Some (next_setter past) else setter_of past e (var_place v)) ≡ Some setter → IsSet g (entry ∷ past) e v setter
-    by_test true so before is =
+    by_test : (b : Bool) → is_set_in (overlay_of past entry) e (var_place v) ≡ b → (setter_of past e (var_place v) ≡ Some setter → IsSet g past e v setter) → (if b then Some (next_setter past) else setter_of past e (var_place v)) ≡ Some setter → IsSet g (entry ∷ past) e v setter
+    by_test true sets before is =
         let same : next_setter past ≡ setter = cc in
-        subst (λ (s : Setter). IsSet g (entry ∷ past) e v s) same (set_now g past entry e v (and_parts (is_acceptance entry.event entry.reply) _ so))
+        subst (λ (s : Setter). IsSet g (entry ∷ past) e v s) same (set_now g past entry e v (overlay_of past entry) refl sets)
     by_test false other before is = set_still g past entry e v setter (left_alone g past entry e v other) (before is)
 
 pub unset_are_opening : UnsetAreOpening
 unset_are_opening g [] e v none = refl
-unset_are_opening g (entry ∷ past) e v none = by_test (is_acceptance entry.event entry.reply && is_set_by (first_rows (pending past)) e (var_place v)) refl (unset_are_opening g past e v) none
+unset_are_opening g (entry ∷ past) e v none = by_test (is_set_in (overlay_of past entry) e (var_place v)) refl (unset_are_opening g past e v) none
   where
-    by_test : (b : Bool) → (is_acceptance entry.event entry.reply && is_set_by (first_rows (pending past)) e (var_place v)) ≡ b → (setter_of past e (var_place v) ≡ None → target g past e v ≡ value_of e (opening_of g e) v) → (if b then Some (next_setter past) else setter_of past e (var_place v)) ≡ None → target g (entry ∷ past) e v ≡ value_of e (opening_of g e) v
-    by_test true so before none = absurd cc
+    by_test : (b : Bool) → is_set_in (overlay_of past entry) e (var_place v) ≡ b → (setter_of past e (var_place v) ≡ None → target g past e v ≡ value_of e (opening_of g e) v) → (if b then Some (next_setter past) else setter_of past e (var_place v)) ≡ None → target g (entry ∷ past) e v ≡ value_of e (opening_of g e) v
+    by_test true sets before none = absurd cc
     by_test false other before none = (left_alone g past entry e v other).value ∙ before none
 
 left_if : (same : Bool) (n now before : ℕ) (last : Option Failure) (failure : Failure) → (if same then Some (record { entry = n; health = now }) else last) ≡ Some failure → (last ≡ Some failure → before ≡ failure.health) → (if same then now else before) ≡ failure.health

@@ -1,5 +1,5 @@
 -- What became of each entity is kept on the way through a journal.
-use Rattle.std.proofs.Common.{◌≡◌, ◌∙◌, ℕ, zero, suc, ◌+◌, ◌<◌, true, false, true≢false, Bool, Some, Option, List, [], ◌∷◌, length, get_or, set, drop, refl, sym, ap, arith, replicate}
+use Rattle.std.proofs.Common.{◌≡◌, ◌∙◌, ℕ, zero, suc, ◌+◌, ◌<◌, true, false, Bool, Some, None, Option, List, [], ◌∷◌, length, get_or, set, drop, refl, sym, ap, arith, replicate}
 use Rattle.std.specs.Prelude.{All, ◌&&◌, ◌||◌, ◌==◌, if◌then◌else◌}
 use Rattle.std.proofs.lemmas.List.{drop_more}
 use Rattle.st_net.specs.declared.entity.Entity.{Entity}
@@ -15,13 +15,12 @@ use Rattle.st_event.specs.declared.event.Event.TheVariants.{Submit, Check, Lock,
 use Rattle.st_event.specs.declared.journal.Entry.{Entry}
 use Rattle.st_event.specs.declared.reply.Reply.{Reply}
 use Rattle.st_event.specs.Legal.{Fits, IsLegal}
-use Rattle.st_event.specs.Proposals.{first_rows, is_acceptance, pending}
-use Rattle.st_event.proofs.Accepting.{next_fits}
 use Rattle.st_player.specs.declared.origins.Failure.{Failure}
 use Rattle.st_player.specs.declared.origins.Origin.{Origin}
 use Rattle.st_player.specs.declared.origins.Setter.{Setter}
-use Rattle.st_player.specs.Causes.{failure_after, failure_of, is_set_by, next_setter, origin_of, setter_of, var_place}
-use Rattle.st_player.specs.Origins.{AreOrigins, no_origin, origin_at, origins_after, set_origins, with_setter}
+use Rattle.st_player.specs.Causes.{failure_after, failure_of, is_set_by, is_set_in, next_setter, origin_of, overlay_of, setter_of, var_place}
+use Rattle.st_player.specs.Origins.{AreOrigins, failed_origins, no_origin, origin_at, origins_after, origins_by, set_origins, with_setter}
+use Rattle.st_player.proofs.Altered.{overlay_fits}
 
 -- nothing was set, and nothing failed, at the opening
 get_none : (n i : ℕ) → get_or (replicate n no_origin) i no_origin ≡ no_origin
@@ -102,37 +101,36 @@ set_more g setter rows origins now whole i row low at is was =
     let first : drop i rows ≡ row ∷ drop (i + 1) rows = drop_more rows i row low ∙ ap (λ (r : Row). r ∷ drop (i + 1) rows) (sym at) in
     ap (set_origins g setter (drop (i + 1) rows)) is ∙ (sym (ap (λ (rs : List Row). set_origins g setter rs origins) first) ∙ was)
 
--- an acceptance
-set_all : (g : Group) (past : List Entry) (entry : Entry) (origins : List Origin) → AreOrigins g past origins → IsLegal g past → entry.event ≡ Check → is_acceptance entry.event entry.reply ≡ true
-    → AreOrigins g (entry ∷ past) (set_origins g (next_setter past) (first_rows (pending past)) origins)
-set_all g past entry origins are legal check accepts = record {
-  count = long_set g (next_setter past) (first_rows (pending past)) origins ∙ are.count;
+-- an overlay: its rows set, and it is no failure
+unfailed : (past : List Entry) (event : Event) (answer : Reply) (rows : List Row) (n : ℕ) (e : Entity) (before : Option Failure) → overlay_of past (record { event = event; reply = answer }) ≡ Some rows → before ≡ failure_after event n e before
+unfailed past Check answer rows n e before laid = refl
+unfailed past _ answer rows n e before laid = cc
+
+set_all : (g : Group) (past : List Entry) (entry : Entry) (rows : List Row) (origins : List Origin) → AreOrigins g past origins → IsLegal g past → overlay_of past entry ≡ Some rows → AreOrigins g (entry ∷ past) (set_origins g (next_setter past) rows origins)
+set_all g past entry rows origins are legal laid = record {
+  count = long_set g (next_setter past) rows origins ∙ are.count;
   each = λ e here.
-      set_at g (next_setter past) (first_rows (pending past)) origins e (next_fits g past legal) are.count
-      ∙ (ap (origin_with (next_setter past) (is_set_by (first_rows (pending past)) e)) (are.each e here) ∙ origin_next e);
+      set_at g (next_setter past) rows origins e (overlay_fits g past entry.event entry.reply rows legal laid) are.count
+      ∙ (ap (origin_with (next_setter past) (is_set_by rows e)) (are.each e here) ∙ origin_next e);
 }
   where
-    set_if : (accepts is : Bool) (before : Option Setter) → accepts ≡ true → (if is then Some (next_setter past) else before) ≡ (if accepts && is then Some (next_setter past) else before)
-    set_if true is before so = refl
-    set_if false is before so = absurd (true≢false (sym so))
+    set_in : (e : Entity) (k : ℕ) → (if is_set_by rows e k then Some (next_setter past) else setter_of past e k) ≡ setter_of (entry ∷ past) e k
+    set_in e k = ap (λ (o : Option (List Row)). if is_set_in o e k then Some (next_setter past) else setter_of past e k) (sym laid)
 
-    failure_still : (e : Entity) → failure_of past e ≡ failure_of (entry ∷ past) e
-    failure_still e = ap (λ (event : Event). failure_after event (length past + 1) e (failure_of past e)) (sym check)
-
-    origin_next : (e : Entity) → origin_with (next_setter past) (is_set_by (first_rows (pending past)) e) (origin_of past e) ≡ origin_of (entry ∷ past) e
+    origin_next : (e : Entity) → origin_with (next_setter past) (is_set_by rows e) (origin_of past e) ≡ origin_of (entry ∷ past) e
     origin_next e = λ i. record {
-      v0 = set_if (is_acceptance entry.event entry.reply) (is_set_by (first_rows (pending past)) e 0) (setter_of past e 0) accepts i;
-      v1 = set_if (is_acceptance entry.event entry.reply) (is_set_by (first_rows (pending past)) e 1) (setter_of past e 1) accepts i;
-      v2 = set_if (is_acceptance entry.event entry.reply) (is_set_by (first_rows (pending past)) e 2) (setter_of past e 2) accepts i;
-      v3 = set_if (is_acceptance entry.event entry.reply) (is_set_by (first_rows (pending past)) e 3) (setter_of past e 3) accepts i;
-      failure = failure_still e i;
+      v0 = set_in e 0 i;
+      v1 = set_in e 1 i;
+      v2 = set_in e 2 i;
+      v3 = set_in e 3 i;
+      failure = unfailed past entry.event entry.reply rows (length past + 1) e (failure_of past e) laid i;
     }
 
--- an entry that accepts nothing leaves the setters
-setter_still : (past : List Entry) (event : Event) (answer : Reply) (e : Entity) (k : ℕ) → is_acceptance event answer ≡ false → setter_of past e k ≡ setter_of (record { event = event; reply = answer } ∷ past) e k
-setter_still past event answer e k none = ap (λ (accepts : Bool). if accepts && is_set_by (first_rows (pending past)) e k then Some (next_setter past) else setter_of past e k) (sym none)
+-- an entry that overlays nothing leaves the setters
+setter_still : (past : List Entry) (event : Event) (answer : Reply) (e : Entity) (k : ℕ) → overlay_of past (record { event = event; reply = answer }) ≡ None → setter_of past e k ≡ setter_of (record { event = event; reply = answer } ∷ past) e k
+setter_still past event answer e k none = ap (λ (o : Option (List Row)). if is_set_in o e k then Some (next_setter past) else setter_of past e k) (sym none)
 
-origin_still : (past : List Entry) (event : Event) (answer : Reply) (e : Entity) → is_acceptance event answer ≡ false → failure_of past e ≡ failure_after event (length past + 1) e (failure_of past e) → origin_of past e ≡ origin_of (record { event = event; reply = answer } ∷ past) e
+origin_still : (past : List Entry) (event : Event) (answer : Reply) (e : Entity) → overlay_of past (record { event = event; reply = answer }) ≡ None → failure_of past e ≡ failure_after event (length past + 1) e (failure_of past e) → origin_of past e ≡ origin_of (record { event = event; reply = answer } ∷ past) e
 origin_still past event answer e none failure = λ i. record {
   v0 = setter_still past event answer e 0 none i;
   v1 = setter_still past event answer e 1 none i;
@@ -150,29 +148,21 @@ fail_here g past origins at e true failure is are there here =
     ap (λ (o : Origin). record { v0 = o.v0; v1 = o.v1; v2 = o.v2; v3 = o.v3; failure = Some failure }) one
 fail_here g past origins at e false failure is are there here = are.each e here
 
-still : (g : Group) (past : List Entry) (event : Event) (answer : Reply) (origins : List Origin) → AreOrigins g past origins → is_acceptance event answer ≡ false → ((e : Entity) → failure_of past e ≡ failure_after event (length past + 1) e (failure_of past e))
+still : (g : Group) (past : List Entry) (event : Event) (answer : Reply) (origins : List Origin) → AreOrigins g past origins → overlay_of past (record { event = event; reply = answer }) ≡ None → ((e : Entity) → failure_of past e ≡ failure_after event (length past + 1) e (failure_of past e))
     → AreOrigins g (record { event = event; reply = answer } ∷ past) origins
 still g past event answer origins are none failure = record { count = are.count; each = λ e here. are.each e here ∙ origin_still past event answer e none (failure e) }
 
+unlaid : (g : Group) (past : List Entry) (origins : List Origin) (event : Event) (answer : Reply) → AreOrigins g past origins → Fits g event → overlay_of past (record { event = event; reply = answer }) ≡ None
+    → AreOrigins g (record { event = event; reply = answer } ∷ past) (failed_origins g event (length past + 1) origins)
+unlaid g past origins (Fail at vals health) answer are fits none = record {
+  count = length-set_same origins (place_in g at) _ ∙ are.count;
+  each = λ e here. item_in-set g origins (λ e. no_origin) at e _ fits.entity are.count ∙ fail_here g past origins at e (is_same_entity at e) (record { entry = length past + 1; health = health }) refl are fits.entity here;
+}
+unlaid g past origins event answer are fits none = still g past event answer origins are none (λ e. refl)
+
 pub origins_next : (g : Group) (past : List Entry) (origins : List Origin) (entry : Entry) → AreOrigins g past origins → IsLegal g past → Fits g entry.event → AreOrigins g (entry ∷ past) (origins_after g past entry (length past + 1) origins)
-origins_next g past origins entry are legal fits = by_event entry.event refl fits
+origins_next g past origins entry are legal fits = by_overlay (overlay_of past entry) refl
   where
-    by_event : (event : Event) → entry.event ≡ event → Fits g event → AreOrigins g (record { event = event; reply = entry.reply } ∷ past) (origins_after g past (record { event = event; reply = entry.reply }) (length past + 1) origins)
-    by_event Check is fits = by_verdict (is_acceptance Check entry.reply) refl
-      where
-        by_verdict : (accepts : Bool) → is_acceptance Check entry.reply ≡ accepts
-            → AreOrigins g (record { event = Check; reply = entry.reply } ∷ past) (if accepts then set_origins g (next_setter past) (first_rows (pending past)) origins else origins)
-        by_verdict true accepts = set_all g past (record { event = Check; reply = entry.reply }) origins are legal refl accepts
-        by_verdict false none = still g past Check entry.reply origins are none (λ e. refl)
-    by_event (Fail at vals health) is fits = record {
-      count = length-set_same origins (place_in g at) _ ∙ are.count;
-      each = λ e here. item_in-set g origins (λ e. no_origin) at e _ fits.entity are.count ∙ fail_here g past origins at e (is_same_entity at e) (record { entry = length past + 1; health = health }) refl are fits.entity here;
-    }
-    by_event (Submit app rows) is fits = still g past (Submit app rows) entry.reply origins are refl (λ e. refl)
-    by_event (Lock app at prio) is fits = still g past (Lock app at prio) entry.reply origins are refl (λ e. refl)
-    by_event (Unlock app at prio) is fits = still g past (Unlock app at prio) entry.reply origins are refl (λ e. refl)
-    by_event (Send at) is fits = still g past (Send at) entry.reply origins are refl (λ e. refl)
-    by_event (Deliver n) is fits = still g past (Deliver n) entry.reply origins are refl (λ e. refl)
-    by_event (Finish at) is fits = still g past (Finish at) entry.reply origins are refl (λ e. refl)
-    by_event (Report at) is fits = still g past (Report at) entry.reply origins are refl (λ e. refl)
-    by_event (Hear n) is fits = still g past (Hear n) entry.reply origins are refl (λ e. refl)
+    by_overlay : (o : Option (List Row)) → overlay_of past entry ≡ o → AreOrigins g (entry ∷ past) (origins_by g past o entry.event (length past + 1) origins)
+    by_overlay None none = unlaid g past origins entry.event entry.reply are fits none
+    by_overlay (Some rows) laid = set_all g past entry rows origins are legal laid

@@ -16,6 +16,7 @@ use Rattle.st_net.specs.declared.promise.Broken.{Broken}
 use Rattle.st_net.specs.declared.promise.Promise.{Promise}
 use Rattle.st_net.specs.Cuts.{IsCut, cut_value, is_in_least_side, least_cut}
 use Rattle.st_net.specs.Groups.{Group, IsSound, no_link, no_promise, promise_of}
+use Rattle.st_net.specs.Demands.{broken_pair}
 use Rattle.st_net.specs.Holders.{Holding, effective_of}
 use Rattle.st_net.specs.Merge.{target_with}
 use Rattle.st_net.specs.Promises.{broken_at, first_broken, is_broken}
@@ -117,10 +118,10 @@ check_found g past _ answer broken is refuses = absurd cc
 
 -- its side is a cut of the least value, as a set of devices
 record IsLeast (g : Group) (up : Entity → Bool) (broken : Broken) : Type 0 where
-  low : (promise_of g broken.promise).b < length g.devices
-  cut : IsCut (is_device_of g broken.side) (promise_of g broken.promise).a (promise_of g broken.promise).b
-  value : cut_value g.links up (is_device_of g broken.side) ≡ least_cut (length g.devices) g.links up (promise_of g broken.promise).a (promise_of g broken.promise).b
-  has : broken.has ≡ least_cut (length g.devices) g.links up (promise_of g broken.promise).a (promise_of g broken.promise).b
+  low : (broken_pair g broken).1 < length g.devices
+  cut : IsCut (is_device_of g broken.side) (broken_pair g broken).0 (broken_pair g broken).1
+  value : cut_value g.links up (is_device_of g broken.side) ≡ least_cut (length g.devices) g.links up (broken_pair g broken).0 (broken_pair g broken).1
+  has : broken.has ≡ least_cut (length g.devices) g.links up (broken_pair g broken).0 (broken_pair g broken).1
 
 least_at : (g : Group) (up : Entity → Bool) (i : ℕ) → IsSound g → i < length g.promises → IsLeast g up (broken_at g up i (promise_of g i))
 least_at g up i sound low =
@@ -209,11 +210,11 @@ left_of_part : (g : Group) (up : Entity → Bool) (broken : Broken) → IsSound 
 left_of_part g up broken sound least = by_part (is_far_smaller broken.side (far_of g up broken))
   where
     b : ℕ
-    b = (promise_of g broken.promise).b
+    b = (broken_pair g broken).1
 
     by_part : (far : Bool) → crossing_links g up true (is_device_of g broken.side) ≡ crossing_links g up true (is_device_of g (if far then far_of g up broken else broken.side))
     by_part true =
-        far_left g up (promise_of g broken.promise).a b (is_device_of g broken.side) sound.links least.low least.cut least.value
+        far_left g up (broken_pair g broken).0 b (is_device_of g broken.side) sound.links least.low least.cut least.value
         ∙ ap (crossing_links g up true) (sym (far_devices g up (is_device_of g broken.side) b sound.links))
     by_part false = refl
 

@@ -1,5 +1,6 @@
 -- What an entry leaves as it was: all of an entity that it does not move, and what is shown of it, of links where it moves no end of theirs.
 use Rattle.std.proofs.Common.{◌≡◌, ◌∙◌, ℕ, ◌+◌, List, [], ◌∷◌, ◌++◌, true, false, true≢false, Bool, Option, Some, None, inl, inr, refl, sym, ap, subst}
+use Rattle.std.proofs.lemmas.Bool.{and_right}
 use Rattle.std.specs.Prelude.{◌&&◌, ◌||◌, ◌==◌, not, nat_lt, if◌then◌else◌, is_some, option_map, slice_index_or}
 use Rattle.st_net.specs.declared.entity.AppId.{AppId}
 use Rattle.st_net.specs.declared.entity.Entity.{Entity}
@@ -31,7 +32,7 @@ use Rattle.st_event.specs.Legal.{Fits, IsLegal, IsNext}
 use Rattle.st_event.specs.Locks.{holder, is_granted, is_released}
 use Rattle.st_event.specs.Moments.{begins, busy, command_of, commands, fence, health, is_sent, is_taken, number, renews, reports, stamp, vals}
 use Rattle.st_event.specs.Observed.{actual, failed_since, is_settled, observed, sure}
-use Rattle.st_event.specs.Proposals.{is_acceptance, target}
+use Rattle.st_event.specs.Proposals.{first_rows, is_accepting, makes_version, pending, target}
 use Rattle.st_event.specs.Replies.{blocked_or_sent, governing, reply, row_to}
 use Rattle.st_net.proofs.Tests.{nth_last}
 use Rattle.st_event.proofs.Standings.{quiet_stamp}
@@ -41,6 +42,7 @@ use Rattle.st_player.specs.declared.state.Knowledge.TheVariants.{Sure, Settled, 
 use Rattle.st_player.specs.declared.state.State.{State}
 use Rattle.st_player.specs.declared.touched.Touched.{Touched}
 use Rattle.st_player.specs.declared.touched.Touched.TheVariants.{Nothing, Near}
+use Rattle.st_player.specs.Causes.{overlay_of}
 use Rattle.st_player.specs.Entries.{is_entity}
 use Rattle.st_player.specs.Known.{health_told, known_since, since_after}
 use Rattle.st_player.specs.States.{greatest, is_blocked, open_of, state_of}
@@ -66,13 +68,9 @@ busy_still : (o : Option Command) (fenced : ℕ) (b finishes : Bool) → o ≡ N
 busy_still o fenced true finishes none other = rw (none, other) refl
 busy_still o fenced false finishes none other = rw none refl
 
-and_true : (b : Bool) → b ≡ (b && true)
+pub and_true : (b : Bool) → b ≡ (b && true)
 and_true true = refl
 and_true false = refl
-
-and_other : (b c : Bool) → c ≡ false → (b && c) ≡ false
-and_other true c other = other
-and_other false c other = refl
 
 not_its_command : (o : Option Command) (e : Entity) → is_entity (option_map (λ c. c.entity) o) e ≡ false → command_of e o ≡ None
 not_its_command None e other = refl
@@ -103,33 +101,20 @@ not_its_release false held before at prio e p other = refl
 silent : (g : Group) (past : List Entry) (event : Event) (answer : Reply) (e : Entity) → stamp g (entry_of event answer ∷ past) ≡ stamp g past → stamp g past e ≡ stamp g (entry_of event answer ∷ past) e
 silent g past event answer e is = λ i. sym is i e
 
--- nothing is accepted
-goal_same : (g : Group) (past : List Entry) (event : Event) (answer : Reply) (e : Entity) → is_acceptance event answer ≡ false → vals_in g (target g past) e ≡ vals_in g (target g (entry_of event answer ∷ past)) e
+-- the target stays where no version is made
+goal_same : (g : Group) (past : List Entry) (event : Event) (answer : Reply) (e : Entity) → makes_version event answer ≡ false → vals_in g (target g past) e ≡ vals_in g (target g (entry_of event answer ∷ past)) e
 goal_same g past event answer e none = ap (λ (t : Entity → Var → ℕ). vals_in g t e) (sym (target_same g past (entry_of event answer) none))
 
-pub stays_at : (g : Group) (past : List Entry) (event : Event) (answer : Reply) (e : Entity) → is_acceptance event answer ≡ false → is_entity (moved_by g past event) e ≡ false → Stays g past (entry_of event answer) e
-stays_at g past (Submit app rows) answer e none other = record {
-  busy_is = and_true (busy g past e);
-  vals_is = refl;
-  health_is = refl;
-  observed_is = refl;
-  since_is = refl;
-  stamp_is = silent g past (Submit app rows) answer e (quiet_stamp g past (Submit app rows) answer none refl);
-  holder_is = λ p. refl;
-  failed_is = λ n. refl;
-  goal_is = goal_same g past (Submit app rows) answer e none;
-}
-stays_at g past Check answer e none other = record {
-  busy_is = and_true (busy g past e);
-  vals_is = refl;
-  health_is = refl;
-  observed_is = refl;
-  since_is = refl;
-  stamp_is = silent g past Check answer e (quiet_stamp g past Check answer none refl);
-  holder_is = λ p. refl;
-  failed_is = λ n. refl;
-  goal_is = goal_same g past Check answer e none;
-}
+-- what overlays nothing makes no version
+makes_none : (past : List Entry) (event : Event) (answer : Reply) → overlay_of past (entry_of event answer) ≡ None → makes_version event answer ≡ false
+makes_none past Check answer is = by_verdict (is_accepting answer) is
+  where
+    by_verdict : (accepts : Bool) → (if accepts then Some (first_rows (pending past)) else None) ≡ None → accepts ≡ false
+    by_verdict true is = cc
+    by_verdict false is = refl
+makes_none past _ answer is = refl
+
+pub stays_at : (g : Group) (past : List Entry) (event : Event) (answer : Reply) (e : Entity) → makes_version event answer ≡ false → is_entity (moved_by g past event) e ≡ false → Stays g past (entry_of event answer) e
 stays_at g past (Lock app at prio) answer e none other = record {
   busy_is = and_true (busy g past e);
   vals_is = refl;
@@ -151,17 +136,6 @@ stays_at g past (Unlock app at prio) answer e none other = record {
   holder_is = λ p. not_its_release (is_released answer) (is_held_by app (holder past at prio)) (holder past) at prio e p other;
   failed_is = λ n. refl;
   goal_is = goal_same g past (Unlock app at prio) answer e none;
-}
-stays_at g past (Send at) answer e none other = record {
-  busy_is = and_true (busy g past e);
-  vals_is = refl;
-  health_is = refl;
-  observed_is = refl;
-  since_is = refl;
-  stamp_is = silent g past (Send at) answer e (quiet_stamp g past (Send at) answer none refl);
-  holder_is = λ p. refl;
-  failed_is = λ n. refl;
-  goal_is = goal_same g past (Send at) answer e none;
 }
 stays_at g past (Deliver n) answer e none other = record {
   busy_is = busy_still (command_of e (nth (commands g past) n)) _ (busy g past e) false (not_its_command (nth (commands g past) n) e other) refl;
@@ -185,24 +159,13 @@ stays_at g past (Finish at) answer e none other = record {
   failed_is = λ n. refl;
   goal_is = goal_same g past (Finish at) answer e none;
 }
-stays_at g past (make_report at) answer e none other = record {
-  busy_is = and_true (busy g past e);
-  vals_is = refl;
-  health_is = refl;
-  observed_is = refl;
-  since_is = refl;
-  stamp_is = silent g past (make_report at) answer e (quiet_stamp g past (make_report at) answer none refl);
-  holder_is = λ p. refl;
-  failed_is = λ n. refl;
-  goal_is = goal_same g past (make_report at) answer e none;
-}
 stays_at g past (Hear n) answer e none other = record {
   busy_is = and_true (busy g past e);
   vals_is = refl;
   health_is = refl;
   observed_is = not_its_report (nth (reports g past) n) e (observed g past e) other;
   since_is = not_its_maker (nth (reports g past) n) e _ _ (known_since g past e) other;
-  stamp_is = rw (and_other (is_taken answer) _ (not_renewed (nth (reports g past) n) e (stamp g past e) (vals_in g (target g past) e) other)) refl;
+  stamp_is = rw (and_right (is_taken answer) _ (not_renewed (nth (reports g past) n) e (stamp g past e) (vals_in g (target g past) e) other)) refl;
   holder_is = λ p. refl;
   failed_is = λ n. refl;
   goal_is = goal_same g past (Hear n) answer e none;
@@ -217,6 +180,17 @@ stays_at g past (Fail at new level) answer e none other = record {
   holder_is = λ p. refl;
   failed_is = λ n. rw other refl;
   goal_is = goal_same g past (Fail at new level) answer e none;
+}
+stays_at g past event answer e none other = record {
+  busy_is = and_true (busy g past e);
+  vals_is = refl;
+  health_is = refl;
+  observed_is = refl;
+  since_is = refl;
+  stamp_is = silent g past event answer e (quiet_stamp g past event answer none refl);
+  holder_is = λ p. refl;
+  failed_is = λ n. refl;
+  goal_is = goal_same g past event answer e none;
 }
 
 -- the ends of a link stay
@@ -418,13 +392,13 @@ leaves g past entry touched within all promises = record {
   promises = promises;
 }
 
--- an entry that accepts nothing moves at most one entity
-stay_apart : (g : Group) (past : List Entry) (entry : Entry) (touched : Touched) → is_acceptance entry.event entry.reply ≡ false → ((e : Entity) → may_move touched e ≡ false → is_entity (moved_by g past entry.event) e ≡ false) → StayAll g past entry touched
-stay_apart g past entry touched none apart e other = stays_at g past entry.event entry.reply e none (apart e other)
+-- an entry that overlays nothing moves at most one entity
+stay_apart : (g : Group) (past : List Entry) (entry : Entry) (touched : Touched) → overlay_of past entry ≡ None → ((e : Entity) → may_move touched e ≡ false → is_entity (moved_by g past entry.event) e ≡ false) → StayAll g past entry touched
+stay_apart g past entry touched none apart e other = stays_at g past entry.event entry.reply e (makes_none past entry.event entry.reply none) (apart e other)
 
-pub leaves_others : (h : History) (entry : Entry) (at : Entity) → IsLegal h.group h.past → IsNext h.group h.past entry → is_acceptance entry.event entry.reply ≡ false → moved_by h.group h.past entry.event ≡ Some at → Touches h (with_entry h entry) (Near at)
+pub leaves_others : (h : History) (entry : Entry) (at : Entity) → IsLegal h.group h.past → IsNext h.group h.past entry → overlay_of h.past entry ≡ None → moved_by h.group h.past entry.event ≡ Some at → Touches h (with_entry h entry) (Near at)
 leaves_others h entry at legal next none is =
     leaves h.group h.past entry (Near at) (moved_own h.group h.past entry.event at legal next.fits is) (stay_apart h.group h.past entry (Near at) none (λ e other. ap (λ (o : Option Entity). is_entity o e) is ∙ other)) tt
 
-pub leaves_all : (h : History) (entry : Entry) → is_acceptance entry.event entry.reply ≡ false → moved_by h.group h.past entry.event ≡ None → Touches h (with_entry h entry) Nothing
+pub leaves_all : (h : History) (entry : Entry) → overlay_of h.past entry ≡ None → moved_by h.group h.past entry.event ≡ None → Touches h (with_entry h entry) Nothing
 leaves_all h entry none is = leaves h.group h.past entry Nothing tt (stay_apart h.group h.past entry Nothing none (λ e other. ap (λ (o : Option Entity). is_entity o e) is)) tt

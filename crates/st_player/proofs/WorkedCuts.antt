@@ -7,6 +7,7 @@ use Rattle.st_net.specs.declared.entity.Row.{Row}
 use Rattle.st_net.specs.declared.entity.Var.TheVariants.{Firmware}
 use Rattle.st_net.specs.declared.promise.Broken.{Broken}
 use Rattle.st_net.specs.declared.promise.BrokenKind.TheVariants.{CutOff}
+use Rattle.st_net.specs.declared.promise.BrokenOf.TheVariants.{Promise as of_promise}
 use Rattle.st_net.specs.Cuts.{numbers_in}
 use Rattle.st_net.specs.Entities.{is_same_entity}
 use Rattle.st_event.specs.declared.event.Event.TheVariants.{Check}
@@ -93,7 +94,7 @@ abbrev past : List Entry
 past = run q (asks (change a1) ∷ asks (change a2) ∷ Check ∷ [])
 
 abbrev broken : Broken
-broken = record { promise = 0; kind = CutOff; need = 10; has = 0; side = 0 ∷ [] }
+broken = record { of = of_promise 0; kind = CutOff; need = 10; has = 0; side = 0 ∷ [] }
 
 one_at_a_time : cut_of q past (change a2) broken ≡ record { far = 1 ∷ []; left = []; out = 0 ∷ 1 ∷ []; changes = 3 ∷ []; gone = 2 ∷ [] }
 unfolding cut_of is_far

@@ -5,7 +5,7 @@ use Rattle.st_net.specs.declared.entity.Entity.TheVariants.{Device, Link}
 use Rattle.st_net.specs.declared.entity.Prio.TheVariants.{High}
 use Rattle.st_net.specs.declared.entity.Var.TheVariants.{Firmware}
 use Rattle.st_net.specs.declared.topo.DeviceOpening.{DeviceOpening}
-use Rattle.st_net.specs.Groups.{Group}
+use Rattle.st_net.specs.Groups.{Group, no_group}
 use Rattle.st_event.specs.declared.event.Event.{Event}
 use Rattle.st_event.specs.declared.event.Event.TheVariants.{Submit, Check, Lock, Send, Deliver, Hear}
 use Rattle.st_event.specs.declared.journal.Entry.{Entry}
@@ -18,13 +18,12 @@ device tor = record { tor = tor; vals = record { v0 = 1; v1 = 1; v2 = 1; v3 = 1 
 
 -- devices a and b, and a link of them
 abbrev q : Group
-q = record {
+q = record no_group {
   name = codes "g";
   device_names = codes "a" ∷ codes "b" ∷ [];
   link_names = codes "l" ∷ [];
   devices = device true ∷ device true ∷ [];
   links = record { a = 0; b = 1; capacity = 10; vals = record { v0 = 1; v1 = 1; v2 = 0; v3 = 0 }; health = 1 } ∷ [];
-  promises = [];
 }
 
 abbrev answered : List Entry → Event → Entry

@@ -8,7 +8,7 @@ use Rattle.st_net.specs.declared.entity.Vals.{Vals}
 use Rattle.st_net.specs.declared.entity.Var.{Var}
 use Rattle.st_net.specs.declared.topo.DeviceOpening.{DeviceOpening}
 use Rattle.st_net.specs.declared.topo.LinkOpening.{LinkOpening}
-use Rattle.st_net.specs.Groups.{Group}
+use Rattle.st_net.specs.Groups.{Group, no_group}
 use Rattle.st_event.specs.declared.event.Event.{Event}
 use Rattle.st_event.specs.declared.event.Event.TheVariants.{Submit}
 use Rattle.st_event.specs.declared.journal.Entry.{Entry}
@@ -25,7 +25,7 @@ link a b capacity = record { a = a; b = b; capacity = capacity; vals = record { 
 
 -- devices t1, t2, a1, a2; links l1 to l4, of which l3 has this capacity; t1 is promised so much of what it can have to t2
 abbrev pub two_paths : ℕ → ℕ → Group
-two_paths third percent = record {
+two_paths third percent = record no_group {
   name = codes "dc1";
   device_names = codes "t1" ∷ codes "t2" ∷ codes "a1" ∷ codes "a2" ∷ [];
   link_names = codes "l1" ∷ codes "l2" ∷ codes "l3" ∷ codes "l4" ∷ [];

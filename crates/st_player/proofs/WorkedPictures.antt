@@ -3,7 +3,7 @@ use Rattle.std.proofs.Common.{◌≡◌, ℕ, true, false, Bool, List, [], ◌�
 use Rattle.serde_json.specs.Data.{array, item, no_items, no_members, null, object, put, string}
 use Rattle.st_net.specs.declared.topo.DeviceOpening.{DeviceOpening}
 use Rattle.st_net.specs.declared.topo.LinkOpening.{LinkOpening}
-use Rattle.st_net.specs.Groups.{Group}
+use Rattle.st_net.specs.Groups.{Group, no_group}
 use Rattle.st_event.specs.declared.event.Event.TheVariants.{Deliver}
 use Rattle.st_event.specs.declared.journal.Entry.{Entry}
 use Rattle.st_event.specs.declared.reply.Reply.TheVariants.{NoSuch}
@@ -22,7 +22,7 @@ abbrev link : ℕ → ℕ → ℕ → LinkOpening
 link a b capacity = record { a = a; b = b; capacity = capacity; vals = record { v0 = 1; v1 = 1; v2 = 0; v3 = 0 }; health = 1 }
 
 abbrev line : Group
-line = record {
+line = record no_group {
   name = codes "g";
   device_names = codes "t" ∷ codes "s" ∷ codes "u" ∷ [];
   link_names = codes "l" ∷ codes "m" ∷ [];

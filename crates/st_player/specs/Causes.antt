@@ -1,5 +1,5 @@
 -- Who set what a page opens with, and which entry failed what has failed there: of a page that begins behind entries.
-use Rattle.std.specs.Prelude.{ℕ, ◌+◌, ◌==◌, ◌&&◌, nat_lt, Bool, List, [], ◌∷◌, ◌++◌, length, flat_map, Option, Some, None, codes, if◌then◌else◌}
+use Rattle.std.specs.Prelude.{ℕ, ◌+◌, ◌==◌, ◌&&◌, nat_lt, Bool, false, List, [], ◌∷◌, ◌++◌, length, flat_map, Option, Some, None, codes, if◌then◌else◌}
 use Rattle.std.specs.List.{list_any}
 use Rattle.serde_json.specs.Data.{Data, object, no_members, put}
 use Rattle.st_net.specs.declared.entity.Entity.{Entity}
@@ -15,7 +15,7 @@ use Rattle.st_event.specs.declared.event.Event.{Event}
 use Rattle.st_event.specs.declared.event.Event.TheVariants.{Submit, Check, Lock, Unlock, Send, Deliver, Finish, Report, Hear, Fail}
 use Rattle.st_event.specs.declared.event.Proposal.{Proposal}
 use Rattle.st_event.specs.declared.journal.Entry.{Entry}
-use Rattle.st_event.specs.Proposals.{first_rows, is_acceptance, pending, target, version}
+use Rattle.st_event.specs.Proposals.{first_rows, overlay_in, pending, target, version}
 use Rattle.st_player.specs.declared.origins.Failure.{Failure}
 use Rattle.st_player.specs.declared.origins.Origin.{Origin}
 use Rattle.st_player.specs.declared.origins.Setter.{Setter}
@@ -40,14 +40,23 @@ abbrev pub first_app : List Proposal → ℕ
 first_app [] = 0
 first_app (p ∷ ps) = p.app.0
 
--- what the entry behind these would accept: the next version, of the oldest proposal that waits
+-- what an entry overlays the target with
+abbrev pub overlay_of : List Entry → Entry → Option (List Row)
+overlay_of past entry = overlay_in entry.event entry.reply (first_rows (pending past))
+
+-- whether an overlay has a row on the variable at a place of an entity
+abbrev pub is_set_in : Option (List Row) → Entity → ℕ → Bool
+is_set_in None e k = false
+is_set_in (Some rows) e k = is_set_by rows e k
+
+-- what the entry behind these sets, where it overlays the target: its version, of the oldest proposal that waits
 abbrev pub next_setter : List Entry → Setter
 next_setter past = record { version = version past + 1; app = first_app (pending past) }
 
--- the newest accepted proposal with a row on the variable at a place of an entity
+-- the newest overlay with a row on the variable at a place of an entity
 abbrev pub setter_of : List Entry → Entity → ℕ → Option Setter
 setter_of [] e k = None
-setter_of (entry ∷ past) e k = if is_acceptance entry.event entry.reply && is_set_by (first_rows (pending past)) e k then Some (next_setter past) else setter_of past e k
+setter_of (entry ∷ past) e k = if is_set_in (overlay_of past entry) e k then Some (next_setter past) else setter_of past e k
 
 -- the newest failure of an entity: its entry, and the health that it left
 abbrev pub failure_after : Event → ℕ → Entity → Option Failure → Option Failure

@@ -7,10 +7,9 @@ use Rattle.st_net.specs.InOrder.{entity_count, item_in, place_in}
 use Rattle.st_event.specs.declared.event.Event.{Event}
 use Rattle.st_event.specs.declared.event.Event.TheVariants.{Submit, Check, Lock, Unlock, Send, Deliver, Finish, Report, Hear, Fail}
 use Rattle.st_event.specs.declared.journal.Entry.{Entry}
-use Rattle.st_event.specs.Proposals.{first_rows, is_acceptance, pending}
 use Rattle.st_player.specs.declared.origins.Origin.{Origin}
 use Rattle.st_player.specs.declared.origins.Setter.{Setter}
-use Rattle.st_player.specs.Causes.{next_setter, origin_of, var_place}
+use Rattle.st_player.specs.Causes.{next_setter, origin_of, overlay_of, var_place}
 
 abbrev pub no_origin : Origin
 no_origin = record { v0 = None; v1 = None; v2 = None; v3 = None; failure = None }
@@ -54,6 +53,10 @@ failed_origins g (Finish e) n origins = origins
 failed_origins g (Report e) n origins = origins
 failed_origins g (Hear number) n origins = origins
 
--- after an entry of this number
+-- after an entry of this number, by what it overlays; what overlays the target is no failure
+abbrev pub origins_by : Group → List Entry → Option (List Row) → Event → ℕ → List Origin → List Origin
+origins_by g past None event n origins = failed_origins g event n origins
+origins_by g past (Some rows) event n origins = set_origins g (next_setter past) rows origins
+
 abbrev pub origins_after : Group → List Entry → Entry → ℕ → List Origin → List Origin
-origins_after g past entry n origins = if is_acceptance entry.event entry.reply then set_origins g (next_setter past) (first_rows (pending past)) origins else failed_origins g entry.event n origins
+origins_after g past entry n origins = origins_by g past (overlay_of past entry) entry.event n origins

@@ -4,6 +4,8 @@ use Rattle.serde_json.specs.Data.{Data, string, object, Members, no_members, put
 use Rattle.st_net.specs.declared.entity.Entity.{Entity}
 use Rattle.st_net.specs.declared.entity.Prio.{Prio}
 use Rattle.st_net.specs.declared.entity.Row.{Row}
+use Rattle.st_net.specs.declared.promise.BrokenOf.{BrokenOf}
+use Rattle.st_net.specs.declared.promise.BrokenOf.TheVariants.{Promise as of_promise}
 use Rattle.st_net.specs.declared.promise.Broken.{Broken}
 use Rattle.st_net.specs.Groups.{Group}
 use Rattle.st_net.specs.InOrder.{place_in}
@@ -25,12 +27,16 @@ use Rattle.st_event.specs.Receipts.{receipt_given}
 use Rattle.st_player.specs.Cuts.{Stands, cut_of, is_far_smaller}
 use Rattle.st_player.specs.Json.{number_data, numbers_data}
 
+-- the number of the promise that is broken
+abbrev pub promise_in : BrokenOf → ℕ
+promise_in (of_promise i) = i
+
 -- the members of a broken promise
 abbrev pub with_broken : Broken → Members → Members
 with_broken broken ms = put (codes "side") (numbers_data broken.side)
     (put (codes "has") (number_data broken.has)
     (put (codes "need") (number_data broken.need)
-    (put (codes "promise") (number_data broken.promise)
+    (put (codes "promise") (number_data (promise_in broken.of))
     (put (codes "kind") (string (kind_word broken.kind)) ms))))
 
 abbrev pub part_word : Bool → List ℕ

@@ -4,6 +4,7 @@
 ghost use Rattle.std.specs.Prelude.{◌≡◌, ℕ, ◌<◌, ◌^◌, ◌==◌, ◌&&◌, ◌||◌, not, nat_lt, false, true, All, IfOk, IsTrue, length, slice_index_or, slice_set};
 ghost use Rattle.std.specs.List.{list_any};
 ghost use Rattle.st_net.specs.Cuts.{numbers_in};
+ghost use Rattle.st_net.specs.Demands.{pair_of_broken};
 ghost use Rattle.st_net.specs.Groups.{no_link, promise_of};
 ghost use Rattle.st_net.specs.Sets.{IsMarkIn, MarksOf, is_in};
 ghost use Rattle.st_net.specs.UpGraph.{is_up_link};
@@ -11,7 +12,7 @@ ghost use Rattle.st_player.specs.Cuts.{crossing_links, cut_by as cut_by_lem, end
 ghost use Rattle.st_player.specs.Steps.{cut_in};
 
 use crate::weighing::Weighed;
-use st_net::{Broken, Entity, EntitySet, GroupTopo};
+use st_net::{Broken, BrokenOf, Entity, EntitySet, GroupTopo};
 use std::alloc::{AllocError, Global};
 
 /// What stands about the least side of a promise that breaks, by numbers: the devices that are joined to its far end, the links of the side
@@ -212,6 +213,15 @@ fn far_end(topo: &GroupTopo, promise: u32) -> u32
     }
 }
 
+/// The second of the two devices between which a demand is broken.
+fn far_end_of(topo: &GroupTopo, of: BrokenOf) -> u32
+    ensures { result ≡ (pair_of_broken topo.now of).1 }
+{
+    match of {
+        BrokenOf::Promise(number) => far_end(topo, number),
+    }
+}
+
 /// Whether a device is an end of one of these links.
 fn is_end_of_one(topo: &GroupTopo, links: &[u32], device: u32) -> bool
     requires { All (λ i. i < length topo.now.links) links.now }
@@ -317,7 +327,7 @@ fn far(
     ensures { IfOk result (λ far. far.items ≡ far_of topo.now (is_in up.now) broken.now) }
 {
     topo.is_sound();
-    let marks = far_marks(alloc, topo, up, side, far_end(topo, broken.promise))?;
+    let marks = far_marks(alloc, topo, up, side, far_end_of(topo, broken.of))?;
     marked(alloc, marks.as_slice())
 }
 

@@ -5,16 +5,15 @@ ghost use Rattle.std.specs.Prelude.{◌≡◌, All, length};
 ghost use Rattle.st_net.specs.InOrder.{entity_count};
 ghost use Rattle.st_net.specs.Ranges.{RowFits};
 ghost use Rattle.st_event.specs.Legal.{Fits};
-ghost use Rattle.st_event.specs.Proposals.{first_rows, pending};
-ghost use Rattle.st_player.specs.Causes.{next_setter, var_place};
+ghost use Rattle.st_player.specs.Causes.{next_setter as next_setter_lem, var_place};
 ghost use Rattle.st_player.specs.Origins.{failed_origins, no_origin as no_origin_lem, origins_after, set_origins, with_setter as with_setter_lem};
 
-use crate::touched::accepts;
+use crate::touched::overlay_of;
 use st_event::{Entry, Event};
 use st_net::{GroupTopo, Row, Var};
 use st_world::World;
 
-/// A version of the target, and the application whose proposal is accepted as it.
+/// A version of the target, and the application whose proposal made it.
 #[derive(Clone, Copy)]
 pub(crate) struct Setter {
     pub(crate) version: u32,
@@ -77,21 +76,19 @@ fn keep_rows(topo: &GroupTopo, origins: &mut [Origin], rows: &[Row], setter: Set
     }
 }
 
-/// Keeps that the oldest proposal is accepted that waits.
-fn keep_oldest(world: &World, origins: &mut [Origin])
-    requires { length origins.old ≡ entity_count world.now.history.group }
-    ensures { origins.new ≡ set_origins world.now.history.group (next_setter world.now.history.past) (first_rows (pending world.now.history.past)) origins.old }
+/// What the next entry sets where it overlays the target: its version, and the application whose proposal waits longest.
+fn next_setter(world: &World) -> Setter
+    ensures { result ≡ next_setter_lem world.now.history.past }
 {
     world.is_legal();
-    let control = world.control();
-    let store = control.store();
-    if let Some(oldest) = store.oldest() {
-        let version = store.version() + 1;
-        let setter = Setter {
+    let store = world.control().store();
+    let version = store.version() + 1;
+    match store.oldest() {
+        Some(oldest) => Setter {
             version,
             app: oldest.app.0,
-        };
-        keep_rows(control.topo(), origins, oldest.rows.as_slice(), setter);
+        },
+        None => Setter { version, app: 0 },
     }
 }
 
@@ -116,9 +113,10 @@ pub(crate) fn keep_origins(world: &World, origins: &mut [Origin], number: u32, e
     requires count { length origins.old ≡ entity_count world.now.history.group }
     ensures { origins.new ≡ origins_after world.now.history.group world.now.history.past entry.now number origins.old }
 {
-    if accepts(entry) {
-        keep_oldest(world, origins);
-    } else {
-        keep_failure(world.control().topo(), origins, number, &entry.event);
+    world.is_legal();
+    let topo = world.control().topo();
+    match overlay_of(world, entry) {
+        Some(rows) => keep_rows(topo, origins, rows, next_setter(world)),
+        None => keep_failure(topo, origins, number, &entry.event),
     }
 }

@@ -4,7 +4,7 @@ ghost use Rattle.std.specs.Prelude.{◌≡◌, ◌<◌, All, IfOk, OnOk, length}
 ghost use Rattle.serde_json.specs.View.{view, members_view};
 ghost use Rattle.st_net.specs.InOrder.{place_in};
 ghost use Rattle.st_net.specs.Ranges.{RowFits};
-ghost use Rattle.st_player.specs.Refusals.{broken_data, cause_data, lack_data, locked_data, part_word as part_word_lem, with_broken, with_cut};
+ghost use Rattle.st_player.specs.Refusals.{broken_data, cause_data, lack_data, locked_data, part_word as part_word_lem, promise_in, with_broken, with_cut};
 ghost use Rattle.st_player.specs.Steps.{cut_in};
 
 use crate::cuts::{Cut, cut_by};
@@ -12,7 +12,7 @@ use crate::safe_json::{Json, JsonObject};
 use crate::weighing::weigh;
 use st_entry::kind_word;
 use st_event::{Cause, Lack};
-use st_net::{Broken, Entity, GroupTopo, Prio, Row};
+use st_net::{Broken, BrokenOf, Entity, GroupTopo, Prio, Row};
 use st_token::prio_word;
 use st_world::World;
 use std::alloc::{AllocError, Global};
@@ -24,12 +24,21 @@ pub(crate) fn number_of(topo: &GroupTopo, entity: Entity) -> u64
     entity.place_behind(topo.device_count() as usize) as u64
 }
 
+/// The number of the promise that is broken.
+fn promise_of(of: BrokenOf) -> u32
+    ensures { result ≡ promise_in of }
+{
+    match of {
+        BrokenOf::Promise(number) => number,
+    }
+}
+
 /// Puts what a receipt names of a broken promise.
 fn put_broken(object: &mut JsonObject, broken: &Broken) -> Result<(), AllocError>
     ensures { OnOk result (members_view object.new ≡ with_broken broken.now (members_view object.old)) }
 {
     object.put_text("kind", kind_word(broken.kind))?;
-    object.put_number("promise", u64::from(broken.promise))?;
+    object.put_number("promise", u64::from(promise_of(broken.of)))?;
     object.put_number("need", broken.need)?;
     object.put_number("has", broken.has)?;
     object.put_array("side", broken.side.as_slice())

@@ -1,14 +1,16 @@
-//! What an entry can change of what is shown of its group: the entities that an accepted proposal alters in the target, and where none is
-//! accepted at most one, with the links that end at these. All else stays as it was shown, and is neither asked for again nor compared.
+//! What an entry can change of what is shown of its group: where it overlays the target the entities that the overlay alters there, and
+//! else at most one, with the links that end at these. All else stays as it was shown, and is neither asked for again nor compared.
 
 ghost use Rattle.std.specs.Prelude.{◌≡◌, IfOk, option_map};
+ghost use Rattle.std.specs.Option.{option_copied};
 ghost use Rattle.st_net.specs.Groups.{IsEntityOf};
 ghost use Rattle.st_net.specs.Numbered.{nth};
 ghost use Rattle.st_event.specs.History.{with_entry};
 ghost use Rattle.st_event.specs.Legal.{IsNext};
 ghost use Rattle.st_event.specs.Moments.{commands, reports};
-ghost use Rattle.st_event.specs.Proposals.{first_rows, is_acceptance, pending};
+ghost use Rattle.st_event.specs.Proposals.{first_rows, pending};
 ghost use Rattle.st_player.specs.declared.touched.Touched.TheVariants.{Near};
+ghost use Rattle.st_player.specs.Causes.{overlay_of as overlay_of_lem};
 ghost use Rattle.st_player.specs.Touched.{HasMark, HasMarks, Touches, may_move as may_move_lem, may_show as may_show_lem, moved_by as moved_by_lem};
 
 use crate::weighing::altered;
@@ -25,8 +27,8 @@ pub(crate) enum Touched {
     Nothing,
     /// This one, and what is shown of the links that end at it.
     Near(Entity),
-    /// These, whose target a proposal alters that is accepted, and what is shown of the links that end at them. The network is as it was,
-    /// and the same promises hold in the sure set.
+    /// These, whose target an overlay alters, and what is shown of the links that end at them. The network is as it was, and the same
+    /// promises hold in the sure set.
     Altered(EntitySet),
 }
 
@@ -68,19 +70,6 @@ pub(crate) fn shows_near(topo: &GroupTopo, at: Entity, entity: Entity) -> bool
     ensures { result ≡ may_show_lem topo.now (Near at) entity }
 {
     Touched::Near(at).may_show(topo, entity)
-}
-
-/// Whether an entry accepts a proposal.
-pub(crate) fn accepts(entry: &Entry) -> bool
-    ensures { result ≡ is_acceptance entry.now.event entry.now.reply }
-{
-    match (&entry.event, &entry.reply) {
-        (Event::Check, Reply::Decided(receipt)) => match &receipt.verdict {
-            Verdict::Accepted { .. } => true,
-            Verdict::Refused(_) => false,
-        },
-        _ => false,
-    }
 }
 
 /// The entity that a command of this number is for.
@@ -128,14 +117,27 @@ pub(crate) fn oldest_rows(world: &World) -> &[Row]
     }
 }
 
+/// What an entry overlays the target with, behind the entries of a world, where it overlays it.
+pub(crate) fn overlay_of<'a>(world: &'a World, entry: &'a Entry) -> Option<&'a [Row]>
+    ensures { option_copied result ≡ overlay_of_lem world.now.history.past entry.now }
+{
+    match (&entry.event, &entry.reply) {
+        (Event::Check, Reply::Decided(receipt)) => match &receipt.verdict {
+            Verdict::Accepted { .. } => Some(oldest_rows(world)),
+            Verdict::Refused(_) => None,
+        },
+        _ => None,
+    }
+}
+
 /// What the next entry of a legal journal can change, behind the entries of a world.
 pub(crate) fn touched_by(alloc: Global, world: &World, entry: &Entry) -> Result<Touched, AllocError>
     requires { IsNext world.now.history.group world.now.history.past entry.now }
     ensures { IfOk result (Touches world.now.history (with_entry world.now.history entry.now)) }
 {
     world.is_legal();
-    if accepts(entry) {
-        let set = altered(alloc, world, oldest_rows(world))?;
+    if let Some(rows) = overlay_of(world, entry) {
+        let set = altered(alloc, world, rows)?;
         return Ok(Touched::Altered(set));
     }
     match moved_by(world, &entry.event) {

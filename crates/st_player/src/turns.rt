@@ -1,5 +1,5 @@
 //! Which promises turn with an entry, in the network and in the sure set. They are judged where the entry may have changed the set, but
-//! where it is shown that all hold before and after, or where the entry accepts a proposal: then each holds as before.
+//! where it is shown that all hold before and after, or where the entry overlays the target: then each holds as before.
 
 ghost use Rattle.std.specs.Prelude.{◌≡◌, ◌<◌, ◌^◌, IfOk, IfSome, length, option_map, true};
 ghost use Rattle.serde_json.specs.View.{view};

@@ -2,16 +2,15 @@
 use Rattle.std.proofs.Common.{◌≡◌, ◌∙◌, ℕ, ◌+◌, ◌<◌, List, [], ◌∷◌, ◌++◌, Bool, true, false, cond, length, get_or, map, take, refl, sym, ap, append_assoc}
 use Rattle.std.specs.Prelude.{flat_map, Result, Ok, Err, IfOk}
 use Rattle.std.specs.List.{filter, list_all}
-use Rattle.std.proofs.lemmas.Grind.{flat_map-append}
-use Rattle.std.proofs.lemmas.List.{append-nil, take_more, map-append}
+use Rattle.std.proofs.lemmas.List.{flat_map_more, take_more, map-append}
 use Rattle.std.proofs.lemmas.List.Folds.{list_all_at, list_all_more}
 
 -- one more item
 pub flat_next : {X Y : Type 0} (f : X → List Y) (xs : List X) (i : ℕ) (x d : X) (old mid new : List Y) → i < length xs → x ≡ get_or xs i d → mid ≡ old ++ flat_map f (take i xs) → new ≡ mid ++ f x → new ≡ old ++ flat_map f (take (i + 1) xs)
 flat_next f xs i x d old mid new within is before added =
-    let one : flat_map f (get_or xs i d ∷ []) ≡ f x = append-nil (f (get_or xs i d)) ∙ ap f (sym is) in
-    let step : flat_map f (take (i + 1) xs) ≡ flat_map f (take i xs) ++ f x = ap (flat_map f) (take_more xs i d within) ∙ (flat_map-append f (take i xs) (get_or xs i d ∷ []) ∙ ap (λ t. flat_map f (take i xs) ++ t) one) in
-    added ∙ (ap (λ t. t ++ f x) before ∙ (append_assoc old (flat_map f (take i xs)) (f x) ∙ ap (λ t. old ++ t) (sym step)))
+    added
+    ∙ (ap (λ t. t ++ f x) before
+    ∙ (flat_map_more f old (take i xs) x ∙ ap (λ ys. old ++ flat_map f ys) (ap (λ y. take i xs ++ y ∷ []) is ∙ sym (take_more xs i d within))))
 
 -- what is made of the items that pass a test
 chosen_one : {X Y : Type 0} (h : X → Y) (b : Bool) (x : X) (rest : List X) → map h (cond b (x ∷ rest) rest) ≡ cond b (h x ∷ []) [] ++ map h rest

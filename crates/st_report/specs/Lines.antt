@@ -6,7 +6,7 @@ use Rattle.st_net.specs.declared.entity.Entity.{Entity}
 use Rattle.st_net.specs.declared.entity.Entity.TheVariants.{Device}
 use Rattle.st_net.specs.declared.entity.Var.{Var}
 use Rattle.st_net.specs.Entities.{value_of, vars_of}
-use Rattle.st_net.specs.Groups.{Group, name_of, opening_of}
+use Rattle.st_net.specs.Groups.{Group, no_group, name_of, opening_of}
 use Rattle.st_net.specs.InOrder.{entities_of}
 use Rattle.st_net.specs.Promises.{is_broken}
 use Rattle.st_event.specs.declared.act.Log.{Log}
@@ -78,9 +78,6 @@ abbrev pub lost_words : Group → List Entry → List Words
 lost_words g past = map (λ p. name_of g (Device p.a) ∷ name_of g (Device p.b) ∷ []) (filter (is_broken g (actual g []) (actual g past)) g.promises)
 
 -- the group of a number; one of no name and no entities where there are not so many
-abbrev pub no_group : Group
-no_group = record { name = []; device_names = []; link_names = []; devices = []; links = []; promises = [] }
-
 abbrev pub group_at : List History → ℕ → Group
 group_at groups n = (slice_index_or groups n (record { group = no_group; past = [] })).group
 

@@ -121,7 +121,7 @@ fn promise_counts(world: &World, held: &Held) -> PromiseCounts
     }
 }
 
-/// How many proposals were accepted.
+/// The version of the target.
 pub(crate) fn version(world: &World) -> u32
     ensures { result ≡ version_lem world.now.history.past }
 {

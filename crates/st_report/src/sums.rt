@@ -3,7 +3,7 @@
 ghost use Rattle.std.specs.Prelude.{◌≡◌, ◌++◌, [], IfOk, OnOk, OnErr, length};
 ghost use Rattle.st_event.specs.Moments.{commands, reports};
 ghost use Rattle.st_event.specs.Observed.{actual};
-ghost use Rattle.st_event.specs.Proposals.{version as version_lem};
+ghost use Rattle.st_event.specs.Proposals.{is_accepting as is_accepting_lem, version as version_lem};
 ghost use Rattle.st_report.specs.Counts.{kept_count};
 ghost use Rattle.st_report.specs.Lines.{unsettled_words};
 ghost use Rattle.st_report.specs.Sums.{is_refusing as is_refusing_lem, accepted_count as accepted_count_lem, refused_count as refused_count_lem, parts_line, receipts_line, sent_line, held_line, sums_text};
@@ -16,6 +16,16 @@ use st_text::{Text, Word, print_line};
 use st_world::World;
 use std::alloc::{AllocError, Global};
 
+/// Whether an entry's reply is a receipt that accepts.
+fn is_accepting(entry: &Entry) -> bool
+    ensures { result ≡ is_accepting_lem entry.now.reply }
+{
+    match &entry.reply {
+        Reply::Decided(receipt) => matches!(receipt.verdict, Verdict::Accepted { .. }),
+        _ => false,
+    }
+}
+
 /// Whether an entry's reply is a receipt that refuses.
 fn is_refusing(entry: &Entry) -> bool
     ensures { result ≡ is_refusing_lem entry.now.reply }
@@ -26,12 +36,12 @@ fn is_refusing(entry: &Entry) -> bool
     }
 }
 
-/// How many receipts accept: each of them makes a version.
-fn accepted_count(world: &World) -> u32
+/// How many receipts accept.
+fn accepted_count(world: &World) -> usize
     ensures { result ≡ accepted_count_lem world.now.history.past }
 {
-    world.is_legal();
-    version(world)
+    let entries = world.journal();
+    entries.iter().filter(|entry| is_accepting(entry)).count()
 }
 
 /// How many receipts refuse.
@@ -70,7 +80,7 @@ fn print_receipts(world: &World, out: &mut Text) -> Result<(), AllocError>
             Word::Plain(b"version"),
             Word::Number(u64::from(version(world))),
             Word::Plain(b"accepted"),
-            Word::Number(u64::from(accepted_count(world))),
+            Word::Number(accepted_count(world) as u64),
             Word::Plain(b"refused"),
             Word::Number(refused_count(world) as u64),
         ],
