@@ -8,7 +8,7 @@ mod changes;
 mod walks;
 
 use st_gen::generate;
-use st_net::{Broken, BrokenKind, Entity, EntitySet, GroupTopo};
+use st_net::{Broken, BrokenKind, BrokenOf, Entity, EntitySet, GroupTopo};
 use st_promise::Book;
 use st_serial::topo_of;
 use std::alloc::{AllocError, Global};
@@ -57,11 +57,18 @@ fn lost(
     book.judge_pairs(topo, &before, &after)
 }
 
+/// The number of the promise that breaks.
+pub(crate) fn promise_of(of: BrokenOf) -> u32 {
+    match of {
+        BrokenOf::Promise(number) => number,
+    }
+}
+
 /// Whether it is promise number 44 that is cut off.
 fn is_last_of_first(broken: Option<Broken>) -> bool {
     match broken {
         Some(broken) => {
-            broken.promise == 44
+            promise_of(broken.of) == 44
                 && broken.kind == BrokenKind::CutOff
                 && broken.need == 25
                 && broken.has == 0

@@ -4,7 +4,9 @@ use crate::journals::groups::{Setting, three_groups};
 use crate::outcome::holds;
 use st_entry::{print_entry, print_saw};
 use st_event::{Cause, Entry, Event, Lack, LogSaw, Receipt, Reply, Rows, Verdict};
-use st_net::{AppId, Broken, BrokenKind, Entity, GroupTopo, Name, Prio, Row, Side, Vals, Var};
+use st_net::{
+    AppId, Broken, BrokenKind, BrokenOf, Entity, GroupTopo, Name, Prio, Row, Side, Vals, Var,
+};
 use st_text::Text;
 use std::alloc::{AllocError, Global};
 use std::test::Fail;
@@ -247,7 +249,7 @@ fn decisions_have_their_words(rt: HostRuntime) -> Result<(), Fail> {
 
 fn breaks(alloc: Global, kind: BrokenKind, has: u64) -> Result<Entry, AllocError> {
     let broken = Broken {
-        promise: 0,
+        of: BrokenOf::Promise(0),
         kind,
         need: 4294967295,
         has,

@@ -367,24 +367,29 @@ fn is_found_at(
     })
 }
 
-/// How many entries a journal has up to the first that is not found so.
-fn found_count(alloc: Global, topo: &GroupTopo, entries: &[Entry]) -> Result<usize, AllocError> {
-    for at in 0..entries.len() {
+/// How many entries a journal has before the first that is not found so, and how many in all.
+fn found_count(
+    alloc: Global,
+    topo: &GroupTopo,
+    entries: &[Entry],
+) -> Result<(usize, usize), AllocError> {
+    let all = entries.len();
+    for at in 0..all {
         if !is_found_at(alloc, topo, entries, at)? {
-            return Ok(at);
+            return Ok((at, all));
         }
     }
-    Ok(entries.len())
+    Ok((all, all))
 }
 
-fn found_of(given: &Setting, journals: &[Journal]) -> Result<usize, Fail> {
+fn found_of(given: &Setting, journals: &[Journal]) -> Result<(usize, usize), Fail> {
     let journal = journals.first().ok_or("no journal")?;
     let topo = given.topos.first().ok_or("no group")?;
     Ok(found_count(given.alloc, topo, journal.entries.as_slice())?)
 }
 
 /// The same of the first group's journal in a text.
-fn found_in(given: &Setting, text: &str) -> Result<usize, Fail> {
+fn found_in(given: &Setting, text: &str) -> Result<(usize, usize), Fail> {
     match read(given, text.as_bytes(), 1)? {
         JournalsRead::Journals(journals) => {
             let found = found_of(given, journals.as_slice());
@@ -396,7 +401,7 @@ fn found_in(given: &Setting, text: &str) -> Result<usize, Fail> {
 }
 
 /// The same over the three groups.
-fn found(alloc: Global, text: &str) -> Result<usize, Fail> {
+fn found(alloc: Global, text: &str) -> Result<(usize, usize), Fail> {
     let given = three_groups(alloc)?;
     let found = found_in(&given, text);
     drop(given);
@@ -414,7 +419,7 @@ const COUNTS: [(&str, usize); 4] = [
 #[test]
 fn an_altered_reply_is_found_entry_by_entry(rt: HostRuntime) -> Result<(), Fail> {
     for (text, count) in COUNTS {
-        assert_eq!(rt; found(rt.alloc(), text)?, count);
+        assert_eq!(rt; found(rt.alloc(), text)?, (count, count));
     }
     Ok(())
 }

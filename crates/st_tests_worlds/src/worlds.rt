@@ -4,6 +4,7 @@
 mod acts;
 mod checkers;
 mod commits;
+mod decisions;
 mod replies;
 mod steps;
 mod ups;

@@ -211,7 +211,7 @@ fn plain_judge(alloc: Global, topo: &GroupTopo, sets: &Sets) -> Result<Option<Br
 fn break_of(broken: &Option<Broken>) -> Option<Break> {
     match broken {
         Some(broken) => Some(Break {
-            promise: broken.promise,
+            promise: promise_of(broken.of),
             need: broken.need,
             has: broken.has,
         }),

@@ -1,5 +1,6 @@
 //! The words of plans, by which two of them are compared.
 
+use crate::promises::promise_of;
 use st_event::{Cause, Lack};
 use st_net::{AppId, Broken, BrokenKind, Entity, Prio, Row, Var};
 use st_roll::{Batch, Left, Roll, Stuck, Why};
@@ -60,7 +61,7 @@ pub(crate) fn break_words(
 
 fn broken_words(alloc: Global, broken: &Broken) -> Result<String, AllocError> {
     let told = Break {
-        promise: broken.promise,
+        promise: promise_of(broken.of),
         kind: broken.kind,
         need: broken.need,
         has: broken.has,

@@ -63,6 +63,7 @@ fn can_do(topo: &GroupTopo, act: &Act) -> bool
                 && is_switch_health(*entity, *health)
                 && rows.as_slice().is_empty()
         }
+        Act::Span { .. } => false,
     }
 }
 

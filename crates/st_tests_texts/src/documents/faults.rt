@@ -23,6 +23,10 @@ pub const OPENINGS: &str = "\
 3 Header: # nothing;;statesman 2;
 1 Header: statesman
 1 Header: statesman 1 1
+1 Header: statesman 0
+1 Header: statesman 01
+1 Header: statesman +1
+1 Header: statesman one
 1 Byte: statesman\x7f1
 1 Byte: #\x1f
 1 Header: group dc1
