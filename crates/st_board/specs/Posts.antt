@@ -5,7 +5,7 @@ use Rattle.st_net.specs.Groups.{Group, no_group}
 use Rattle.st_board.specs.declared.post.Post.{Post}
 use Rattle.st_board.specs.declared.post.Post.TheVariants.{Open, Merge, End}
 
--- the proposals that were published, from the first
+-- the overlays that were published, from the first: each has the rows of an accepted proposal or of a withdrawal
 abbrev pub proposals_in : List Post → List (List Row)
 proposals_in [] = []
 proposals_in (Open g ∷ posts) = proposals_in posts

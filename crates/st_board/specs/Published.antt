@@ -1,4 +1,4 @@
--- What contracts see of a board, a reader or a note: which line it is of, its group, the proposals of its front, and whether the front has the mark
+-- What contracts see of a board, a reader or a note: which line it is of, its group, the overlays of its front, and whether the front has the mark
 -- of the end. And when a table is what these come to.
 use Rattle.std.specs.Prelude.{◌≡◌, Bool, false, List, []}
 use Rattle.st_line.specs.Lines.{LineName}
@@ -23,7 +23,7 @@ published_in b log = record { book = b; group = group_in log; proposals = propos
 abbrev pub opening_on : LineName → Group → Published
 opening_on b g = record { book = b; group = g; proposals = []; ended = false }
 
--- the table has the merge of these proposals over the opening of the group
+-- the table has the merge of these overlays over the opening of the group
 pub record IsMergeOf (g : Group) (proposals : List (List Row)) (t : Values) : Type 0 where
   pub of : IsTableOf g t
   pub values : value_in t ≡ merge_of g proposals

@@ -9,7 +9,7 @@ pub record Latest : Type 0 where
   pub since : ℕ
   pub rows : List Row
 
--- the rows of proposals, in order
+-- the rows of overlays, in order
 abbrev pub rows_in : List (List Row) → List Row
 rows_in [] = []
 rows_in (rows ∷ later) = rows ++ rows_in later
@@ -18,7 +18,7 @@ rows_in (rows ∷ later) = rows ++ rows_in later
 abbrev pub merges_with : Latest → List Row → ℕ → Latest
 merges_with r rows version = if nat_le (length r.rows + length rows) 64 then record r { rows = r.rows ++ rows } else record { since = version; rows = [] }
 
--- they are the rows of all proposals after their version, and fit the group
+-- they are the rows of all overlays after their version, and fit the group
 pub record AreLatestOf (g : Group) (proposals : List (List Row)) (r : Latest) : Type 0 where
   pub within : r.since ≤ length proposals
   pub rows : r.rows ≡ rows_in (drop r.since proposals)

@@ -17,7 +17,7 @@ code b = b.book.number ∷ b.book.log_name ∷ b.book.cells_name ∷ b.key ∷ [
 abbrev pub absorbed : Target → Merge → Target
 absorbed s m = record { table = overlaid s.table m.rows; front = m.front; recent = merges_with s.recent m.rows m.front.version }
 
--- the table is the merge of its front, and beside it are the rows of its last proposals
+-- the table is the merge of its front, and beside it are the rows of its last overlays
 abbrev pub IsShown : Target → Type 0
 IsShown x = IsMergeOf (group_in x.front.seen.log) (proposals_in x.front.seen.log) x.table × AreLatestOf (group_in x.front.seen.log) (proposals_in x.front.seen.log) x.recent
 

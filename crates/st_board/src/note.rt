@@ -3,7 +3,7 @@
 use crate::front::Front;
 use std::marker::Model;
 
-/// A front that was published: the group, its proposals from the first, and whether the mark of the end is on it.
+/// A front that was published: the group, its overlays from the first, and whether the mark of the end is on it.
 #[derive(Drop)]
 pub struct Note {
     pub(crate) front: Front,

@@ -16,7 +16,7 @@ use st_net::{Entity, Var};
 use st_overlay::Table;
 use std::marker::Model;
 
-/// A value of the published target, and its version: how many proposals were merged.
+/// A value of the published target, and its version: how many overlays were merged.
 #[derive(Clone, Copy, Debug, PartialEq, Eq)]
 pub struct Seen {
     pub version: u32,

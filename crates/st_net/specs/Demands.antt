@@ -1,4 +1,4 @@
--- The demands of a group: what it asks of the network. Each is a promise, and has its number.
+-- The demands of a group: what it wants of its network, each under its number. Each is a promise, and holds where its ask does.
 use Rattle.std.specs.Prelude.{ℕ, Bool, List, length, map, Option}
 use Rattle.st_net.specs.declared.entity.Entity.{Entity}
 use Rattle.st_net.specs.declared.promise.BrokenOf.{BrokenOf}

@@ -1,5 +1,6 @@
 //! Promises of a group, judged over a set of entities that are up: what each needs, whether it holds, the first that a change
-//! would break, and walks. They are judged by asks, the pairs that a group asks of its network. Topologies come from the network's words; whoever judges a proposal asks here.
+//! would break, and walks. They are judged by asks, the pairs that a group asks of its network. Topologies come from the network's
+//! words; whoever judges a proposal asks here.
 #![tactic(auto)]
 
 mod book;
