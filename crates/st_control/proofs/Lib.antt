@@ -7,3 +7,4 @@ pub mod SendLemmas
 pub mod HearLemmas
 pub mod BasisLaws
 pub mod RunLaws
+pub mod WithdrawLemmas

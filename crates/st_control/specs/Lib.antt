@@ -4,3 +4,4 @@ pub mod Inside
 pub mod Sure
 pub mod Basis
 pub mod Commits
+pub mod Withdrawals

@@ -21,6 +21,7 @@ ghost use Rattle.st_control.specs.Sure.{MarksShown};
 
 pub mod checks;
 pub mod commits;
+pub mod withdrawals;
 
 use crate::send::{SendStep, governing_row, shows_other};
 use crate::settled::Shown;

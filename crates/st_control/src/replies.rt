@@ -3,8 +3,10 @@
 ghost use Rattle.std.specs.Prelude.{◌≡◌, IsTrue};
 ghost use Rattle.st_event.specs.Events.{is_without_list};
 ghost use Rattle.st_control.specs.Control.{reply_of_put, reply_of_check, reply_of_grant, reply_of_keep, reply_of_release};
+ghost use Rattle.st_control.specs.Withdrawals.{reply_of_withdrawal};
 
 use crate::control::checks::Check;
+use crate::control::withdrawals::Withdrawal;
 use st_event::Reply;
 use st_locks::{Grant, Release};
 use st_store::{Keep, Put};
@@ -60,5 +62,15 @@ pub fn release_reply(release: Release) -> Reply
     match release {
         Release::Released => Reply::Released,
         Release::NotYours { holder } => Reply::NotYours { holder },
+    }
+}
+
+/// The reply that stands for the answer to a withdrawal.
+pub fn withdrawal_reply(withdrawal: Withdrawal) -> Reply
+    ensures { result ≡ reply_of_withdrawal withdrawal }
+{
+    match withdrawal {
+        Withdrawal::Withdrawn { version, rows } => Reply::Withdrawn { version, rows },
+        Withdrawal::Kept => Reply::Kept,
     }
 }

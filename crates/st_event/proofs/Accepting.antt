@@ -7,15 +7,15 @@ use Rattle.st_net.specs.declared.entity.Row.{Row}
 use Rattle.st_net.specs.Groups.{Group}
 use Rattle.st_net.specs.Ranges.{RowsFit, RowFits}
 use Rattle.st_event.specs.declared.event.Event.{Event}
-use Rattle.st_event.specs.declared.event.Event.TheVariants.{Submit, Check, Lock, Unlock, Send, Deliver, Finish, Report, Hear, Fail}
+use Rattle.st_event.specs.declared.event.Event.TheVariants.{Submit, Check, Lock, Unlock, Send, Deliver, Finish, Report, Hear, Fail, Withdraw}
 use Rattle.st_event.specs.declared.event.Proposal.{Proposal}
 use Rattle.st_event.specs.declared.reply.Reply.{Reply}
 use Rattle.st_event.specs.declared.reply.Reply.TheVariants.{Queued}
 use Rattle.st_event.specs.declared.journal.Entry.{Entry}
 use Rattle.st_event.specs.declared.journal.TheConstants.{MAX_ENTRIES}
-use Rattle.st_event.specs.Events.{is_check}
+use Rattle.st_event.specs.Events.{is_check, may_overlay}
 use Rattle.st_event.specs.Legal.{IsLegal, Fits}
-use Rattle.st_event.specs.Proposals.{is_acceptance, is_accepting, proposals, verdicts, pending, accepted, first_rows}
+use Rattle.st_event.specs.Proposals.{is_acceptance, is_accepting, makes_version, proposals, verdicts, pending, accepted, first_rows}
 use Rattle.st_event.specs.Replies.{reply, receipt_of}
 use Rattle.st_event.proofs.Targets.{acceptance, accepted_next}
 
@@ -31,6 +31,13 @@ accepts_none (Finish at) answer e = refl
 accepts_none (Report at) answer e = refl
 accepts_none (Hear n) answer e = refl
 accepts_none (Fail at vals health) answer e = refl
+accepts_none (Withdraw at) answer e = refl
+
+-- an event other than a check and a withdrawal makes no version
+pub overlays_none : (event : Event) (answer : Reply) → may_overlay event ≡ false → makes_version event answer ≡ false
+overlays_none Check answer e = absurd cc
+overlays_none (Withdraw at) answer e = absurd cc
+overlays_none _ answer e = refl
 
 -- a check that accepts has the rows of the first that waited behind what was accepted
 pub accepted_first : (g : Group) (past : List Entry) (answer : Reply) → answer ≡ reply g past Check → is_accepting answer ≡ true → accepted (record { event = Check; reply = answer } ∷ past) ≡ accepted past ++ first_rows (pending past) ∷ []

@@ -14,18 +14,17 @@ use Rattle.st_event.specs.declared.reply.Reply.TheVariants.{Queued, Full, Decide
 use Rattle.st_event.specs.declared.journal.Entry.{Entry}
 use Rattle.st_event.specs.declared.journal.TheConstants.{MAX_PENDING}
 use Rattle.st_net.specs.Groups.{Group}
-use Rattle.st_net.specs.Merge.{merge_of}
 use Rattle.st_net.specs.Numbered.{nth}
 use Rattle.st_event.specs.Proposals.{proposals, verdicts, pending, accepted, first_rows, is_acceptance}
 use Rattle.st_event.specs.Moments.{told, fence_after, commands, fence}
 use Rattle.st_event.specs.Observed.{observed}
 use Rattle.st_event.specs.Replies.{reply, check_reply, receipt_of}
 use Rattle.st_event.specs.Legal.{IsLegal, IsNext}
-use Rattle.st_event.specs.Laws.{MovesAccepted, OverlaysAccepted, IsGreatestHeard, IsGreatestTold, WasBegunBy}
+use Rattle.st_event.specs.Laws.{MovesAccepted, IsGreatestHeard, IsGreatestTold, WasBegunBy}
 use Rattle.st_net.proofs.Tests.{less_is}
 use Rattle.st_event.proofs.Made.{observed_own, told_sent}
 use Rattle.st_event.proofs.Stamps.{fence_grows}
-use Rattle.st_event.proofs.Targets.{IsAccepted, IsOrderly, acceptance, accepted_same, accepted_next, legal_orderly, overlays_are_accepted}
+use Rattle.st_event.proofs.Targets.{IsAccepted, IsOrderly, acceptance, accepted_same, accepted_next, legal_orderly}
 use Rattle.st_event.proofs.Promises.{entry_of, same_entry}
 use Rattle.st_event.proofs.Greatest.{observed_greatest, observed_heard, fence_greatest}
 
@@ -48,9 +47,6 @@ accepted_moves g past entry legal next = record {
   listed = listed_in g past entry next;
   same_list = accepted_same g past entry.event entry.reply (legal_orderly g past legal) next.answer;
 }
-
-pub overlays_accepted : (g : Group) (past : List Entry) → IsLegal g past → OverlaysAccepted g past
-overlays_accepted g past legal = let same = overlays_are_accepted g past legal in record { list = same; merge = ap (merge_of g) same; count = ap length same }
 
 -- the queue
 

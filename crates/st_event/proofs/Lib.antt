@@ -12,6 +12,7 @@ pub mod Agreement
 mod SmallGroups
 mod Worked
 mod WorkedEdges
+mod WorkedWithdrawals
 pub mod AgentSteps
 pub mod Standings
 pub mod Greatest
@@ -30,3 +31,5 @@ pub mod Ranges
 pub mod Prefixes
 pub mod Begun
 pub mod Undecided
+pub mod Withdrawals
+pub mod Mixed

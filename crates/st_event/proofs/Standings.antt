@@ -15,7 +15,7 @@ use Rattle.st_net.specs.declared.message.Command.{Command}
 use Rattle.st_net.specs.declared.message.Report.{Report}
 use Rattle.st_event.specs.declared.reply.Verdict.{Verdict}
 use Rattle.st_event.specs.declared.event.Event.{Event}
-use Rattle.st_event.specs.declared.event.Event.TheVariants.{Submit, Check, Finish, Hear}
+use Rattle.st_event.specs.declared.event.Event.TheVariants.{Submit, Check, Finish, Hear, Withdraw}
 use Rattle.st_event.specs.declared.reply.Reply.{Reply}
 use Rattle.st_event.specs.declared.reply.Reply.TheVariants.{Queued, Decided}
 use Rattle.st_event.specs.declared.journal.Entry.{Entry}
@@ -29,6 +29,7 @@ use Rattle.st_event.specs.Replies.{reply, check_reply, receipt_of}
 use Rattle.st_event.specs.Legal.{IsLegal, IsNext}
 use Rattle.st_net.specs.Agents.{Agent, is_at_work}
 use Rattle.st_event.specs.Standing.{Standing, Wires, standing_of, wires_of, reply_in, check_reply_in, standing_after, wires_after, dequeue_one, overlay_one, decide_one, hear_one, made_report}
+use Rattle.st_event.specs.Receipts.{rows_withdrawn}
 use Rattle.st_net.proofs.MergeLaws.{merge_of-push_all}
 use Rattle.st_event.proofs.Queues.{drop-verdict}
 use Rattle.st_event.proofs.Targets.{IsOrderly, legal_orderly, overlay_none}
@@ -108,6 +109,7 @@ event_moves : (g : Group) (past : List Entry) (event : Event) (answer : Reply) �
 event_moves g past (Submit app rows) answer orderly is = submit_moves g past app rows answer orderly
 event_moves g past Check answer orderly is = check_moves g past (pending past) answer refl is
 event_moves g past (Hear k) answer orderly is = hear_moves g past k answer
+event_moves g past (Withdraw at) answer orderly is = overlaid_moves g past (Withdraw at) answer (rows_withdrawn answer) refl refl
 event_moves g past event answer orderly is = ap (λ (s : Entity → ℕ). record (standing_of g (entry_of event answer ∷ past)) { stamp = s }) (quiet_stamp g past event answer refl refl)
 
 pub standing_of-next : (g : Group) (past : List Entry) (entry : Entry) → IsLegal g past → IsNext g past entry → standing_of g (entry ∷ past) ≡ standing_after g (standing_of g past) (wires_of g past) (length past + 1) entry.event entry.reply

@@ -15,7 +15,7 @@ use Rattle.st_net.specs.Entities.{is_same_entity, is_same_vals}
 use Rattle.st_net.specs.Groups.{Group}
 use Rattle.st_net.specs.Merge.{target_with, vals_in, alters}
 use Rattle.st_net.specs.Sets.{IsWithin}
-use Rattle.st_event.specs.Proposals.{is_accepted, first_rows, makes_version, pending, target}
+use Rattle.st_event.specs.Proposals.{is_acceptance, is_accepted, first_rows, makes_version, pending, target}
 use Rattle.st_net.specs.Numbered.{nth}
 use Rattle.st_event.specs.Moments.{heard, renews, is_taken, stamp, reports}
 use Rattle.st_event.specs.Observed.{observed, sure, sure_after, failed_between}
@@ -29,6 +29,7 @@ use Rattle.st_event.proofs.Shown.{made_is_true}
 use Rattle.st_event.proofs.Later.{made_later}
 use Rattle.st_event.proofs.SureIsUp.{IsSureBy, sure_parts, sure_made}
 use Rattle.st_event.proofs.Targets.{overlay_none, target_same, target_next}
+use Rattle.st_event.proofs.Withdrawals.{withdrawal_within}
 
 -- an acceptance: what stays sure
 
@@ -144,6 +145,11 @@ by_heard : (g : Group) (past : List Entry) (entry : Entry) (o : Option Report) �
 by_heard g past entry None silent next none moved = inl (λ e is. nothing_heard g past entry e none moved silent is)
 by_heard g past entry (Some r) hears next none moved = by_report g past entry r (failed_between past r.entity (observed g past r.entity).number r.number) refl next none moved hears
 
--- an entry that makes no version leaves each sure entity so, or names a loss
-pub stays_or_names : (g : Group) (past : List Entry) (entry : Entry) → IsLegal g past → IsNext g past entry → makes_version entry.event entry.reply ≡ false → IsWithin (sure g past) (sure g (entry ∷ past)) ⊎ NamesLoss g past entry
-stays_or_names g past entry legal next none = by_heard g past entry (heard entry.event (nth (reports g past))) refl next none (target_same g past entry none)
+-- an entry that accepts nothing leaves each sure entity so, or names a loss
+
+same_or_moved : (g : Group) (past : List Entry) (entry : Entry) (b : Bool) → makes_version entry.event entry.reply ≡ b → IsNext g past entry → is_acceptance entry.event entry.reply ≡ false → IsWithin (sure g past) (sure g (entry ∷ past)) ⊎ NamesLoss g past entry
+same_or_moved g past entry true moves next none = inl (withdrawal_within g past entry next moves none)
+same_or_moved g past entry false is next none = by_heard g past entry (heard entry.event (nth (reports g past))) refl next is (target_same g past entry is)
+
+pub stays_or_names : (g : Group) (past : List Entry) (entry : Entry) → IsLegal g past → IsNext g past entry → is_acceptance entry.event entry.reply ≡ false → IsWithin (sure g past) (sure g (entry ∷ past)) ⊎ NamesLoss g past entry
+stays_or_names g past entry legal next none = same_or_moved g past entry (makes_version entry.event entry.reply) refl next none

@@ -1,11 +1,11 @@
--- An entry moves the target only where it makes a version, and then by what it overlays: an acceptance by its proposal's rows. In a legal
--- journal the overlays are the accepted proposals.
+-- An entry moves the target only where it makes a version, and then by what it overlays: an acceptance by its proposal's rows, a withdrawal
+-- by what it withdraws.
 use Rattle.std.proofs.Common.{◌≡◌, ◌+◌, ◌≤◌, List, [], ◌∷◌, ◌++◌, length, drop, Option, Some, None, refl, ap, sym, ◌∙◌, arith, length-append, length-drop}
-use Rattle.std.specs.Prelude.{Bool, true, false}
+use Rattle.std.specs.Prelude.{true, false, is_some}
 use Rattle.st_net.specs.declared.entity.Row.{Row}
 use Rattle.st_net.specs.declared.entity.AppId.{AppId}
 use Rattle.st_event.specs.declared.event.Event.{Event}
-use Rattle.st_event.specs.declared.event.Event.TheVariants.{Submit, Check}
+use Rattle.st_event.specs.declared.event.Event.TheVariants.{Submit, Check, Withdraw}
 use Rattle.st_event.specs.declared.reply.Reply.{Reply}
 use Rattle.st_event.specs.declared.reply.Reply.TheVariants.{Queued, Decided}
 use Rattle.st_event.specs.declared.reply.Receipt.{Receipt}
@@ -13,10 +13,11 @@ use Rattle.st_event.specs.declared.journal.Entry.{Entry}
 use Rattle.st_event.specs.declared.event.Proposal.{Proposal}
 use Rattle.st_net.specs.Groups.{Group}
 use Rattle.st_net.specs.Merge.{merge_of, target_with}
-use Rattle.st_event.specs.Proposals.{is_accepted, is_accepting, is_acceptance, makes_version, proposals, verdicts, pending, accepted, first_rows, overlay_in, with_overlay, overlays, target}
+use Rattle.st_event.specs.Proposals.{is_accepted, is_accepting, is_acceptance, makes_version, proposals, verdicts, pending, accepted, first_rows, overlay_in, withdrawal_in, with_overlay, overlays, target}
 use Rattle.st_event.specs.Overlaid.{overlaid_by}
+use Rattle.st_event.specs.Receipts.{rows_withdrawn}
 use Rattle.st_event.specs.Replies.{reply, check_reply, receipt_of}
-use Rattle.st_event.specs.Legal.{IsLegal, IsNext}
+use Rattle.st_event.specs.Legal.{IsLegal}
 use Rattle.st_net.proofs.MergeLaws.{merge_of-push_all}
 use Rattle.st_event.proofs.Queues.{accepted_among-proposal, accepted_among-verdict}
 
@@ -84,11 +85,26 @@ accepted_next past receipt p rest first accepts = rw (accepted_among-verdict (pr
 
 pub overlay_none : (event : Event) (answer : Reply) (first : List Row) → makes_version event answer ≡ false → overlay_in event answer first ≡ None
 overlay_none Check answer first none = rw none refl
+overlay_none (Withdraw at) answer first none = nothing (rows_withdrawn answer) none
+  where
+    nothing : (o : Option (List Row)) → is_some o ≡ false → o ≡ None
+    nothing None is = refl
+    nothing (Some rows) is = cc
 overlay_none _ answer first none = refl
 
 pub overlay_some : (event : Event) (answer : Reply) (first : List Row) → is_acceptance event answer ≡ true → overlay_in event answer first ≡ Some first
 overlay_some Check answer first accepts = rw accepts refl
 overlay_some _ answer first accepts = cc
+
+-- an acceptance withdraws nothing
+pub withdraws_none : (event : Event) (answer : Reply) → is_acceptance event answer ≡ true → withdrawal_in event answer ≡ None
+withdraws_none Check answer accepts = refl
+withdraws_none _ answer accepts = cc
+
+-- and what accepts nothing overlays what it withdraws
+pub overlays_withdrawal : (event : Event) (answer : Reply) (first : List Row) → is_acceptance event answer ≡ false → overlay_in event answer first ≡ withdrawal_in event answer
+overlays_withdrawal Check answer first none = rw none refl
+overlays_withdrawal _ answer first none = refl
 
 pub overlays_same : (past : List Entry) (entry : Entry) → makes_version entry.event entry.reply ≡ false → overlays (entry ∷ past) ≡ overlays past
 overlays_same past entry none = ap (λ (o : Option (List Row)). with_overlay o (overlays past)) (overlay_none entry.event entry.reply (first_rows (pending past)) none)
@@ -123,21 +139,7 @@ target_next g past receipt p rest first accepts =
     target_accepted g past (record { event = Check; reply = Decided receipt }) accepts
     ∙ ap (λ (q : List Proposal). target_with (target g past) (first_rows q)) first
 
--- the overlays of a legal journal are the accepted proposals' rows
-
-accepted_step : (g : Group) (past : List Entry) (event : Event) (answer : Reply) → IsAccepted g past event answer → accepted (record { event = event; reply = answer } ∷ past) ≡ accepted past ++ first_rows (pending past) ∷ []
+pub accepted_step : (g : Group) (past : List Entry) (event : Event) (answer : Reply) → IsAccepted g past event answer → accepted (record { event = event; reply = answer } ∷ past) ≡ accepted past ++ first_rows (pending past) ∷ []
 accepted_step g past event answer is =
     let next = accepted_next past (receipt_of g past is.proposal) is.proposal is.rest is.first is.accepts in
     rw (is.check, is.answers) (next ∙ ap (λ (q : List Proposal). accepted past ++ first_rows q ∷ []) (sym is.first))
-
-listed_at : (g : Group) (past : List Entry) (entry : Entry) (b : Bool) → is_acceptance entry.event entry.reply ≡ b → IsLegal g past → IsNext g past entry → overlays past ≡ accepted past → overlays (entry ∷ past) ≡ accepted (entry ∷ past)
-listed_at g past entry true is legal next before =
-    overlays_next past entry is
-    ∙ ap (λ (all : List (List Row)). all ++ first_rows (pending past) ∷ []) before
-    ∙ sym (accepted_step g past entry.event entry.reply (acceptance g past entry.event entry.reply next.answer is))
-listed_at g past entry false is legal next before =
-    overlays_same past entry is ∙ before ∙ sym (accepted_same g past entry.event entry.reply (legal_orderly g past legal) next.answer is)
-
-pub overlays_are_accepted : (g : Group) (past : List Entry) → IsLegal g past → overlays past ≡ accepted past
-overlays_are_accepted g [] legal = refl
-overlays_are_accepted g (entry ∷ past) legal = listed_at g past entry (is_acceptance entry.event entry.reply) refl legal.1 legal.0 (overlays_are_accepted g past legal.1)

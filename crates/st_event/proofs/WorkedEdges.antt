@@ -8,7 +8,7 @@ use Rattle.st_net.specs.declared.entity.Var.TheVariants.{Power, Firmware, Config
 use Rattle.st_net.specs.declared.entity.Prio.TheVariants.{Low, High}
 use Rattle.st_event.specs.declared.journal.Entry.{Entry}
 use Rattle.st_event.specs.declared.event.Event.{Event}
-use Rattle.st_event.specs.declared.event.Event.TheVariants.{Submit, Check, Lock, Unlock, Send, Deliver, Finish, Report as make_report, Hear, Fail}
+use Rattle.st_event.specs.declared.event.Event.TheVariants.{Submit, Check, Lock, Unlock, Send, Deliver, Finish, Report as make_report, Hear, Fail, Withdraw}
 use Rattle.st_event.specs.declared.reply.Reply.{Reply}
 use Rattle.st_event.specs.declared.reply.Reply.TheVariants.{Queued, Granted, Released, NotYours, Sent, Blocked, Begun, Stale, NoSuch, Done, Reported, Taken, Old, Changed}
 use Rattle.st_event.specs.declared.reply.Verdict.TheVariants.{Accepted, Refused}
@@ -227,7 +227,7 @@ two_rows = row a1 Firmware 2 ∷ row a2 Firmware 1 ∷ []
 overlaid_by_acceptance : (overlay_in Check (decided 1 2 (Accepted 1)) two_rows ≡ Some two_rows) × (overlay_in Check (decided 1 2 (breaks CutOff 5 0)) two_rows ≡ None) × (overlay_in Check Granted two_rows ≡ None)
 overlaid_by_acceptance = (refl, refl, refl)
 
-overlaid_by_checks_alone : map (λ event. overlay_in event (decided 1 2 (Accepted 1)) two_rows) (Submit up two_rows ∷ Lock up a1 Low ∷ Unlock up a1 Low ∷ Send a1 ∷ Deliver 1 ∷ Finish a1 ∷ make_report a1 ∷ Hear 1 ∷ Fail a1 usual 5 ∷ []) ≡ None ∷ None ∷ None ∷ None ∷ None ∷ None ∷ None ∷ None ∷ None ∷ []
+overlaid_by_checks_alone : map (λ event. overlay_in event (decided 1 2 (Accepted 1)) two_rows) (Submit up two_rows ∷ Lock up a1 Low ∷ Unlock up a1 Low ∷ Send a1 ∷ Deliver 1 ∷ Finish a1 ∷ make_report a1 ∷ Hear 1 ∷ Fail a1 usual 5 ∷ Withdraw a1 ∷ []) ≡ None ∷ None ∷ None ∷ None ∷ None ∷ None ∷ None ∷ None ∷ None ∷ None ∷ []
 overlaid_by_checks_alone = refl
 
 -- an overlay alters the entity whose value it moves, and not one that it sets to the value that it had

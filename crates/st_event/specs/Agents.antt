@@ -4,7 +4,7 @@ use Rattle.st_net.specs.declared.entity.Entity.{Entity}
 use Rattle.st_net.specs.declared.entity.Vals.{Vals}
 use Rattle.st_net.specs.declared.message.Command.{Command}
 use Rattle.st_event.specs.declared.event.Event.{Event}
-use Rattle.st_event.specs.declared.event.Event.TheVariants.{Submit, Check, Lock, Unlock, Send, Deliver, Finish, Report as make_report, Hear, Fail}
+use Rattle.st_event.specs.declared.event.Event.TheVariants.{Submit, Check, Lock, Unlock, Send, Deliver, Finish, Report as make_report, Hear, Fail, Withdraw}
 use Rattle.st_event.specs.declared.journal.Entry.{Entry}
 use Rattle.st_net.specs.Entities.{is_same_entity}
 use Rattle.st_net.specs.Groups.{Group}
@@ -29,3 +29,4 @@ agent_after (Lock app at prio) commands e a = a
 agent_after (Unlock app at prio) commands e a = a
 agent_after (Send at) commands e a = a
 agent_after (Hear n) commands e a = a
+agent_after (Withdraw at) commands e a = a

@@ -1,5 +1,5 @@
 -- Laws of legal journals, and of one entry more.
-use Rattle.std.specs.Prelude.{◌≡◌, ◌≢◌, ℕ, ◌+◌, ◌<◌, ◌≤◌, true, false, Bool, None, Some, List, [], ◌∷◌, ◌++◌, length, ◌⊎◌, ◌↔◌, All}
+use Rattle.std.specs.Prelude.{◌≡◌, ◌≢◌, ℕ, ◌+◌, ◌<◌, ◌≤◌, true, false, Bool, None, Some, is_some, List, [], ◌∷◌, ◌++◌, length, ◌⊎◌, ◌↔◌, All}
 use mathlib.Core.List.{IsPrefix}
 use Rattle.st_net.specs.declared.entity.AppId.{AppId}
 use Rattle.st_net.specs.declared.entity.Entity.{Entity}
@@ -10,11 +10,12 @@ use Rattle.st_net.specs.declared.message.Command.{Command}
 use Rattle.st_net.specs.declared.message.Report.{Report}
 use Rattle.st_event.specs.declared.event.Event.{Event}
 use Rattle.st_event.specs.declared.event.Proposal.{Proposal}
-use Rattle.st_event.specs.declared.event.Event.TheVariants.{Check, Deliver, Hear}
-use Rattle.st_event.specs.declared.reply.Reply.TheVariants.{NoSuch}
+use Rattle.st_event.specs.declared.event.Event.TheVariants.{Check, Deliver, Hear, Withdraw}
+use Rattle.st_event.specs.declared.reply.Reply.TheVariants.{NoSuch, Kept}
 use Rattle.st_event.specs.declared.journal.Entry.{Entry}
 use Rattle.st_event.specs.declared.journal.TheConstants.{MAX_PENDING}
-use Rattle.st_net.specs.Entities.{value_of}
+use Rattle.st_net.specs.declared.entity.Row.{Row}
+use Rattle.st_net.specs.Entities.{value_of, is_same_entity, is_var_of}
 use Rattle.st_net.specs.declared.topo.LinkOpening.{LinkOpening}
 use Rattle.st_net.specs.declared.promise.Promise.{Promise}
 use Rattle.st_net.specs.Groups.{Group, IsSound, IsEntityOf, AreLinks, opening_of}
@@ -26,12 +27,14 @@ use Rattle.st_net.specs.UpGraph.{IsWalk}
 use Rattle.st_net.specs.Cuts.{IsCut, cut_value, least_cut, is_in_least_side}
 use Rattle.st_net.specs.Promises.{Keeps}
 use Rattle.st_net.specs.Demands.{demand_count, HoldsIn, is_held_in}
-use Rattle.st_event.specs.Proposals.{accepted, deciders, pending, proposals, first_rows, is_acceptance, overlay_in, overlays, version, target}
+use Rattle.st_event.specs.Proposals.{accepted, deciders, pending, proposals, first_rows, is_acceptance, overlay_in, overlays, withdrawn, version, target}
 use Rattle.st_event.specs.Overlaid.{overlaid_by}
 use Rattle.st_event.specs.Moments.{stamp, fence, work, vals, commands, reports}
 use Rattle.st_net.specs.Reports.{opening_report}
 use Rattle.st_event.specs.Observed.{observed, sure}
-use Rattle.st_event.specs.Replies.{reply}
+use Rattle.st_event.specs.Receipts.{rows_withdrawn}
+use Rattle.st_event.specs.Judge.{lack_at}
+use Rattle.st_event.specs.Replies.{governing, reply}
 use Rattle.st_event.specs.Legal.{IsLegal, IsNext, AtEach}
 use Rattle.st_event.specs.Network.{KeepsPromises}
 use Rattle.st_event.specs.Facts.{AgentsAgree}
@@ -82,14 +85,45 @@ AcceptedMoves = (g : Group) (past : List Entry) (entry : Entry) → IsLegal g pa
 abbrev pub OverlaysMove : Type 0
 OverlaysMove = (g : Group) (past : List Entry) (entry : Entry) → target g (entry ∷ past) ≡ overlaid_by (overlay_in entry.event entry.reply (first_rows (pending past))) (target g past)
 
--- the overlays are the rows of the accepted proposals; so the target is their merge, and the version their number
-pub record OverlaysAccepted (g : Group) (past : List Entry) : Type 0 where
-  pub list : overlays past ≡ accepted past
-  pub merge : target g past ≡ merge_of g (accepted past)
-  pub count : version past ≡ length (accepted past)
+-- a list begins with an item, and behind it is as told
+pub record BeginsWith (list : List (List Row)) (rows : List Row) (rest : List (List Row) → Type 0) : Type 0 where
+  pub behind : List (List Row)
+  pub begins : list ≡ rows ∷ behind
+  pub rest_is : rest behind
 
-abbrev pub OverlaysAreAccepted : Type 0
-OverlaysAreAccepted = (g : Group) (past : List Entry) → IsLegal g past → OverlaysAccepted g past
+-- the items of a list are those of two others, each of these in its order
+abbrev pub IsMixOf : List (List Row) → List (List Row) → List (List Row) → Type 0
+IsMixOf [] ones others = (ones ≡ []) × (others ≡ [])
+IsMixOf (rows ∷ mixed) ones others = BeginsWith ones rows (λ behind. IsMixOf mixed behind others) ⊎ BeginsWith others rows (λ behind. IsMixOf mixed ones behind)
+
+-- the overlays are the rows of the accepted proposals and those of the withdrawals, mixed; so the version is how many there are of both,
+-- and without a withdrawal the overlays are the accepted rows
+pub record OverlaysListed (g : Group) (past : List Entry) : Type 0 where
+  pub mixed : IsMixOf (overlays past) (accepted past) (withdrawn past)
+  pub merge : target g past ≡ merge_of g (overlays past)
+  pub count : version past ≡ length (accepted past) + length (withdrawn past)
+  pub alone : withdrawn past ≡ [] → overlays past ≡ accepted past
+
+abbrev pub OverlaysAreListed : Type 0
+OverlaysAreListed = (g : Group) (past : List Entry) → IsLegal g past → OverlaysListed g past
+
+-- what a withdrawal of an entity makes: the entity has a stamp of the entry and its observed values as its target, and all others stay
+pub record WithdrawsOne (g : Group) (past : List Entry) (entry : Entry) (at : Entity) : Type 0 where
+  pub stamped : stamp g (entry ∷ past) at ≡ length past + 1
+  pub back : (v : Var) → is_var_of at v ≡ true → target g (entry ∷ past) at v ≡ value_of at (observed g past at).vals v
+  pub stamps_stay : (e : Entity) → is_same_entity at e ≡ false → stamp g (entry ∷ past) e ≡ stamp g past e
+  pub targets_stay : (e : Entity) → is_same_entity at e ≡ false → target g (entry ∷ past) e ≡ target g past e
+
+abbrev pub WithdrawalsMoveOne : Type 0
+WithdrawalsMoveOne = (g : Group) (past : List Entry) (entry : Entry) (at : Entity) → entry.event ≡ Withdraw at → is_some (rows_withdrawn entry.reply) ≡ true → IsNext g past entry → WithdrawsOne g past entry at
+
+-- a Withdraw entry leaves the sure set as it was
+abbrev pub WithdrawalsLeaveSure : Type 0
+WithdrawalsLeaveSure = (g : Group) (past : List Entry) (entry : Entry) (at : Entity) → entry.event ≡ Withdraw at → IsNext g past entry → sure g (entry ∷ past) ≡ sure g past
+
+-- Kept is the answer exactly where the observed values are the target's, or the governing variable can be set
+abbrev pub KeptTells : Type 0
+KeptTells = (g : Group) (past : List Entry) (e : Entity) → (reply g past (Withdraw e) ≡ Kept) ↔ (((v : Var) → is_var_of e v ≡ true → value_of e (observed g past e).vals v ≡ target g past e v) ⊎ (lack_at g (observed g past) (target g past) e (governing e (observed g past e).vals (target g past e)) ≡ None))
 
 -- what the target was overlaid with, any journal that goes on has first
 abbrev pub OverlaysGoOn : Type 0
@@ -112,8 +146,8 @@ pub record IsInRange (g : Group) (e : Entity) (vals : Vals) : Type 0 where
   pub entity : IsEntityOf g e
   pub range : are_in_range e vals ≡ true
 
--- what was overlaid fits the group; so what each entity is to become, what is sent to it, what its agent has in work and has, and what it
--- reported is in range
+-- what was overlaid fits the group; so what each entity is to become, what is sent to it, what its agent has in work and has, what it
+-- reported and what is observed of it is in range
 pub record AllInRange (g : Group) (past : List Entry) : Type 0 where
   pub overlaid : All (All (RowFits g)) (overlays past)
   pub targets : (e : Entity) → IsEntityOf g e → are_in_range e (vals_in g (target g past) e) ≡ true
@@ -121,6 +155,7 @@ pub record AllInRange (g : Group) (past : List Entry) : Type 0 where
   pub working : (e : Entity) → IsEntityOf g e → are_in_range e (work g past e) ≡ true
   pub values : (e : Entity) → IsEntityOf g e → are_in_range e (vals g past e) ≡ true
   pub made : (n : ℕ) (r : Report) → nth (reports g past) n ≡ Some r → IsInRange g r.entity r.vals
+  pub seen : (e : Entity) → IsEntityOf g e → are_in_range e (observed g past e).vals ≡ true
 
 abbrev pub AllAreInRange : Type 0
 AllAreInRange = (g : Group) (past : List Entry) → IsSound g → IsLegal g past → AllInRange g past

@@ -3,7 +3,7 @@ use Rattle.std.specs.Prelude.{◌≡◌, ℕ, ◌<◌, true, List, [], ◌∷◌
 use Rattle.st_net.specs.declared.entity.Vals.{Vals}
 use Rattle.st_net.specs.declared.entity.Entity.{Entity}
 use Rattle.st_event.specs.declared.event.Event.{Event}
-use Rattle.st_event.specs.declared.event.Event.TheVariants.{Submit, Check, Lock, Unlock, Send, Deliver, Finish, Report as make_report, Hear, Fail}
+use Rattle.st_event.specs.declared.event.Event.TheVariants.{Submit, Check, Lock, Unlock, Send, Deliver, Finish, Report as make_report, Hear, Fail, Withdraw}
 use Rattle.st_event.specs.declared.journal.Entry.{Entry}
 use Rattle.st_event.specs.declared.journal.TheConstants.{MAX_ENTRIES}
 use Rattle.st_net.specs.Groups.{Group, IsEntityOf}
@@ -27,6 +27,7 @@ Fits g (Finish e) = IsEntityOf g e
 Fits g (make_report e) = IsEntityOf g e
 Fits g (Hear n) = Unit {0}
 Fits g (Fail e vals health) = FailFits g e vals health
+Fits g (Withdraw e) = IsEntityOf g e
 
 -- there is room for the entry, its event fits, and its reply is the one that the entries before it call for
 pub record IsNext (g : Group) (past : List Entry) (entry : Entry) : Type 0 where

@@ -4,7 +4,7 @@ use Rattle.st_net.specs.declared.entity.AppId.{AppId}
 use Rattle.st_net.specs.declared.entity.Entity.{Entity}
 use Rattle.st_net.specs.declared.entity.Prio.{Prio}
 use Rattle.st_event.specs.declared.event.Event.{Event}
-use Rattle.st_event.specs.declared.event.Event.TheVariants.{Submit, Check, Lock, Unlock, Send, Deliver, Finish, Report, Hear, Fail}
+use Rattle.st_event.specs.declared.event.Event.TheVariants.{Submit, Check, Lock, Unlock, Send, Deliver, Finish, Report, Hear, Fail, Withdraw}
 use Rattle.st_event.specs.declared.reply.Reply.{Reply}
 use Rattle.st_event.specs.declared.reply.Reply.TheVariants.{Granted, Released}
 use Rattle.st_event.specs.declared.journal.Entry.{Entry}
@@ -30,6 +30,7 @@ holder_after (Finish at) reply before = before
 holder_after (Report at) reply before = before
 holder_after (Hear n) reply before = before
 holder_after (Fail at vals health) reply before = before
+holder_after (Withdraw at) reply before = before
 
 -- the application of the last grant of a lock that its own release does not follow
 abbrev pub holder : List Entry → Entity → Prio → Option AppId

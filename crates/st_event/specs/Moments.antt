@@ -7,7 +7,7 @@ use Rattle.st_net.specs.declared.entity.Vals.{Vals}
 use Rattle.st_net.specs.declared.message.Command.{Command}
 use Rattle.st_net.specs.declared.message.Report.{Report}
 use Rattle.st_event.specs.declared.event.Event.{Event}
-use Rattle.st_event.specs.declared.event.Event.TheVariants.{Submit, Check, Lock, Unlock, Send, Deliver, Finish, Report as make_report, Hear, Fail}
+use Rattle.st_event.specs.declared.event.Event.TheVariants.{Submit, Check, Lock, Unlock, Send, Deliver, Finish, Report as make_report, Hear, Fail, Withdraw}
 use Rattle.st_event.specs.declared.reply.Reply.{Reply}
 use Rattle.st_event.specs.declared.reply.Reply.TheVariants.{Taken, Sent}
 use Rattle.st_event.specs.declared.journal.Entry.{Entry}
@@ -91,6 +91,7 @@ vals_after (Send at) e busy work before = before
 vals_after (Deliver n) e busy work before = before
 vals_after (make_report at) e busy work before = before
 vals_after (Hear n) e busy work before = before
+vals_after (Withdraw at) e busy work before = before
 
 abbrev pub health_after : Event → Entity → ℕ → ℕ
 health_after (Fail at vals health) e before = if is_same_entity at e then health else before
@@ -103,6 +104,7 @@ health_after (Deliver n) e before = before
 health_after (Finish at) e before = before
 health_after (make_report at) e before = before
 health_after (Hear n) e before = before
+health_after (Withdraw at) e before = before
 
 -- an agent's health: that of the last failure, or else the opening's
 abbrev pub health : Group → List Entry → Entity → ℕ
@@ -125,6 +127,7 @@ commands_after (Finish at) reply command before = before
 commands_after (make_report at) reply command before = before
 commands_after (Hear n) reply command before = before
 commands_after (Fail at vals health) reply command before = before
+commands_after (Withdraw at) reply command before = before
 
 abbrev pub reports_after : Event → (Entity → Report) → List Report → List Report
 reports_after (make_report e) report before = before ++ report e ∷ []
@@ -137,6 +140,7 @@ reports_after (Deliver n) report before = before
 reports_after (Finish at) report before = before
 reports_after (Hear n) report before = before
 reports_after (Fail at vals health) report before = before
+reports_after (Withdraw at) report before = before
 
 abbrev mutual
   -- the number of the last entry that changed or renewed the target of an entity

@@ -1,11 +1,11 @@
 -- The proposals of a journal. A journal stands here with its newest entry first: `entry ∷ past` is the
 -- journal `past` with one more entry.
-use Rattle.std.specs.Prelude.{ℕ, ◌+◌, Bool, true, false, List, [], ◌∷◌, ◌++◌, length, drop, Option, Some, None, if◌then◌else◌}
+use Rattle.std.specs.Prelude.{ℕ, ◌+◌, Bool, true, false, List, [], ◌∷◌, ◌++◌, length, drop, Option, Some, None, is_some, if◌then◌else◌}
 use Rattle.st_net.specs.declared.entity.Row.{Row}
 use Rattle.st_net.specs.declared.entity.Entity.{Entity}
 use Rattle.st_net.specs.declared.entity.Var.{Var}
 use Rattle.st_event.specs.declared.event.Event.{Event}
-use Rattle.st_event.specs.declared.event.Event.TheVariants.{Submit, Check, Lock, Unlock, Send, Deliver, Finish, Report, Hear, Fail}
+use Rattle.st_event.specs.declared.event.Event.TheVariants.{Submit, Check, Lock, Unlock, Send, Deliver, Finish, Report, Hear, Fail, Withdraw}
 use Rattle.st_event.specs.declared.reply.Reply.{Reply}
 use Rattle.st_event.specs.declared.reply.Reply.TheVariants.{Queued}
 use Rattle.st_event.specs.declared.reply.Receipt.{Receipt}
@@ -15,7 +15,7 @@ use Rattle.st_event.specs.declared.journal.Entry.{Entry}
 use Rattle.st_event.specs.declared.event.Proposal.{Proposal}
 use Rattle.st_net.specs.Groups.{Group}
 use Rattle.st_net.specs.Merge.{merge_of}
-use Rattle.st_event.specs.Receipts.{receipt_given}
+use Rattle.st_event.specs.Receipts.{receipt_given, rows_withdrawn}
 
 abbrev pub is_queued : Reply → Bool
 is_queued (Queued ticket) = true
@@ -37,6 +37,7 @@ proposals_after (Finish entity) reply before = before
 proposals_after (Report entity) reply before = before
 proposals_after (Hear number) reply before = before
 proposals_after (Fail entity vals health) reply before = before
+proposals_after (Withdraw entity) reply before = before
 
 -- the proposals that were queued, the oldest first: the first has ticket 1
 abbrev pub proposals : List Entry → List Proposal
@@ -63,6 +64,7 @@ verdicts_after (Finish entity) reply before = before
 verdicts_after (Report entity) reply before = before
 verdicts_after (Hear number) reply before = before
 verdicts_after (Fail entity vals health) reply before = before
+verdicts_after (Withdraw entity) reply before = before
 
 -- the verdicts, the oldest first: the first decides ticket 1
 abbrev pub verdicts : List Entry → List Verdict
@@ -89,6 +91,7 @@ deciders_after (Finish entity) reply n before = before
 deciders_after (Report entity) reply n before = before
 deciders_after (Hear number) reply n before = before
 deciders_after (Fail entity vals health) reply n before = before
+deciders_after (Withdraw entity) reply n before = before
 
 abbrev pub deciders : List Entry → List ℕ
 deciders [] = []
@@ -125,11 +128,18 @@ abbrev pub is_acceptance : Event → Reply → Bool
 is_acceptance Check reply = is_accepting reply
 is_acceptance _ reply = false
 
--- whether the entry overlays the target, and so makes its next version
-abbrev pub makes_version : Event → Reply → Bool
-makes_version event reply = is_acceptance event reply
+-- the rows that an entry withdraws, where it withdraws any: they give variables of its entity the values that were observed
+abbrev pub withdrawal_in : Event → Reply → Option (List Row)
+withdrawal_in (Withdraw entity) reply = rows_withdrawn reply
+withdrawal_in _ reply = None
 
--- what an entry overlays the target with, by the rows of the oldest proposal that waits
+-- whether an entry overlays the target, and so makes its next version: it accepts a proposal or withdraws rows
+abbrev pub makes_version : Event → Reply → Bool
+makes_version Check reply = is_accepting reply
+makes_version (Withdraw entity) reply = is_some (rows_withdrawn reply)
+makes_version _ reply = false
+
+-- what an entry overlays the target with: where it accepts, the rows of the oldest proposal that waits; and what it withdraws
 abbrev pub overlay_in : Event → Reply → List Row → Option (List Row)
 overlay_in Check reply first = if is_accepting reply then Some first else None
 overlay_in (Submit app rows) reply first = None
@@ -141,6 +151,7 @@ overlay_in (Finish entity) reply first = None
 overlay_in (Report entity) reply first = None
 overlay_in (Hear number) reply first = None
 overlay_in (Fail entity vals health) reply first = None
+overlay_in (Withdraw entity) reply first = rows_withdrawn reply
 
 abbrev pub with_overlay : Option (List Row) → List (List Row) → List (List Row)
 with_overlay None before = before
@@ -150,6 +161,11 @@ with_overlay (Some rows) before = before ++ rows ∷ []
 abbrev pub overlays : List Entry → List (List Row)
 overlays [] = []
 overlays (entry ∷ past) = with_overlay (overlay_in entry.event entry.reply (first_rows (pending past))) (overlays past)
+
+-- the rows of each withdrawal, the oldest first
+abbrev pub withdrawn : List Entry → List (List Row)
+withdrawn [] = []
+withdrawn (entry ∷ past) = with_overlay (withdrawal_in entry.event entry.reply) (withdrawn past)
 
 -- the number of overlays
 abbrev pub version : List Entry → ℕ

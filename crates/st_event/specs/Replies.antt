@@ -6,9 +6,9 @@ use Rattle.st_net.specs.declared.entity.Vals.{Vals}
 use Rattle.st_net.specs.declared.entity.Var.{Var}
 use Rattle.st_net.specs.declared.entity.Entity.{Entity}
 use Rattle.st_event.specs.declared.event.Event.{Event}
-use Rattle.st_event.specs.declared.event.Event.TheVariants.{Submit, Check, Lock, Unlock, Send, Deliver, Finish, Report as make_report, Hear, Fail}
+use Rattle.st_event.specs.declared.event.Event.TheVariants.{Submit, Check, Lock, Unlock, Send, Deliver, Finish, Report as make_report, Hear, Fail, Withdraw}
 use Rattle.st_event.specs.declared.reply.Reply.{Reply}
-use Rattle.st_event.specs.declared.reply.Reply.TheVariants.{Queued, Full, Decided, Idle, Granted, Held, Released, NotYours, Sent, Settled, Blocked, Begun, Stale, NoSuch, Done, NotBusy, Reported, Taken, Old, Changed}
+use Rattle.st_event.specs.declared.reply.Reply.TheVariants.{Queued, Full, Decided, Idle, Granted, Held, Released, NotYours, Sent, Settled, Blocked, Begun, Stale, NoSuch, Done, NotBusy, Reported, Taken, Old, Changed, Withdrawn, Kept}
 use Rattle.st_event.specs.declared.journal.TheConstants.{MAX_PENDING}
 use Rattle.st_event.specs.declared.event.Proposal.{Proposal}
 use Rattle.st_event.specs.declared.reply.Receipt.{Receipt}
@@ -64,6 +64,21 @@ blocked_or_sent None row sent = Sent (sent + 1)
 abbrev pub send_reply : Group → List Entry → Entity → Var → Reply
 send_reply g past e v = if is_settled g past e then Settled else blocked_or_sent (lack_at g (observed g past) (target g past) e v) (row_to e v (target g past e)) (length (commands g past))
 
+-- a row for each of these variables whose observed value is not the target's, in order: it has the observed value
+abbrev pub rows_back : Entity → (Var → ℕ) → (Var → ℕ) → List Var → List Row
+rows_back e value target [] = []
+rows_back e value target (v ∷ vs) = if value v == target v then rows_back e value target vs else row_to e v value ∷ rows_back e value target vs
+
+-- nothing is withdrawn where no value differs, or where nothing lacks; else the next version has the rows
+abbrev pub kept_or_withdrawn : Option Lack → List Row → ℕ → Reply
+kept_or_withdrawn None rows version = Kept
+kept_or_withdrawn (Some lack) [] version = Kept
+kept_or_withdrawn (Some lack) (row ∷ rows) version = Withdrawn (version + 1) (row ∷ rows)
+
+-- what an entity was observed to have, and what it is to have: where the governing variable can't be set, the target goes back to the former
+abbrev pub withdraw_reply : Group → (Entity → Report) → (Entity → Var → ℕ) → ℕ → Entity → Reply
+withdraw_reply g observed target version e = kept_or_withdrawn (lack_at g observed target e (governing e (observed e).vals (target e))) (rows_back e (value_of e (observed e).vals) (target e) (vars_of e)) version
+
 abbrev pub deliver_reply : (Entity → ℕ) → ℕ → Option Command → Reply
 deliver_reply fence sent None = NoSuch sent
 deliver_reply fence sent (Some c) = if nat_lt (fence c.entity) c.stamp then Begun else Stale (fence c.entity)
@@ -84,3 +99,4 @@ reply g past (Finish e) = if busy g past e then Done else NotBusy
 reply g past (make_report e) = Reported (length (reports g past) + 1)
 reply g past (Hear n) = hear_reply (observed g past) (length (reports g past)) (nth (reports g past) n)
 reply g past (Fail e vals health) = Changed
+reply g past (Withdraw e) = withdraw_reply g (observed g past) (target g past) (version past) e

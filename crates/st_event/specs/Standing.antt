@@ -11,7 +11,7 @@ use Rattle.st_net.specs.declared.message.Command.{Command}
 use Rattle.st_net.specs.declared.message.Report.{Report}
 use Rattle.st_event.specs.declared.reply.Verdict.{Verdict}
 use Rattle.st_event.specs.declared.event.Event.{Event}
-use Rattle.st_event.specs.declared.event.Event.TheVariants.{Submit, Check, Lock, Unlock, Send, Deliver, Finish, Report as make_report, Hear, Fail}
+use Rattle.st_event.specs.declared.event.Event.TheVariants.{Submit, Check, Lock, Unlock, Send, Deliver, Finish, Report as make_report, Hear, Fail, Withdraw}
 use Rattle.st_event.specs.declared.reply.Reply.{Reply}
 use Rattle.st_event.specs.declared.reply.Reply.TheVariants.{Queued, Full, Decided, Idle, Settled, Done, NotBusy, Reported, Changed}
 use Rattle.st_event.specs.declared.journal.TheConstants.{MAX_PENDING}
@@ -26,9 +26,9 @@ use Rattle.st_event.specs.Moments.{is_taken, renews, commands_after, reports_aft
 use Rattle.st_net.specs.Reports.{later_report, is_settled_by, is_sure_by}
 use Rattle.st_event.specs.Observed.{observed}
 use Rattle.st_event.specs.Judge.{judge, lack_at}
-use Rattle.st_event.specs.Replies.{lock_reply, unlock_reply, governing, blocked_or_sent, row_to, deliver_reply, hear_reply}
+use Rattle.st_event.specs.Replies.{lock_reply, unlock_reply, governing, blocked_or_sent, row_to, withdraw_reply, deliver_reply, hear_reply}
 use Rattle.st_event.specs.Agents.{agent_of, agent_after}
-use Rattle.st_event.specs.Receipts.{receipt_given}
+use Rattle.st_event.specs.Receipts.{receipt_given, rows_withdrawn}
 
 -- what the checker keeps: how many tickets were given, the entries that decided tickets 1, 2, 3 and so on, and the rest by its name
 pub record Standing : Type 0 where
@@ -96,6 +96,7 @@ reply_in g s w n (Finish e) = if is_at_work (w.agent e).work then Done else NotB
 reply_in g s w n (make_report e) = Reported (length w.reports + 1)
 reply_in g s w n (Hear k) = hear_reply s.observed (length w.reports) (nth w.reports k)
 reply_in g s w n (Fail e vals health) = Changed
+reply_in g s w n (Withdraw e) = withdraw_reply g s.observed s.target s.version e
 
 -- the stamps after rows are overlaid as entry n, and after a report is taken as entry n
 abbrev pub stamp_altered : Group → (Entity → Var → ℕ) → List Row → ℕ → (Entity → ℕ) → Entity → ℕ
@@ -145,6 +146,7 @@ standing_after g s w n (Deliver k) reply = s
 standing_after g s w n (Finish at) reply = s
 standing_after g s w n (make_report at) reply = s
 standing_after g s w n (Fail at vals health) reply = s
+standing_after g s w n (Withdraw at) reply = overlay_one g s n (rows_withdrawn reply)
 
 abbrev pub command_in : Group → Standing → Entity → Command
 command_in g s e = record { entity = e; stamp = s.stamp e; vals = vals_in g s.target e }

@@ -55,6 +55,10 @@ pub enum Event {
         vals: Vals,
         health: u32,
     },
+    /// What an entity's target asks for that can't be set now is withdrawn: its target becomes what was observed of it.
+    Withdraw {
+        entity: Entity,
+    },
 }
 
 /// What an application asked for.
@@ -100,6 +104,7 @@ impl Event {
                 vals: *vals,
                 health: *health,
             },
+            Event::Withdraw { entity } => Event::Withdraw { entity: *entity },
         })
     }
 }

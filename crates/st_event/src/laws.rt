@@ -1,7 +1,7 @@
 //! Laws of the definitions over journals. Each function does nothing: its contract is the law, for the proofs of the
 //! crates that keep a journal or claim something of one.
 
-ghost use Rattle.st_event.specs.Laws.{AcceptedAreDecided, AcceptedGoesOn, AcceptedMoves, AgentsMove, AllAreInRange, ChecksTakeNoPromise, FenceIsGreatest, FencesNeverFall, FewWait, HolderIsLastGrant, JournalsAreApart, LeastSideIsCut, LeastSideIsOne, LegalAgentsAgree, LegalJournalsKeepPromises, MoreEntitiesKeepDemands, MoreEntitiesKeepPromises, NoSuchCommand, NoSuchReport, NoWalkIsNoCut, ObservedIsGreatest, OverlaysAreAccepted, OverlaysGoOn, OverlaysMove, ReportsAscend, StampsAreEntries, StampsNeverFall, StandingMoves, StandingReplies, TargetOpens, TestsTellDemands, TicketsArePending, VersionsAreFew, WiresMove};
+ghost use Rattle.st_event.specs.Laws.{AcceptedAreDecided, AcceptedGoesOn, AcceptedMoves, AgentsMove, AllAreInRange, ChecksTakeNoPromise, FenceIsGreatest, FencesNeverFall, FewWait, HolderIsLastGrant, JournalsAreApart, KeptTells, LeastSideIsCut, LeastSideIsOne, LegalAgentsAgree, LegalJournalsKeepPromises, MoreEntitiesKeepDemands, MoreEntitiesKeepPromises, NoSuchCommand, NoSuchReport, NoWalkIsNoCut, ObservedIsGreatest, OverlaysAreListed, OverlaysGoOn, OverlaysMove, ReportsAscend, StampsAreEntries, StampsNeverFall, StandingMoves, StandingReplies, TargetOpens, TestsTellDemands, TicketsArePending, VersionsAreFew, WiresMove, WithdrawalsLeaveSure, WithdrawalsMoveOne};
 
 /// Each legal journal of a sound group keeps the group's promises at every moment: a sure entity is up or failed
 /// untold; while nothing fails of itself, a promise that held at the start holds in the sure set, in the network, and
@@ -28,18 +28,26 @@ pub fn stamps_never_fall()
 {}
 
 /// A target is its opening overlaid by what each entry overlays it with, in order; in a legal journal these are the rows of
-/// the accepted proposals.
+/// the accepted proposals and of the withdrawals.
 pub fn target_is_merge()
     ensures opens { TargetOpens }
     ensures overlaid { OverlaysMove }
     ensures listed { AcceptedMoves }
-    ensures accepted { OverlaysAreAccepted }
+    ensures mixed { OverlaysAreListed }
 {}
 
 /// What a journal overlaid its target with, each journal that goes on from it has first; and what it accepted, each legal one.
 pub fn accepted_begun()
     ensures overlaid { OverlaysGoOn }
     ensures accepted { AcceptedGoesOn }
+{}
+
+/// A withdrawal gives its entity what was observed of it as its target, under a new stamp, and leaves all others; it leaves the sure
+/// set. It is made except where the observed values are the target's or what the entity is to become can be set.
+pub fn withdrawals_go_back()
+    ensures moves { WithdrawalsMoveOne }
+    ensures sure { WithdrawalsLeaveSure }
+    ensures kept { KeptTells }
 {}
 
 /// There are no more versions than entries, and no more proposals were accepted than decided.
@@ -49,7 +57,7 @@ pub fn versions_are_few()
 {}
 
 /// In a legal journal of a sound group what entries overlay fits the group, and all values are in range: of targets, of commands, of
-/// agents and what they have in work, and of reports.
+/// agents and what they have in work, of reports, and what is observed.
 pub fn all_in_range()
     ensures { AllAreInRange }
 {}

@@ -3,6 +3,7 @@
 ghost use Rattle.std.specs.Prelude.{◌≡◌, IfOk, IsOk, IsTrue};
 ghost use Rattle.st_event.specs.Events.{is_without_list};
 
+use crate::rows::Rows;
 use st_net::{AppId, Broken, Entity, Prio, Row};
 use std::alloc::{AllocError, Global};
 
@@ -91,6 +92,11 @@ pub enum Reply {
     Old { kept: u32 },
     /// The entity is as the event says.
     Changed,
+    /// These rows, 1 to 4 of one entity, are the target's overlay of this version: they give each variable that had another target
+    /// the value that was observed.
+    Withdrawn { version: u32, rows: Rows },
+    /// Nothing is withdrawn: the entity's observed values are the target's, or what it is to become can be set.
+    Kept,
 }
 
 impl Cause {
@@ -143,7 +149,7 @@ impl Receipt {
 }
 
 impl Reply {
-    /// An equal reply. One that decides nothing takes no memory.
+    /// An equal reply. One that decides nothing and withdraws nothing takes no memory.
     pub fn copy(&self, alloc: Global) -> Result<Reply, AllocError>
         ensures copy { IfOk result (λ copy. copy ≡ self.now) }
         ensures without_memory { IsTrue (is_without_list self.now) → IsOk result }
@@ -169,6 +175,11 @@ impl Reply {
             Reply::Taken => Reply::Taken,
             Reply::Old { kept } => Reply::Old { kept: *kept },
             Reply::Changed => Reply::Changed,
+            Reply::Withdrawn { version, rows } => Reply::Withdrawn {
+                version: *version,
+                rows: rows.copy(alloc)?,
+            },
+            Reply::Kept => Reply::Kept,
         })
     }
 }

@@ -1,6 +1,7 @@
 -- A store as contracts see it, and what one call of it does.
 use Rattle.std.specs.Prelude.{◌≡◌, ℕ, ◌+◌, ◌<◌, ◌≤◌, ◌^◌, ◌⊎◌, nat_lt, Bool, List, [], ◌∷◌, ◌++◌, length, drop, if◌then◌else◌, Some}
 use Rattle.st_net.specs.declared.entity.Entity.{Entity}
+use Rattle.st_net.specs.declared.entity.Row.{Row}
 use Rattle.st_net.specs.declared.entity.Var.{Var}
 use Rattle.st_net.specs.declared.message.Report.{Report}
 use Rattle.st_net.specs.Groups.{Group}
@@ -86,6 +87,17 @@ pub record Decides (old new : StoreView) (entry : ℕ) (accept : Bool) : Type 0 
   pub version : new.version ≡ (if accept then old.version + 1 else old.version)
   pub target : value_in new.target ≡ (if accept then target_with (value_in old.target) (first_rows old.pending) else value_in old.target)
   pub versions : value_at new.versions ≡ (if accept then values_with (value_at old.versions) old.version (first_rows old.pending) else value_at old.versions)
+  pub observed : new.observed ≡ old.observed
+  pub of : (g : Group) → IsStoreOf g old → IsStoreOf g new
+
+-- rows are merged as the next version, and all else stays
+pub record Withdraws (old new : StoreView) (rows : List Row) : Type 0 where
+  pub pending : new.pending ≡ old.pending
+  pub tickets : new.tickets ≡ old.tickets
+  pub decided : new.decided ≡ old.decided
+  pub version : new.version ≡ old.version + 1
+  pub target : value_in new.target ≡ target_with (value_in old.target) rows
+  pub versions : value_at new.versions ≡ values_with (value_at old.versions) old.version rows
   pub observed : new.observed ≡ old.observed
   pub of : (g : Group) → IsStoreOf g old → IsStoreOf g new
 

@@ -1,5 +1,5 @@
 //! The store of one group. Proposals go in at one end and are decided at the other; what is accepted becomes the next version
-//! of the target. Reports come in by entity. The checker reads all of it.
+//! of the target, and so does what is withdrawn. Reports come in by entity. The checker reads all of it.
 
 ghost use Rattle.std.specs.Prelude.{◌≡◌, ℕ, ◌+◌, ◌==◌, ◌<◌, ◌≤◌, ◌^◌, ◌⊎◌, ◌↔◌, [], All, length, IfOk, IfSome, IsNone, OnErr};
 ghost use Rattle.std.specs.List.{list_any};
@@ -8,7 +8,7 @@ ghost use Rattle.st_net.specs.Groups.{Group};
 ghost use Rattle.st_net.specs.Numbered.{nth};
 ghost use Rattle.st_overlay.specs.Values.{IsIn, IsRowIn, value_in};
 ghost use Rattle.st_store.specs.Changes.{value_at as value_at_lem};
-ghost use Rattle.st_store.specs.Store.{StoreView, IsStoreOf, IsStart, IsCounted, IsOldest, IsWaiting, IsNeverGiven, IsValueAt, Decides, Keeps, OldChangesNothing, put_answer, store_put};
+ghost use Rattle.st_store.specs.Store.{StoreView, IsStoreOf, IsStart, IsCounted, IsOldest, IsWaiting, IsNeverGiven, IsValueAt, Decides, Keeps, OldChangesNothing, Withdraws, put_answer, store_put};
 
 use crate::pending::{Pending, Put};
 use crate::reports::{Keep, opening_reports};
@@ -112,8 +112,8 @@ impl Store {
         self.queue.iter().any(|pending| pending.app.0 == app.0)
     }
 
-    /// Decides the oldest proposal, as entry number `entry`, and gives the version after it: an accepted proposal is merged as
-    /// the next one. At `Err` nothing has changed.
+    /// Decides the oldest proposal, as entry number `entry`, and gives the version behind the decision: an accepted proposal is merged as
+    /// the next version. The latest version has to be below 4294967295. At `Err` nothing has changed.
     pub fn decide(&mut self, entry: u32, accept: bool) -> Result<u32, AllocError>
         requires waits { 0 < length self.old.pending }
         requires version { self.old.version + 1 < 2 ^ 32 }
@@ -127,6 +127,19 @@ impl Store {
         self.versions.merge_if(accept, rows)?;
         let _decided = self.queue.pop_front();
         self.decided.push_reserved(entry);
+        Ok(self.versions.version())
+    }
+
+    /// Merges rows that are withdrawn as the next version, and gives that version; no proposal is decided. The latest version has to be
+    /// below 4294967295. At `Err` nothing has changed, and the rows are dropped.
+    pub fn withdraw(&mut self, rows: Rows) -> Result<u32, AllocError>
+        requires fits { All (IsRowIn self.old.target) rows }
+        requires version { self.old.version + 1 < 2 ^ 32 }
+        ensures version { IfOk result (λ version. version ≡ self.new.version) }
+        ensures ok { IfOk result (λ version. Withdraws self.old self.new rows) }
+        ensures err { OnErr result (self.new ≡ self.old) }
+    {
+        self.versions.merge(rows.as_slice())?;
         Ok(self.versions.version())
     }
 

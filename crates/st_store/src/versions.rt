@@ -1,5 +1,5 @@
 //! A group's target with its version, and what it was at each version before. The store merges into it the proposals that are
-//! accepted.
+//! accepted, and the rows that are withdrawn.
 
 ghost use Rattle.std.specs.Prelude.{◌≡◌, ◌+◌, ◌<◌, ◌≤◌, ◌^◌, ℕ, true, length, All, IfOk, OnOk, OnErr};
 ghost use Rattle.st_overlay.specs.Values.{IsIn, IsRowIn, value_in};
@@ -77,7 +77,7 @@ impl Versions {
 
     /// Merges rows as the next version. It takes memory for as many changes as the rows have entities. At `Err` nothing has
     /// changed.
-    fn merge(&mut self, rows: &[Row]) -> Result<(), AllocError>
+    pub fn merge(&mut self, rows: &[Row]) -> Result<(), AllocError>
         requires rows { All (IsRowIn self.old.target) rows.now }
         requires version { self.old.version + 1 < 2 ^ 32 }
         ensures ok { OnOk result (MergesIf true self.old self.new rows.now) }

@@ -99,7 +99,7 @@ fn verdict_of(refusal: Option<Cause>, version: u32) -> Verdict
 }
 
 impl Control {
-    /// Judges the rows of a proposal by themselves, without the promises.
+    /// Judges the rows of a proposal by themselves, without what the group asks of the network.
     fn weigh_rows(&self, proposal: &Pending) -> Result<Weighed, AllocError>
         requires { RowsFit self.now.group proposal.now.rows }
         ensures judged { IfOk result (AreJudgedIn self.now (proposal_of proposal.now)) }
@@ -120,7 +120,7 @@ impl Control {
     }
 
     /// The first demand that would break while these entities change, as a cause. A judgement of just the same sets, made away from the
-    /// checker, is taken over. Of another judgement only the promises are taken over that it shows to hold in these sets too.
+    /// checker, is taken over. Of another judgement only the asks are taken over that the judgement shows to hold in these sets too.
     fn broken(
         &mut self,
         changed: &EntitySet,
@@ -140,7 +140,7 @@ impl Control {
         Ok(broken.map(Cause::Broken))
     }
 
-    /// Judges a proposal whose rows were judged: where the rows give no cause to refuse the proposal, the promises are judged.
+    /// Judges a proposal whose rows were judged: where the rows give no cause to refuse the proposal, the group's demands are judged.
     fn weigh(&mut self, rows: Weighed, judged: Option<&Judged>) -> Result<Weighed, AllocError>
         requires marks { MarksOf self.old.group rows.changed }
         ensures judged { (p : Proposal) → AreJudgedIn self.old p rows → IfOk result (IsJudgedIn self.old p) }
@@ -258,7 +258,8 @@ impl Control {
         })
     }
 
-    /// Decides the oldest proposal, as entry number `entry`. At `Err` nothing has changed but the count of runs.
+    /// Decides the oldest proposal, as entry number `entry`. The target's version has to be below 4294967295. At `Err` nothing has changed
+    /// but the count of runs.
     pub fn check(&mut self, entry: u32) -> Result<Check, AllocError>
         requires version { self.old.store.version + 1 < 2 ^ 32 }
         ensures ok { IfOk result (λ check. Moves self.old self.new entry check_event (reply_of_check check)) }
@@ -272,7 +273,8 @@ impl Control {
     }
 
     /// Does what `check` does, and gives the answer twice: one to hand out and one to enter in a journal. The receipt is copied before the
-    /// proposal is decided, since a copy can be refused memory. At `Err` nothing has changed but the count of runs.
+    /// proposal is decided, since a copy can be refused memory. The target's version has to be below 4294967295. At `Err` nothing has
+    /// changed but the count of runs.
     pub fn check_twice(&mut self, entry: u32) -> Result<Twice<Check>, AllocError>
         requires version { self.old.store.version + 1 < 2 ^ 32 }
         ensures ok { IfOk result (λ checks. Moves self.old self.new entry check_event (reply_of_check checks.told)) }

@@ -71,8 +71,8 @@ impl Control {
     }
 
     /// Decides the judged proposal, which is the oldest that is pending, as entry number `entry`, and gives the receipt twice, as
-    /// `check_twice` does. The verdict is that of how the checker stands now, whatever was judged. At `Err` nothing has changed but the
-    /// count of runs.
+    /// `check_twice` does. The verdict is that of how the checker stands now, whatever was judged. The target's version has to be below
+    /// 4294967295. At `Err` nothing has changed but the count of runs.
     pub fn commit_twice(
         &mut self,
         entry: u32,
@@ -94,7 +94,8 @@ impl Control {
 
     /// Decides a proposal that was judged away from the checker, as entry number `entry`. This checker gave the proposal's ticket, and each
     /// lower ticket is decided. `Gone` comes exactly where the ticket is decided too, and changes nothing. Else the verdict is that of how
-    /// the checker stands now, whatever was judged. At `Err` nothing has changed but the count of runs.
+    /// the checker stands now, whatever was judged. The target's version has to be below 4294967295. At `Err` nothing has changed but the
+    /// count of runs.
     pub fn commit(&mut self, entry: u32, judged: &Judged) -> Result<Commit, AllocError>
         requires may { MayCommit self.old judged.now.ticket }
         requires version { self.old.store.version + 1 < 2 ^ 32 }

@@ -1,5 +1,6 @@
 use Rattle.std.proofs.Common.{refl}
-use Rattle.st_event.proofs.LawLemmas.{accepted_moves, overlays_accepted}
+use Rattle.st_event.proofs.LawLemmas.{accepted_moves}
+use Rattle.st_event.proofs.Mixed.{overlays_listed}
 use Rattle.st_event.proofs.Targets.{target_overlaid}
 use Rattle.st_event.proofs.laws.target_is_merge.Goals as goal
 
@@ -12,5 +13,5 @@ returns-clause-overlaid c = target_overlaid
 pub returns-clause-listed : goal.returns-clause-listed
 returns-clause-listed c = accepted_moves
 
-pub returns-clause-accepted : goal.returns-clause-accepted
-returns-clause-accepted c = overlays_accepted
+pub returns-clause-mixed : goal.returns-clause-mixed
+returns-clause-mixed c = overlays_listed
