@@ -1,6 +1,6 @@
 -- An act's course adds at most its share to a journal, and where it stops the journal is full.
 use Rattle.std.proofs.Common.{◌≡◌, ℕ, zero, suc, ◌+◌, ◌*◌, ◌≤◌, List, [], ◌∷◌, length, Bool, true, false, refl, ap, arith}
-use Rattle.std.specs.Prelude.{◌==◌, nat_lt, not}
+use Rattle.std.specs.Prelude.{◌==◌, nat_lt, not, if◌then◌else◌}
 use Rattle.std.proofs.Math.Nat.{mul-suc, mul-le-mul_left}
 use Rattle.std.proofs.lemmas.Bool.Decides.{nat_tests}
 use Rattle.std.proofs.lemmas.List.Filters.{length-filter_both}
@@ -12,7 +12,7 @@ use Rattle.st_net.proofs.EntityOrder.{entities_count}
 use Rattle.st_event.specs.declared.act.Act.{Act}
 use Rattle.st_event.specs.declared.act.Act.TheVariants.{Propose, Await, Settle, Lock, Unlock, Read, ReadAt, Fail, Poll, Span}
 use Rattle.st_event.specs.declared.event.Event.{Event}
-use Rattle.st_event.specs.declared.event.Event.TheVariants.{Submit, Check, Lock as lock_event, Unlock as unlock_event, Fail as fail_event, Send, Finish, Report as make_report}
+use Rattle.st_event.specs.declared.event.Event.TheVariants.{Submit, Check, Lock as lock_event, Unlock as unlock_event, Fail as fail_event, Send, Finish, Report as make_report, Withdraw}
 use Rattle.st_event.specs.declared.event.Proposal.{Proposal}
 use Rattle.st_event.specs.declared.journal.Entry.{Entry}
 use Rattle.st_event.specs.declared.journal.TheConstants.{MAX_ENTRIES, MAX_PENDING}
@@ -22,7 +22,7 @@ use Rattle.st_event.specs.Observed.{is_settled}
 use Rattle.st_event.specs.Proposals.{pending}
 use Rattle.st_event.specs.Services.{entry_after}
 use Rattle.st_wire.specs.declared.line.WireLine.{WireLine}
-use Rattle.st_world.specs.Rounds.{Course, course_from, enter, enter_all, enter_told, follow_ups, turn, turns, unsettled, update_turn}
+use Rattle.st_world.specs.Rounds.{Course, course_from, enter, enter_all, enter_told, follow_ups, is_called_back, send_turn, turn, turns, unsettled, update_turn}
 use Rattle.st_world.specs.Acts.{act_course, all_checked, checked_while, course_of, failed_vals, has_one_of, is_none_left, is_something, rounds_done, with_room}
 use Rattle.st_world.proofs.RunLaws.{entered}
 use Rattle.st_world.proofs.TurnLaws.{enter-length, poll-length, proposed-length, turn-length, while-length}
@@ -104,8 +104,17 @@ module _ (g : Group) (P : Course → Type 0) (keeps : (course : Course) (event :
   told-keeps : (lines : List WireLine) (course : Course) (event : Event) → P course → P (enter_told g lines course event)
   told-keeps lines course event is = let next = enter g course event in all-keep next (follow_ups g lines next.past) (keeps course event is)
 
+  called-keeps : (course : Course) (e : Entity) (called : Bool) → P course → P (if called then enter g course (Withdraw e) else course)
+  called-keeps course e true is = keeps course (Withdraw e) is
+  called-keeps course e false is = is
+
+  send-keeps : (lines : List WireLine) (course : Course) (e : Entity) → P course → P (send_turn g lines course e)
+  send-keeps lines course e is =
+      let told = enter_told g lines course (Send e) in
+      called-keeps told e (is_called_back g told.past e) (told-keeps lines course (Send e) is)
+
   turn-keeps : (lines : List WireLine) (course : Course) (e : Entity) → P course → P (turn g lines course e)
-  turn-keeps lines course e is = told-keeps lines (update_turn g lines course e) (make_report e) (keeps (enter_told g lines course (Send e)) (Finish e) (told-keeps lines course (Send e) is))
+  turn-keeps lines course e is = told-keeps lines (update_turn g lines course e) (make_report e) (keeps (send_turn g lines course e) (Finish e) (send-keeps lines course e is))
 
   turns-keep : (lines : List WireLine) (course : Course) (es : List Entity) → P course → P (turns g lines course es)
   turns-keep lines course [] is = is

@@ -54,20 +54,20 @@ each_command =
     Propose 0 (firmware ∷ []) ∷ Await 0 ∷ Settle 0 2 ∷ Lock 0 (Device 2) High ∷ Unlock 0 (Device 2) High ∷ Fail 0 (Device 3) 0 []
     ∷ Poll 0 (Device 3) ∷ Read 0 (Device 2) Firmware ∷ ReadAt 0 1 (Device 2) Firmware ∷ []
 
--- 3 for the proposal, 64 for the await, 3 rounds of 8 turns of 7 for the settle, 1 for each of lock, unlock and fail, 3 for the poll, nothing for
+-- 3 for the proposal, 64 for the await, 3 rounds of 8 turns of 8 for the settle, 1 for each of lock, unlock and fail, 3 for the poll, nothing for
 -- the reads, and 64 for the application
-each_once : most (doc_of late (each_command ∷ [])) 0 ≡ 3 + 64 + 3 * (8 * 7) + 1 + 1 + 1 + 3 + 64
+each_once : most (doc_of late (each_command ∷ [])) 0 ≡ 3 + 64 + 3 * (8 * 8) + 1 + 1 + 1 + 3 + 64
 each_once = refl
 
-each_once_is : most (doc_of late (each_command ∷ [])) 0 ≡ 305
+each_once_is : most (doc_of late (each_command ∷ [])) 0 ≡ 329
 each_once_is = refl
 
--- without the line a turn has 5 entries, and a poll 2
-without_lines : most (doc_of [] (each_command ∷ [])) 0 ≡ 256
+-- without the line a turn has 6 entries, and a poll 2
+without_lines : most (doc_of [] (each_command ∷ [])) 0 ≡ 280
 without_lines = refl
 
 -- two applications, of which the second has no acts
-two_apps : most (doc_of late (each_command ∷ [] ∷ [])) 0 ≡ 369
+two_apps : most (doc_of late (each_command ∷ [] ∷ [])) 0 ≡ 393
 two_apps = refl
 
 -- acts on another group add nothing here, and a group that is not there has no entries

@@ -10,3 +10,5 @@ pub mod TurnLaws
 pub mod WorldLaws
 pub mod CommitLaws
 mod WorkedFollowUps
+mod WorkedCalls
+pub mod CallLaws

@@ -1,6 +1,6 @@
 -- Steps of a world as the course of their events, and what is left of a course from where a world stands.
 use Rattle.std.proofs.Common.{◌≡◌, ℕ, ◌+◌, ◌-◌, ◌^◌, ◌<◌, List, [], ◌∷◌, length, map, drop, get_or, refl, ap, sym, ◌∙◌, subst, add-one, drop-cons, arith}
-use Rattle.std.specs.Prelude.{false, not, All, Some, slice_get, reverse, Result, Ok, Err, OnErr}
+use Rattle.std.specs.Prelude.{false, not, ◌==◌, All, Some, slice_get, reverse, Result, Ok, Err, OnErr}
 use Rattle.std.specs.List.{filter}
 use Rattle.std.proofs.lemmas.Result.{on_err_weaker}
 use Rattle.std.proofs.lemmas.List.{get_or-reverse, length-reverse}
@@ -8,10 +8,12 @@ use Rattle.std.proofs.lemmas.Option.{slice_get_within, get_or_from_slice_get}
 use Rattle.std.proofs.lemmas.List.Sums.{length-filter, count_by-le-length}
 use Rattle.st_net.specs.declared.entity.Entity.{Entity}
 use Rattle.st_net.specs.declared.entity.Entity.TheVariants.{Device}
+use Rattle.st_net.specs.declared.entity.Row.{Row}
 use Rattle.st_net.specs.declared.entity.Var.{Var}
+use Rattle.st_net.specs.Entities.{value_of}
 use Rattle.st_net.specs.declared.message.Report.{Report}
 use Rattle.st_net.specs.Groups.{Group, IsEntityOf, IsSound}
-use Rattle.st_net.specs.InOrder.{entities_of, report_in, stamp_in}
+use Rattle.st_net.specs.InOrder.{entities_of, place_in, report_in, stamp_in}
 use Rattle.st_net.specs.Merge.{vals_in}
 use Rattle.st_net.specs.Reports.{is_settled_by}
 use Rattle.st_net.proofs.EntityOrder.{entities_count}
@@ -19,11 +21,12 @@ use Rattle.st_net.proofs.Tests.{less}
 use Rattle.st_event.specs.declared.event.Event.{Event}
 use Rattle.st_event.specs.declared.event.Event.TheVariants.{Finish}
 use Rattle.st_event.specs.declared.reply.Reply.{Reply}
+use Rattle.st_event.specs.declared.reply.Reply.TheVariants.{Blocked}
 use Rattle.st_event.specs.declared.journal.Entry.{Entry}
 use Rattle.st_event.specs.declared.journal.TheConstants.{MAX_ENTRIES}
 use Rattle.st_event.specs.History.{History}
 use Rattle.st_event.specs.Legal.{IsLegal}
-use Rattle.st_event.specs.Observed.{is_settled}
+use Rattle.st_event.specs.Observed.{is_settled, observed}
 use Rattle.st_event.specs.Services.{entry_after}
 use Rattle.st_event.proofs.Promises.{entry_of}
 use Rattle.st_event.specs.Standing.{Standing, standing_of}
@@ -32,11 +35,13 @@ use Rattle.st_overlay.specs.Values.{Values, IsTableOf, value_in}
 use Rattle.st_store.specs.Store.{StoreView, IsStoreOf}
 use Rattle.st_plan.specs.Unsettled.{unsettled_in}
 use Rattle.st_control.specs.Control.{ControlView, standing_in}
+use Rattle.st_control.proofs.SendLemmas.{seen_at}
+use Rattle.st_world.specs.Machine.{MachineView}
 use Rattle.st_world.specs.declared.world.Stepped.TheVariants.{Did}
 use Rattle.st_world.specs.declared.world.rounds.Going.{Going}
 use Rattle.st_world.specs.declared.world.rounds.Going.TheVariants.{On, Full}
-use Rattle.st_world.specs.World.{WorldView, IsBeginning, Steps}
-use Rattle.st_world.specs.Rounds.{Course, course_from, course_with, enter, enter_all, follow_ups_of, follow_ups, poll, turn, turns, round, unsettled, HasSameSetting, IsPartOf, SettlesSent}
+use Rattle.st_world.specs.World.{WorldView, Agrees, IsBeginning, Steps}
+use Rattle.st_world.specs.Rounds.{Course, course_from, course_with, enter, enter_all, follow_ups_of, follow_ups, blocks_change, is_called_back, called_back, poll, turn, turns, round, unsettled, HasSameSetting, IsPartOf, SettlesSent}
 use Rattle.st_world.proofs.RunLaws.{entered, beginning-self, beginning-more, enter-grows, enter_all-grows, turn-grows, turns-grows, enter_all-stopped, turns-stopped, unsettled_fit}
 use Rattle.st_world.proofs.SettleLaws.{round_made}
 
@@ -120,6 +125,21 @@ newest_is items newest last =
 pub follow_newest : (g : Group) (lines : List WireLine) (items : List Entry) (newest : Entry) → slice_get items (length items - 1) ≡ Some newest → follow_ups g lines (reverse items) ≡ follow_ups_of g lines (newest ∷ drop 1 (reverse items)) newest.reply
 follow_newest g lines items newest last = ap (follow_ups g lines) (newest_is items newest last)
 
+-- whether the newest entry calls for a withdrawal, by its reply and by what was observed of the entity
+called_newest : (g : Group) (items : List Entry) (newest : Entry) (row : Row) (e : Entity) (n : ℕ) → slice_get items (length items - 1) ≡ Some newest → newest.reply ≡ Blocked row → n ≡ value_of e (observed g (reverse items) e).vals row.var → not (n == row.value) ≡ is_called_back g (reverse items) e
+called_newest g items newest row e n last blocked is =
+    let at = newest_is items newest last in
+    let here : n ≡ value_of e (observed g (newest ∷ drop 1 (reverse items)) e).vals row.var = is ∙ ap (λ (past : List Entry). value_of e (observed g past e).vals row.var) at in
+    ap (λ (k : ℕ). not (k == row.value)) here
+    ∙ sym (ap (λ (r : Reply). blocks_change (value_of e (observed g (newest ∷ drop 1 (reverse items)) e).vals) r) blocked)
+    ∙ sym (ap (λ (past : List Entry). is_called_back g past e) at)
+
+pub seen_newest : (m : MachineView) (items : List Entry) (newest : Entry) (row : Row) (e : Entity) (d : Report) (place n : ℕ) → Agrees m items → IsStoreOf m.checker.group m.checker.store → slice_get items (length items - 1) ≡ Some newest → newest.reply ≡ Blocked row → place ≡ place_in m.checker.group e → IsEntityOf m.checker.group e → n ≡ value_of e (get_or m.checker.store.observed place d).vals row.var → not (n == row.value) ≡ is_called_back m.checker.group (reverse items) e
+seen_newest m items newest row e d place n agrees of last blocked is here value =
+    let g = m.checker.group in
+    let seen : get_or m.checker.store.observed place d ≡ observed g (reverse items) e = seen_at g m.checker.store.observed e place d is here of.reports ∙ ap (λ (s : Standing). s.observed e) agrees.standing in
+    called_newest g items newest row e n last blocked (value ∙ ap (λ (r : Report). value_of e r.vals row.var) seen)
+
 -- one part after another. `first` is the next of the parts that are left, and `rest` are those behind it
 
 -- the first item of those that are left
@@ -188,6 +208,10 @@ pub no_follow_up_part : {T E : Type 0} (r : Result T E) (w : WorldView) (events 
 no_follow_up_part r w events = none_entered r w w (enter_all w.history.group (course_from w.history.past) events) (enter_all-grows w.history.group (course_from w.history.past) events) refl
 
 -- a turn
+
+-- what a blocked Send calls for
+abbrev pub calling_back : Entity → Group → List WireLine → Course → Course
+calling_back e g lines course = called_back g course e
 
 -- the finish that ends an update
 abbrev pub finishing : Entity → Group → List WireLine → Course → Course

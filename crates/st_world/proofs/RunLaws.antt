@@ -8,7 +8,7 @@ use Rattle.st_net.specs.InOrder.{entities_of}
 use Rattle.st_net.proofs.EntityOrder.{entities_fit}
 use Rattle.st_net.proofs.Tests.{less_is}
 use Rattle.st_event.specs.declared.event.Event.{Event}
-use Rattle.st_event.specs.declared.event.Event.TheVariants.{Send, Deliver, Finish, Report as make_report, Hear}
+use Rattle.st_event.specs.declared.event.Event.TheVariants.{Send, Deliver, Finish, Report as make_report, Hear, Withdraw}
 use Rattle.st_event.specs.declared.reply.Reply.{Reply}
 use Rattle.st_event.specs.declared.reply.Reply.TheVariants.{Sent, Reported}
 use Rattle.st_event.specs.declared.journal.Entry.{Entry}
@@ -19,7 +19,7 @@ use Rattle.st_wire.specs.declared.line.WireKind.TheVariants.{Command as command_
 use Rattle.st_wire.specs.declared.line.WireLine.{WireLine}
 use Rattle.st_wire.specs.Deliveries.{deliveries}
 use Rattle.st_world.specs.World.{IsBeginning}
-use Rattle.st_world.specs.Rounds.{Course, course_from, enter, enter_all, follow_ups_of, follow_ups, enter_told, update_turn, poll, turn, turns, unsettled, round}
+use Rattle.st_world.specs.Rounds.{Course, course_from, enter, enter_all, follow_ups_of, follow_ups, enter_told, is_called_back, called_back, send_turn, update_turn, poll, turn, turns, unsettled, round}
 
 -- beginnings
 
@@ -52,10 +52,22 @@ enter_told-grows g lines course event =
     let next = enter g course event in
     beginning-more course.past next.past (enter_told g lines course event).past (enter-grows g course event) (enter_all-grows g next (follow_ups g lines next.past))
 
+called-grows : (g : Group) (course : Course) (e : Entity) (called : Bool) → IsBeginning course.past (if called then enter g course (Withdraw e) else course).past
+called-grows g course e true = enter-grows g course (Withdraw e)
+called-grows g course e false = beginning-self course.past
+
+pub called_back-grows : (g : Group) (course : Course) (e : Entity) → IsBeginning course.past (called_back g course e).past
+called_back-grows g course e = called-grows g course e (is_called_back g course.past e)
+
+pub send_turn-grows : (g : Group) (lines : List WireLine) (course : Course) (e : Entity) → IsBeginning course.past (send_turn g lines course e).past
+send_turn-grows g lines course e =
+    let told = enter_told g lines course (Send e) in
+    beginning-more course.past told.past (send_turn g lines course e).past (enter_told-grows g lines course (Send e)) (called_back-grows g told e)
+
 pub update_turn-grows : (g : Group) (lines : List WireLine) (course : Course) (e : Entity) → IsBeginning course.past (update_turn g lines course e).past
 update_turn-grows g lines course e =
-    let told = enter_told g lines course (Send e) in
-    beginning-more course.past told.past (update_turn g lines course e).past (enter_told-grows g lines course (Send e)) (enter-grows g told (Finish e))
+    let sent = send_turn g lines course e in
+    beginning-more course.past sent.past (update_turn g lines course e).past (send_turn-grows g lines course e) (enter-grows g sent (Finish e))
 
 pub poll-grows : (g : Group) (lines : List WireLine) (course : Course) (e : Entity) → IsBeginning course.past (poll g lines course e).past
 poll-grows g lines course e = enter_told-grows g lines course (make_report e)
@@ -84,8 +96,18 @@ enter_all-stopped g course (event ∷ events) stopped = ap (λ (r : Course). ent
 pub enter_told-stopped : (g : Group) (lines : List WireLine) (course : Course) (event : Event) → course.stopped ≡ true → enter_told g lines course event ≡ course
 enter_told-stopped g lines course event stopped = ap (λ (r : Course). enter_all g r (follow_ups g lines r.past)) (enter-stopped g course event stopped) ∙ enter_all-stopped g course (follow_ups g lines course.past) stopped
 
+called-stopped : (g : Group) (course : Course) (e : Entity) (called : Bool) → course.stopped ≡ true → (if called then enter g course (Withdraw e) else course) ≡ course
+called-stopped g course e true stopped = enter-stopped g course (Withdraw e) stopped
+called-stopped g course e false stopped = refl
+
+pub called_back-stopped : (g : Group) (course : Course) (e : Entity) → course.stopped ≡ true → called_back g course e ≡ course
+called_back-stopped g course e stopped = called-stopped g course e (is_called_back g course.past e) stopped
+
+pub send_turn-stopped : (g : Group) (lines : List WireLine) (course : Course) (e : Entity) → course.stopped ≡ true → send_turn g lines course e ≡ course
+send_turn-stopped g lines course e stopped = ap (λ (r : Course). called_back g r e) (enter_told-stopped g lines course (Send e) stopped) ∙ called_back-stopped g course e stopped
+
 pub update_turn-stopped : (g : Group) (lines : List WireLine) (course : Course) (e : Entity) → course.stopped ≡ true → update_turn g lines course e ≡ course
-update_turn-stopped g lines course e stopped = ap (λ (r : Course). enter g r (Finish e)) (enter_told-stopped g lines course (Send e) stopped) ∙ enter-stopped g course (Finish e) stopped
+update_turn-stopped g lines course e stopped = ap (λ (r : Course). enter g r (Finish e)) (send_turn-stopped g lines course e stopped) ∙ enter-stopped g course (Finish e) stopped
 
 pub poll-stopped : (g : Group) (lines : List WireLine) (course : Course) (e : Entity) → course.stopped ≡ true → poll g lines course e ≡ course
 poll-stopped g lines course e stopped = enter_told-stopped g lines course (make_report e) stopped
@@ -134,8 +156,18 @@ enter_told-legal g lines course event legal fits =
     let next = enter g course event in
     enter_all-legal g next (follow_ups g lines next.past) (enter-legal g course event legal fits) (follow_ups_fit g lines next.past)
 
+called-legal : (g : Group) (course : Course) (e : Entity) (called : Bool) → IsLegal g course.past → IsEntityOf g e → IsLegal g (if called then enter g course (Withdraw e) else course).past
+called-legal g course e true legal own = enter-legal g course (Withdraw e) legal own
+called-legal g course e false legal own = legal
+
+pub called_back-legal : (g : Group) (course : Course) (e : Entity) → IsLegal g course.past → IsEntityOf g e → IsLegal g (called_back g course e).past
+called_back-legal g course e legal own = called-legal g course e (is_called_back g course.past e) legal own
+
+pub send_turn-legal : (g : Group) (lines : List WireLine) (course : Course) (e : Entity) → IsLegal g course.past → IsEntityOf g e → IsLegal g (send_turn g lines course e).past
+send_turn-legal g lines course e legal own = called_back-legal g (enter_told g lines course (Send e)) e (enter_told-legal g lines course (Send e) legal own) own
+
 pub update_turn-legal : (g : Group) (lines : List WireLine) (course : Course) (e : Entity) → IsLegal g course.past → IsEntityOf g e → IsLegal g (update_turn g lines course e).past
-update_turn-legal g lines course e legal own = enter-legal g (enter_told g lines course (Send e)) (Finish e) (enter_told-legal g lines course (Send e) legal own) own
+update_turn-legal g lines course e legal own = enter-legal g (send_turn g lines course e) (Finish e) (send_turn-legal g lines course e legal own) own
 
 pub poll-legal : (g : Group) (lines : List WireLine) (course : Course) (e : Entity) → IsLegal g course.past → IsEntityOf g e → IsLegal g (poll g lines course e).past
 poll-legal g lines course e legal own = enter_told-legal g lines course (make_report e) legal own

@@ -1,27 +1,30 @@
 -- Over a loss plan without lines, each entity that a round sends a command, and that never failed, is settled behind the round.
 use Rattle.std.proofs.Common.{◌≡◌, ℕ, ◌+◌, ◌<◌, ◌≤◌, suc, List, [], ◌∷◌, ◌++◌, length, Option, Some, None, refl, ap, sym, ◌∙◌, subst, inl, inr, arith}
-use Rattle.std.specs.Prelude.{Bool, true, false, ◌&&◌, ◌==◌, ◌⊎◌, not, nat_lt, All, if◌then◌else◌}
+use Rattle.std.specs.Prelude.{Bool, true, false, ◌&&◌, ◌==◌, ◌⊎◌, not, nat_lt, is_some, All, if◌then◌else◌}
 use Rattle.std.proofs.lemmas.List.Elements.{All-head, All-tail}
 use Rattle.std.proofs.Math.Bool.{and-false}
 use Rattle.st_net.specs.declared.entity.Entity.{Entity}
 use Rattle.st_net.specs.declared.entity.Row.{Row}
 use Rattle.st_net.specs.declared.entity.Vals.{Vals}
+use Rattle.st_net.specs.declared.entity.Var.{Var}
+use Rattle.st_net.specs.declared.message.Command.{Command}
 use Rattle.st_net.specs.declared.message.Report.{Report}
-use Rattle.st_net.specs.Entities.{is_same_entity, is_same_vals}
-use Rattle.st_net.specs.Groups.{Group, IsEntityOf}
+use Rattle.st_net.specs.Entities.{is_same_entity, is_same_vals, value_of, vals_by}
+use Rattle.st_net.specs.Groups.{Group, IsEntityOf, opening_of}
 use Rattle.st_net.specs.Merge.{vals_in}
 use Rattle.st_net.specs.Numbered.{nth}
 use Rattle.st_net.specs.Reports.{is_settled_by}
 use Rattle.st_net.proofs.Tests.{both, equal_numbers, same_entity, same_self, less_is, not_less}
 use Rattle.st_event.specs.declared.event.Event.{Event}
-use Rattle.st_event.specs.declared.event.Event.TheVariants.{Send, Deliver, Finish, Report as make_report, Hear}
+use Rattle.st_event.specs.declared.event.Event.TheVariants.{Send, Deliver, Finish, Report as make_report, Hear, Withdraw}
 use Rattle.st_event.specs.declared.reply.Lack.{Lack}
 use Rattle.st_event.specs.declared.reply.Reply.{Reply}
-use Rattle.st_event.specs.declared.reply.Reply.TheVariants.{Settled, Sent, Reported}
+use Rattle.st_event.specs.declared.reply.Reply.TheVariants.{Settled, Sent, Begun, Stale, Reported}
 use Rattle.st_event.specs.declared.journal.Entry.{Entry}
 use Rattle.st_event.specs.Proposals.{target, makes_version}
+use Rattle.st_event.specs.Receipts.{rows_withdrawn}
 use Rattle.st_event.specs.Judge.{lack_at}
-use Rattle.st_event.specs.Replies.{reply, blocked_or_sent, governing, row_to}
+use Rattle.st_event.specs.Replies.{reply, deliver_reply, blocked_or_sent, governing, row_to}
 use Rattle.st_event.specs.Moments.{heard, is_sent, is_taken, is_fail_of, stamp, commands, fence, busy, reports}
 use Rattle.st_event.specs.Observed.{observed, is_settled}
 use Rattle.st_event.specs.Past.{is_spoiled}
@@ -32,9 +35,11 @@ use Rattle.st_event.proofs.Promises.{entry_of}
 use Rattle.st_event.proofs.Shown.{made_is_true}
 use Rattle.st_event.proofs.Stamps.{fence_small}
 use Rattle.st_event.proofs.Standings.{quiet_stamp}
+use Rattle.st_event.proofs.Targets.{target_same}
+use Rattle.st_event.proofs.Withdrawals.{other_stamp, other_target, withdrawal}
 use Rattle.st_event.proofs.Turns.{report_settles, turn_settles, sent_named, reported_named}
 use Rattle.st_wire.specs.declared.line.WireLine.{WireLine}
-use Rattle.st_world.specs.Rounds.{Course, course_from, enter, enter_all, follow_ups_of, follow_ups, enter_told, turn, turns, unsettled, round, is_sending, WasSent, NeverFailed}
+use Rattle.st_world.specs.Rounds.{Course, course_from, enter, enter_all, follow_ups_of, follow_ups, enter_told, blocks_change, is_called_back, send_turn, turn, turns, unsettled, round, is_sending, WasSent, NeverFailed}
 use Rattle.st_world.specs.World.{IsBeginning}
 use Rattle.st_world.proofs.RunLaws.{entered, round-grows, turn-legal, turns-stopped, unsettled_fit}
 
@@ -53,8 +58,12 @@ told_by g lines event past = let next = entry_after g past event ∷ past in all
 abbrev pub ended_by : Group → List WireLine → Entity → List Entry → List Entry
 ended_by g lines e past = told_by g lines (make_report e) (entry_after g past (Finish e) ∷ past)
 
+-- with what a blocked Send calls for
+abbrev pub withdrawn_by : Group → Entity → List Entry → List Entry
+withdrawn_by g e past = if is_called_back g past e then entry_after g past (Withdraw e) ∷ past else past
+
 abbrev pub turn_by : Group → List WireLine → Entity → List Entry → List Entry
-turn_by g lines e past = ended_by g lines e (told_by g lines (Send e) past)
+turn_by g lines e past = ended_by g lines e (withdrawn_by g e (told_by g lines (Send e) past))
 
 entered-whole : (course : Course) (entry : Entry) (stopped room : Bool) → course.stopped ≡ stopped → (entered course entry stopped room).stopped ≡ false → (course.stopped ≡ false) × (entered course entry stopped room ≡ course_from (entry ∷ course.past))
 entered-whole course entry true room is going = let stops : true ≡ false = sym is ∙ going in cc
@@ -78,15 +87,21 @@ enter_told-whole g lines course event going =
     let here = enter-whole g course event rest.0 in
     (here.0, rest.1 ∙ ap (λ (r : Course). all_by g (follow_ups g lines r.past) r.past) here.1)
 
+called-whole : (g : Group) (course : Course) (e : Entity) (called : Bool) → (if called then enter g course (Withdraw e) else course).stopped ≡ false → (course.stopped ≡ false) × ((if called then enter g course (Withdraw e) else course).past ≡ (if called then entry_after g course.past (Withdraw e) ∷ course.past else course.past))
+called-whole g course e true going = let here = enter-whole g course (Withdraw e) going in (here.0, ap (λ (r : Course). r.past) here.1)
+called-whole g course e false going = (going, refl)
+
 -- a turn that meets no full journal enters all of its entries
 pub turn-whole : (g : Group) (lines : List WireLine) (course : Course) (e : Entity) → (turn g lines course e).stopped ≡ false → (course.stopped ≡ false) × ((turn g lines course e).past ≡ turn_by g lines e course.past)
 turn-whole g lines course e going =
     let told = enter_told g lines course (Send e) in
-    let finished = enter g told (Finish e) in
+    let sent = send_turn g lines course e in
+    let finished = enter g sent (Finish e) in
     let last = enter_told-whole g lines finished (make_report e) going in
-    let middle = enter-whole g told (Finish e) last.0 in
-    let first = enter_told-whole g lines course (Send e) middle.0 in
-    (first.0, last.1 ∙ ap (λ (r : Course). told_by g lines (make_report e) r.past) middle.1 ∙ ap (ended_by g lines e) first.1)
+    let middle = enter-whole g sent (Finish e) last.0 in
+    let second = called-whole g told e (is_called_back g told.past e) middle.0 in
+    let first = enter_told-whole g lines course (Send e) second.0 in
+    (first.0, last.1 ∙ ap (λ (r : Course). told_by g lines (make_report e) r.past) middle.1 ∙ ap (ended_by g lines e) (second.1 ∙ ap (withdrawn_by g e) first.1))
 
 -- how often an entity was sent a command
 abbrev pub sendings : List Entry → Entity → ℕ
@@ -124,19 +139,33 @@ never_failed_before (entry ∷ made) past e never = never_failed_before made pas
 
 -- what a send is answered
 
--- the command's number, or an answer that nothing was sent, which nothing follows
-abbrev Answers : Group → Entity → List Entry → ℕ → Reply → Type 0
-Answers g e past n answer = (answer ≡ Sent n) ⊎ ((follow_ups_of g [] (entry_of (Send e) answer ∷ past) answer ≡ []) × (is_sent answer ≡ false))
+-- the command's number, or an answer that nothing was sent: no delivery follows it, and it blocks nothing where the entity is settled
+pub record SendsNone (g : Group) (e : Entity) (past : List Entry) (answer : Reply) : Type 0 where
+  pub quiet : follow_ups_of g [] (entry_of (Send e) answer ∷ past) answer ≡ []
+  pub unsent : is_sent answer ≡ false
+  pub unblocked : is_settled g past e ≡ true → (value : Var → ℕ) → blocks_change value answer ≡ false
 
-answers_by : (g : Group) (e : Entity) (past : List Entry) (lack : Option Lack) (row : Row) (sent : ℕ) (settled : Bool) → Answers g e past (sent + 1) (if settled then Settled else blocked_or_sent lack row sent)
-answers_by g e past lack row sent true = inr (refl, refl)
-answers_by g e past (Some lack) row sent false = inr (refl, refl)
-answers_by g e past None row sent false = inl refl
+abbrev Answers : Group → Entity → List Entry → ℕ → Reply → Type 0
+Answers g e past n answer = (answer ≡ Sent n) ⊎ SendsNone g e past answer
+
+answers_by : (g : Group) (e : Entity) (past : List Entry) (lack : Option Lack) (row : Row) (sent : ℕ) (settled : Bool) → is_settled g past e ≡ settled → Answers g e past (sent + 1) (if settled then Settled else blocked_or_sent lack row sent)
+answers_by g e past lack row sent true is = inr (record { quiet = refl; unsent = refl; unblocked = λ settled value. refl })
+answers_by g e past (Some lack) row sent false is = inr (record { quiet = refl; unsent = refl; unblocked = λ settled value. let no : false ≡ true = sym is ∙ settled in cc })
+answers_by g e past None row sent false is = inl refl
 
 send_answers : (g : Group) (past : List Entry) (e : Entity) → Answers g e past (length (commands g past) + 1) (reply g past (Send e))
 send_answers g past e =
     let v = governing e (observed g past e).vals (target g past e) in
-    answers_by g e past (lack_at g (observed g past) (target g past) e v) (row_to e v (target g past e)) (length (commands g past)) (is_settled g past e)
+    answers_by g e past (lack_at g (observed g past) (target g past) e v) (row_to e v (target g past e)) (length (commands g past)) (is_settled g past e) refl
+
+-- a delivery is not blocked
+delivered : (value : Var → ℕ) (b : Bool) (fence : ℕ) → blocks_change value (if b then Begun else Stale fence) ≡ false
+delivered value true fence = refl
+delivered value false fence = refl
+
+deliver_unblocked : (value : Var → ℕ) (fence : Entity → ℕ) (sent : ℕ) (o : Option Command) → blocks_change value (deliver_reply fence sent o) ≡ false
+deliver_unblocked value fence sent None = refl
+deliver_unblocked value fence sent (Some c) = delivered value (nat_lt (fence c.entity) c.stamp) (fence c.entity)
 
 -- what keeps an entity settled
 
@@ -149,6 +178,21 @@ quiet_settled g past event answer e none silent goals =
     let views : observed g (entry_of event answer ∷ past) e ≡ observed g past e = rw silent refl in
     same_settled (observed g (entry_of event answer ∷ past) e) (observed g past e) (stamp g (entry_of event answer ∷ past) e) (stamp g past e) (vals_in g (target g (entry_of event answer ∷ past)) e) (vals_in g (target g past) e)
     views (ap (λ (f : Entity → ℕ). f e) (quiet_stamp g past event answer none silent)) goals
+
+-- a withdrawal of another entity
+other_withdrawn_by : (g : Group) (past : List Entry) (x e : Entity) (b : Bool) → is_some (rows_withdrawn (reply g past (Withdraw x))) ≡ b → is_same_entity x e ≡ false → is_settled g (entry_after g past (Withdraw x) ∷ past) e ≡ is_settled g past e
+other_withdrawn_by g past x e true some other =
+    let answer = reply g past (Withdraw x) in
+    let it = withdrawal g past x answer refl some in
+    let goals : vals_in g (target g (entry_of (Withdraw x) answer ∷ past)) e ≡ vals_in g (target g past) e = ap (vals_by e (opening_of g e)) (other_target g past x e answer it other) in
+    same_settled (observed g past e) (observed g past e) (stamp g (entry_of (Withdraw x) answer ∷ past) e) (stamp g past e) (vals_in g (target g (entry_of (Withdraw x) answer ∷ past)) e) (vals_in g (target g past) e) refl (other_stamp g past x e answer it other) goals
+other_withdrawn_by g past x e false none other =
+    let answer = reply g past (Withdraw x) in
+    quiet_settled g past (Withdraw x) answer e none refl (ap (λ (t : Entity → Var → ℕ). vals_in g t e) (target_same g past (entry_of (Withdraw x) answer) none))
+
+other_withdrawn : (g : Group) (past : List Entry) (x e : Entity) (called : Bool) → is_same_entity x e ≡ false → is_settled g (if called then entry_after g past (Withdraw x) ∷ past else past) e ≡ is_settled g past e
+other_withdrawn g past x e true other = other_withdrawn_by g past x e (is_some (rows_withdrawn (reply g past (Withdraw x)))) refl other
+other_withdrawn g past x e false other = refl
 
 -- a report of another entity
 other_heard : (g : Group) (past : List Entry) (k : ℕ) (answer : Reply) (r : Report) (e : Entity) → nth (reports g past) k ≡ Some r → is_same_entity r.entity e ≡ false → is_settled g (entry_of (Hear k) answer ∷ past) e ≡ is_settled g past e
@@ -181,7 +225,7 @@ other_sent g past x e n answer (inl is) =
     ∙ quiet_settled g one (Deliver n) (reply g one (Deliver n)) e refl refl refl
     ∙ quiet_settled g past (Send x) (Sent n) e refl refl refl
 other_sent g past x e n answer (inr not_sent) =
-    ap (λ (journal : List Entry). is_settled g journal e) (unsent_by g x past answer not_sent.0)
+    ap (λ (journal : List Entry). is_settled g journal e) (unsent_by g x past answer not_sent.quiet)
     ∙ quiet_settled g past (Send x) answer e refl refl refl
 
 -- an agent whose entity is settled has begun what its stamp stands for
@@ -226,28 +270,48 @@ pub record Settles (g : Group) (e : Entity) (before after : List Entry) : Type 0
   -- it stays settled
   pub kept : is_settled g before e ≡ true → is_settled g after e ≡ true
 
-own_turn : (g : Group) (past : List Entry) (e : Entity) (answer : Reply) → Answers g e past (length (commands g past) + 1) answer → is_spoiled g past e ≡ false → IsLegal g (ended_by g [] e (sent_by g e past answer)) → Settles g e past (ended_by g [] e (sent_by g e past answer))
+-- a command that was sent calls for no withdrawal
+sent_calls_none : (g : Group) (past : List Entry) (e : Entity) (n : ℕ) → withdrawn_by g e (sent_by g e past (Sent n)) ≡ sent_by g e past (Sent n)
+sent_calls_none g past e n =
+    let one = entry_of (Send e) (Sent n) ∷ past in
+    let two = sent_by g e past (Sent n) in
+    rw (deliver_unblocked (value_of e (observed g two e).vals) (fence g one) (length (commands g one)) (nth (commands g one) n)) refl
+
+own_turn : (g : Group) (past : List Entry) (e : Entity) (answer : Reply) → Answers g e past (length (commands g past) + 1) answer → is_spoiled g past e ≡ false → IsLegal g (ended_by g [] e (withdrawn_by g e (sent_by g e past answer))) → Settles g e past (ended_by g [] e (withdrawn_by g e (sent_by g e past answer)))
 own_turn g past e answer (inl is) whole =
-    subst (λ (a : Reply). IsLegal g (ended_by g [] e (sent_by g e past a)) → Settles g e past (ended_by g [] e (sent_by g e past a))) (sym is)
-    (λ legal. let settled = own_sent g past e (length (commands g past) + 1) refl whole legal in record { sent = λ more. settled; kept = λ was. settled })
+    subst (λ (a : Reply). IsLegal g (ended_by g [] e (withdrawn_by g e (sent_by g e past a))) → Settles g e past (ended_by g [] e (withdrawn_by g e (sent_by g e past a)))) (sym is)
+    (subst (λ (journal : List Entry). IsLegal g (ended_by g [] e journal) → Settles g e past (ended_by g [] e journal)) (sym (sent_calls_none g past e (length (commands g past) + 1)))
+    (λ legal. let settled = own_sent g past e (length (commands g past) + 1) refl whole legal in record { sent = λ more. settled; kept = λ was. settled }))
 own_turn g past e answer (inr not_sent) whole =
-    subst (λ (journal : List Entry). IsLegal g (ended_by g [] e journal) → Settles g e past (ended_by g [] e journal)) (sym (unsent_by g e past answer not_sent.0))
+    subst (λ (journal : List Entry). IsLegal g (ended_by g [] e (withdrawn_by g e journal)) → Settles g e past (ended_by g [] e (withdrawn_by g e journal))) (sym (unsent_by g e past answer not_sent.quiet))
     (λ legal. record {
-      sent = λ more. absurd (unsent_once (is_same_entity e e) (is_sent answer) (sendings past e) not_sent.1 more);
-      kept = own_unsent g past e answer whole legal;
+      sent = λ more. absurd (unsent_once (is_same_entity e e) (is_sent answer) (sendings past e) not_sent.unsent (counted (is_called_back g (entry_of (Send e) answer ∷ past) e) more));
+      kept = λ was.
+          let free : is_called_back g (entry_of (Send e) answer ∷ past) e ≡ false = not_sent.unblocked was (value_of e (observed g (entry_of (Send e) answer ∷ past) e).vals) in
+          let same : withdrawn_by g e (entry_of (Send e) answer ∷ past) ≡ entry_of (Send e) answer ∷ past = rw free refl in
+          subst (λ (journal : List Entry). IsLegal g (ended_by g [] e journal) → is_settled g (ended_by g [] e journal) e ≡ true) (sym same) (λ legal. own_unsent g past e answer whole legal was) legal;
     })
   where
     unsent_once : (same sent : Bool) (n : ℕ) → sent ≡ false → n < (if same && sent then n + 1 else n) → ⊥
     unsent_once same sent n none more = let still : n < n = rw (none, and-false same) at more in omega (arith, still)
 
-other_turn : (g : Group) (past : List Entry) (x e : Entity) (n : ℕ) (answer : Reply) → Answers g x past n answer → is_same_entity x e ≡ false → Settles g e past (ended_by g [] x (sent_by g x past answer))
+    counted : (called : Bool) → sendings past e < sendings (ended_by g [] e (if called then entry_after g (entry_of (Send e) answer ∷ past) (Withdraw e) ∷ entry_of (Send e) answer ∷ past else entry_of (Send e) answer ∷ past)) e → sendings past e < (if is_same_entity e e && is_sent answer then sendings past e + 1 else sendings past e)
+    counted true more = more
+    counted false more = more
+
+other_turn : (g : Group) (past : List Entry) (x e : Entity) (n : ℕ) (answer : Reply) → Answers g x past n answer → is_same_entity x e ≡ false → Settles g e past (ended_by g [] x (withdrawn_by g x (sent_by g x past answer)))
 other_turn g past x e n answer answers other =
-    let same = other_ended g (sent_by g x past answer) x e other ∙ other_sent g past x e n answer answers in
-    record { sent = λ more. absurd (omega (arith, more, once n answer answers)); kept = λ was. same ∙ was }
+    let sent = sent_by g x past answer in
+    let same = other_ended g (withdrawn_by g x sent) x e other ∙ other_withdrawn g sent x e (is_called_back g sent x) other ∙ other_sent g past x e n answer answers in
+    record { sent = λ more. absurd (omega (arith, more, counted sent (is_called_back g sent x), once n answer answers)); kept = λ was. same ∙ was }
   where
     once : (n : ℕ) (answer : Reply) → Answers g x past n answer → sendings (sent_by g x past answer) e ≡ sendings past e
     once n answer (inl is) = ap (λ (a : Reply). sendings (sent_by g x past a) e) is ∙ rw other refl
-    once n answer (inr not_sent) = ap (λ (journal : List Entry). sendings journal e) (unsent_by g x past answer not_sent.0) ∙ rw other refl
+    once n answer (inr not_sent) = ap (λ (journal : List Entry). sendings journal e) (unsent_by g x past answer not_sent.quiet) ∙ rw other refl
+
+    counted : (journal : List Entry) (called : Bool) → sendings (ended_by g [] x (if called then entry_after g journal (Withdraw x) ∷ journal else journal)) e ≡ sendings journal e
+    counted journal true = refl
+    counted journal false = refl
 
 turn_by_settles : (g : Group) (past : List Entry) (x e : Entity) (same : Bool) → is_same_entity x e ≡ same → is_spoiled g past e ≡ false → IsLegal g (turn_by g [] x past) → Settles g e past (turn_by g [] x past)
 turn_by_settles g past x e true is whole legal =
@@ -257,14 +321,20 @@ turn_by_settles g past x e false is whole legal = other_turn g past x e (length 
 
 -- a turn fails nothing
 turn_unspoiled : (g : Group) (past : List Entry) (x e : Entity) → is_spoiled g past e ≡ false → is_spoiled g (turn_by g [] x past) e ≡ false
-turn_unspoiled g past x e whole = ended (told_by g [] (Send x) past) (begun (length (commands g past) + 1) (reply g past (Send x)) (send_answers g past x))
+turn_unspoiled g past x e whole =
+    let told = told_by g [] (Send x) past in
+    ended (withdrawn_by g x told) (back told (is_called_back g told x) (begun (length (commands g past) + 1) (reply g past (Send x)) (send_answers g past x)))
   where
     ended : (journal : List Entry) → is_spoiled g journal e ≡ false → is_spoiled g (ended_by g [] x journal) e ≡ false
     ended journal unharmed = rw unharmed refl
 
+    back : (journal : List Entry) (called : Bool) → is_spoiled g journal e ≡ false → is_spoiled g (if called then entry_after g journal (Withdraw x) ∷ journal else journal) e ≡ false
+    back journal true unharmed = rw unharmed refl
+    back journal false unharmed = unharmed
+
     begun : (n : ℕ) (answer : Reply) → Answers g x past n answer → is_spoiled g (sent_by g x past answer) e ≡ false
     begun n answer (inl is) = ap (λ (a : Reply). is_spoiled g (sent_by g x past a) e) is ∙ rw whole refl
-    begun n answer (inr not_sent) = ap (λ (journal : List Entry). is_spoiled g journal e) (unsent_by g x past answer not_sent.0) ∙ rw whole refl
+    begun n answer (inr not_sent) = ap (λ (journal : List Entry). is_spoiled g journal e) (unsent_by g x past answer not_sent.quiet) ∙ rw whole refl
 
 -- what holds of the entries up to a journal, and of those behind it, holds of all of them
 settles_both : (g : Group) (e : Entity) (before middle after : List Entry) → Settles g e before middle → Settles g e middle after → Settles g e before after

@@ -1,4 +1,4 @@
--- What a turn of an entity, either of its halves, and each part of them leave: nothing more is overlaid, and there are few entries more.
+-- What a turn of an entity, either of its halves, and each part of them leave: few entries more, and of a poll nothing more that is overlaid.
 use Rattle.std.proofs.Common.{◌≡◌, ℕ, zero, suc, ◌+◌, ◌*◌, ◌≤◌, List, [], ◌∷◌, ◌++◌, length, refl, ap, sym, ◌∙◌, subst, arith, length-append}
 use Rattle.std.specs.Prelude.{Bool, true, false, ◌==◌, nat_lt, All, if◌then◌else◌}
 use Rattle.std.proofs.lemmas.List.{length-map}
@@ -8,16 +8,16 @@ use Rattle.st_net.specs.declared.entity.Entity.{Entity}
 use Rattle.st_net.specs.declared.entity.Row.{Row}
 use Rattle.st_net.specs.Groups.{Group}
 use Rattle.st_event.specs.declared.event.Event.{Event}
-use Rattle.st_event.specs.declared.event.Event.TheVariants.{Submit, Check, Send, Deliver, Finish, Report as make_report, Hear}
+use Rattle.st_event.specs.declared.event.Event.TheVariants.{Submit, Check, Send, Deliver, Finish, Report as make_report, Hear, Withdraw}
 use Rattle.st_event.specs.declared.event.Proposal.{Proposal}
 use Rattle.st_event.specs.declared.reply.Reply.{Reply}
 use Rattle.st_event.specs.declared.reply.Reply.TheVariants.{Sent, Reported}
 use Rattle.st_event.specs.declared.journal.Entry.{Entry}
 use Rattle.st_event.specs.declared.journal.TheConstants.{MAX_ENTRIES, MAX_PENDING}
-use Rattle.st_event.specs.Events.{is_check}
+use Rattle.st_event.specs.Events.{may_overlay}
 use Rattle.st_event.specs.Proposals.{overlays, pending}
 use Rattle.st_event.specs.Services.{entry_after}
-use Rattle.st_event.proofs.Accepting.{accepts_none}
+use Rattle.st_event.proofs.Accepting.{overlays_none}
 use Rattle.st_event.proofs.Targets.{overlays_same}
 use Rattle.st_wire.specs.declared.line.WireKind.TheVariants.{Command as command_kind, Report as report_kind}
 use Rattle.st_wire.specs.declared.line.WireLine.{WireLine}
@@ -25,7 +25,7 @@ use Rattle.st_wire.specs.Deliveries.{deliveries}
 use Rattle.st_wire.proofs.DeliveryLaws.{few_deliveries}
 use Rattle.st_world.specs.declared.world.rounds.Going.{Going}
 use Rattle.st_world.specs.World.{WorldView, IsBeginning}
-use Rattle.st_world.specs.Rounds.{Course, enter, enter_all, follow_ups_of, follow_ups, enter_told, update_turn, poll, turn, Goes, IsPartOf}
+use Rattle.st_world.specs.Rounds.{Course, enter, enter_all, follow_ups_of, follow_ups, enter_told, is_called_back, send_turn, update_turn, poll, turn, Goes, IsPartOf}
 use Rattle.st_world.specs.Acts.{checked_while, proposed, with_room}
 use Rattle.st_world.proofs.RunLaws.{entered, beginning-self}
 
@@ -70,14 +70,25 @@ enter_told-length g lines course event =
 pub poll-length : (g : Group) (lines : List WireLine) (course : Course) (e : Entity) → length (poll g lines course e).past ≤ length course.past + (2 + length lines)
 poll-length g lines course e = enter_told-length g lines course (make_report e)
 
-pub update_turn-length : (g : Group) (lines : List WireLine) (course : Course) (e : Entity) → length (update_turn g lines course e).past ≤ length course.past + (3 + length lines)
-update_turn-length g lines course e =
+called-length : (g : Group) (course : Course) (e : Entity) (called : Bool) → length (if called then enter g course (Withdraw e) else course).past ≤ length course.past + 1
+called-length g course e true = enter-length g course (Withdraw e)
+called-length g course e false = omega arith
+
+pub send_turn-length : (g : Group) (lines : List WireLine) (course : Course) (e : Entity) → length (send_turn g lines course e).past ≤ length course.past + (3 + length lines)
+send_turn-length g lines course e =
     let told = enter_told g lines course (Send e) in
     let first = enter_told-length g lines course (Send e) in
-    let last = enter-length g told (Finish e) in
+    let last = called-length g told e (is_called_back g told.past e) in
     omega (arith, first, last)
 
-pub turn-length : (g : Group) (lines : List WireLine) (course : Course) (e : Entity) → length (turn g lines course e).past ≤ length course.past + (5 + 2 * length lines)
+pub update_turn-length : (g : Group) (lines : List WireLine) (course : Course) (e : Entity) → length (update_turn g lines course e).past ≤ length course.past + (4 + length lines)
+update_turn-length g lines course e =
+    let sent = send_turn g lines course e in
+    let first = send_turn-length g lines course e in
+    let last = enter-length g sent (Finish e) in
+    omega (arith, first, last)
+
+pub turn-length : (g : Group) (lines : List WireLine) (course : Course) (e : Entity) → length (turn g lines course e).past ≤ length course.past + (6 + 2 * length lines)
 turn-length g lines course e =
     let first = update_turn-length g lines course e in
     let last = poll-length g lines (update_turn g lines course e) e in
@@ -85,91 +96,79 @@ turn-length g lines course e =
 
 -- what is overlaid
 
--- how many checks a journal has
-abbrev pub check_count : List Entry → ℕ
-check_count [] = 0
-check_count (entry ∷ past) = if is_check entry.event then suc (check_count past) else check_count past
+-- how many entries of a journal may overlay the target
+abbrev pub overlay_count : List Entry → ℕ
+overlay_count [] = 0
+overlay_count (entry ∷ past) = if may_overlay entry.event then suc (overlay_count past) else overlay_count past
 
-pub check_count-append : (more past : List Entry) → check_count (more ++ past) ≡ check_count more + check_count past
-check_count-append [] past = omega arith
-check_count-append (entry ∷ more) past = by_check (is_check entry.event) (check_count-append more past)
+pub overlay_count-append : (more past : List Entry) → overlay_count (more ++ past) ≡ overlay_count more + overlay_count past
+overlay_count-append [] past = omega arith
+overlay_count-append (entry ∷ more) past = by_kind (may_overlay entry.event) (overlay_count-append more past)
   where
-    by_check : (b : Bool) → check_count (more ++ past) ≡ check_count more + check_count past → (if b then suc (check_count (more ++ past)) else check_count (more ++ past)) ≡ (if b then suc (check_count more) else check_count more) + check_count past
-    by_check true same = omega (arith, same)
-    by_check false same = same
+    by_kind : (b : Bool) → overlay_count (more ++ past) ≡ overlay_count more + overlay_count past → (if b then suc (overlay_count (more ++ past)) else overlay_count (more ++ past)) ≡ (if b then suc (overlay_count more) else overlay_count more) + overlay_count past
+    by_kind true same = omega (arith, same)
+    by_kind false same = same
 
--- entries among which there is no check overlay nothing
-pub no_check-accepts : (made past : List Entry) → check_count made ≡ 0 → overlays (made ++ past) ≡ overlays past
-no_check-accepts [] past none = refl
-no_check-accepts (entry ∷ made) past none = by_check (is_check entry.event) refl none (no_check-accepts made past)
+-- entries of which none may, overlay nothing
+pub none-overlay : (made past : List Entry) → overlay_count made ≡ 0 → overlays (made ++ past) ≡ overlays past
+none-overlay [] past none = refl
+none-overlay (entry ∷ made) past none = by_kind (may_overlay entry.event) refl none (none-overlay made past)
   where
-    by_check : (b : Bool) → is_check entry.event ≡ b → (if b then suc (check_count made) else check_count made) ≡ 0 → (check_count made ≡ 0 → overlays (made ++ past) ≡ overlays past) → overlays (entry ∷ made ++ past) ≡ overlays past
-    by_check true is some rest = absurd (omega (arith, some))
-    by_check false is none rest = overlays_same (made ++ past) entry (accepts_none entry.event entry.reply is) ∙ rest none
+    by_kind : (b : Bool) → may_overlay entry.event ≡ b → (if b then suc (overlay_count made) else overlay_count made) ≡ 0 → (overlay_count made ≡ 0 → overlays (made ++ past) ≡ overlays past) → overlays (entry ∷ made ++ past) ≡ overlays past
+    by_kind true is some rest = absurd (omega (arith, some))
+    by_kind false is none rest = overlays_same (made ++ past) entry (overlays_none entry.event entry.reply is) ∙ rest none
 
--- a part of a course that makes no check overlays nothing
-pub part-accepts : (past new whole : List Entry) → check_count whole ≡ check_count past → IsBeginning past new → IsBeginning new whole → overlays new ≡ overlays past
-part-accepts past new whole same began part =
+-- a part of a course that makes none overlays nothing
+pub part-overlays : (past new whole : List Entry) → overlay_count whole ≡ overlay_count past → IsBeginning past new → IsBeginning new whole → overlays new ≡ overlays past
+part-overlays past new whole same began part =
     let made = began.0 in
-    let first : check_count new ≡ check_count made + check_count past = ap check_count began.1 ∙ check_count-append made past in
-    let all : check_count whole ≡ check_count part.0 + check_count new = ap check_count part.1 ∙ check_count-append part.0 new in
-    let none : check_count made ≡ 0 = omega (arith, first, all, same) in
-    ap overlays began.1 ∙ no_check-accepts made past none
+    let first : overlay_count new ≡ overlay_count made + overlay_count past = ap overlay_count began.1 ∙ overlay_count-append made past in
+    let all : overlay_count whole ≡ overlay_count part.0 + overlay_count new = ap overlay_count part.1 ∙ overlay_count-append part.0 new in
+    let none : overlay_count made ≡ 0 = omega (arith, first, all, same) in
+    ap overlays began.1 ∙ none-overlay made past none
 
--- events that are no checks
+-- events that may not
 
-abbrev IsNoCheck : Event → Type 0
-IsNoCheck event = is_check event ≡ false
+abbrev IsQuiet : Event → Type 0
+IsQuiet event = may_overlay event ≡ false
 
-entered-checks : (course : Course) (entry : Entry) (stopped room : Bool) → IsNoCheck entry.event → check_count (entered course entry stopped room).past ≡ check_count course.past
-entered-checks course entry true room none = refl
-entered-checks course entry false true none = rw none refl
-entered-checks course entry false false none = refl
+entered-quiet : (course : Course) (entry : Entry) (stopped room : Bool) → IsQuiet entry.event → overlay_count (entered course entry stopped room).past ≡ overlay_count course.past
+entered-quiet course entry true room none = refl
+entered-quiet course entry false true none = rw none refl
+entered-quiet course entry false false none = refl
 
-pub enter-checks : (g : Group) (course : Course) (event : Event) → is_check event ≡ false → check_count (enter g course event).past ≡ check_count course.past
-enter-checks g course event none = entered-checks course (entry_after g course.past event) course.stopped (nat_lt (length course.past) MAX_ENTRIES) none
+pub enter-quiet : (g : Group) (course : Course) (event : Event) → may_overlay event ≡ false → overlay_count (enter g course event).past ≡ overlay_count course.past
+enter-quiet g course event none = entered-quiet course (entry_after g course.past event) course.stopped (nat_lt (length course.past) MAX_ENTRIES) none
 
-enter_all-checks : (g : Group) (course : Course) (events : List Event) → All IsNoCheck events → check_count (enter_all g course events).past ≡ check_count course.past
-enter_all-checks g course [] none = refl
-enter_all-checks g course (event ∷ events) none =
-    enter_all-checks g (enter g course event) events (All-tail IsNoCheck event events none) ∙ enter-checks g course event (All-head IsNoCheck event events none)
+enter_all-quiet : (g : Group) (course : Course) (events : List Event) → All IsQuiet events → overlay_count (enter_all g course events).past ≡ overlay_count course.past
+enter_all-quiet g course [] none = refl
+enter_all-quiet g course (event ∷ events) none =
+    enter_all-quiet g (enter g course event) events (All-tail IsQuiet event events none) ∙ enter-quiet g course event (All-head IsQuiet event events none)
 
-follow_ups_of-checks : (g : Group) (lines : List WireLine) (past : List Entry) (reply : Reply) → All IsNoCheck (follow_ups_of g lines past reply)
-follow_ups_of-checks g lines past (Sent n) = All-map IsNoCheck Deliver (deliveries lines command_kind n) (λ k d low. refl)
-follow_ups_of-checks g lines past (Reported n) = All-map IsNoCheck Hear (deliveries lines report_kind n) (λ k d low. refl)
-follow_ups_of-checks g lines past _ = All-nil IsNoCheck
+follow_ups_of-quiet : (g : Group) (lines : List WireLine) (past : List Entry) (reply : Reply) → All IsQuiet (follow_ups_of g lines past reply)
+follow_ups_of-quiet g lines past (Sent n) = All-map IsQuiet Deliver (deliveries lines command_kind n) (λ k d low. refl)
+follow_ups_of-quiet g lines past (Reported n) = All-map IsQuiet Hear (deliveries lines report_kind n) (λ k d low. refl)
+follow_ups_of-quiet g lines past _ = All-nil IsQuiet
 
-follow_ups-checks : (g : Group) (lines : List WireLine) (past : List Entry) → All IsNoCheck (follow_ups g lines past)
-follow_ups-checks g lines [] = All-nil IsNoCheck
-follow_ups-checks g lines (entry ∷ past) = follow_ups_of-checks g lines (entry ∷ past) entry.reply
+follow_ups-quiet : (g : Group) (lines : List WireLine) (past : List Entry) → All IsQuiet (follow_ups g lines past)
+follow_ups-quiet g lines [] = All-nil IsQuiet
+follow_ups-quiet g lines (entry ∷ past) = follow_ups_of-quiet g lines (entry ∷ past) entry.reply
 
-enter_told-checks : (g : Group) (lines : List WireLine) (course : Course) (event : Event) → is_check event ≡ false → check_count (enter_told g lines course event).past ≡ check_count course.past
-enter_told-checks g lines course event none =
+enter_told-quiet : (g : Group) (lines : List WireLine) (course : Course) (event : Event) → may_overlay event ≡ false → overlay_count (enter_told g lines course event).past ≡ overlay_count course.past
+enter_told-quiet g lines course event none =
     let next = enter g course event in
-    enter_all-checks g next (follow_ups g lines next.past) (follow_ups-checks g lines next.past) ∙ enter-checks g course event none
+    enter_all-quiet g next (follow_ups g lines next.past) (follow_ups-quiet g lines next.past) ∙ enter-quiet g course event none
 
-pub poll-checks : (g : Group) (lines : List WireLine) (course : Course) (e : Entity) → check_count (poll g lines course e).past ≡ check_count course.past
-poll-checks g lines course e = enter_told-checks g lines course (make_report e) refl
-
-pub update_turn-checks : (g : Group) (lines : List WireLine) (course : Course) (e : Entity) → check_count (update_turn g lines course e).past ≡ check_count course.past
-update_turn-checks g lines course e = enter-checks g (enter_told g lines course (Send e)) (Finish e) refl ∙ enter_told-checks g lines course (Send e) refl
-
-pub turn-checks : (g : Group) (lines : List WireLine) (course : Course) (e : Entity) → check_count (turn g lines course e).past ≡ check_count course.past
-turn-checks g lines course e = poll-checks g lines (update_turn g lines course e) e ∙ update_turn-checks g lines course e
+pub poll-quiet : (g : Group) (lines : List WireLine) (course : Course) (e : Entity) → overlay_count (poll g lines course e).past ≡ overlay_count course.past
+poll-quiet g lines course e = enter_told-quiet g lines course (make_report e) refl
 
 -- so they overlay nothing, nor does a part of them
 
-pub enter-accepts : (g : Group) (course : Course) (event : Event) (new : List Entry) → is_check event ≡ false → IsBeginning course.past new → IsBeginning new (enter g course event).past → overlays new ≡ overlays course.past
-enter-accepts g course event new none began part = part-accepts course.past new (enter g course event).past (enter-checks g course event none) began part
+pub enter-overlays : (g : Group) (course : Course) (event : Event) (new : List Entry) → may_overlay event ≡ false → IsBeginning course.past new → IsBeginning new (enter g course event).past → overlays new ≡ overlays course.past
+enter-overlays g course event new none began part = part-overlays course.past new (enter g course event).past (enter-quiet g course event none) began part
 
-pub poll-accepts : (g : Group) (lines : List WireLine) (course : Course) (e : Entity) (new : List Entry) → IsBeginning course.past new → IsBeginning new (poll g lines course e).past → overlays new ≡ overlays course.past
-poll-accepts g lines course e new began part = part-accepts course.past new (poll g lines course e).past (poll-checks g lines course e) began part
-
-pub update_turn-accepts : (g : Group) (lines : List WireLine) (course : Course) (e : Entity) (new : List Entry) → IsBeginning course.past new → IsBeginning new (update_turn g lines course e).past → overlays new ≡ overlays course.past
-update_turn-accepts g lines course e new began part = part-accepts course.past new (update_turn g lines course e).past (update_turn-checks g lines course e) began part
-
-pub turn-accepts : (g : Group) (lines : List WireLine) (course : Course) (e : Entity) (new : List Entry) → IsBeginning course.past new → IsBeginning new (turn g lines course e).past → overlays new ≡ overlays course.past
-turn-accepts g lines course e new began part = part-accepts course.past new (turn g lines course e).past (turn-checks g lines course e) began part
+pub poll-overlays : (g : Group) (lines : List WireLine) (course : Course) (e : Entity) (new : List Entry) → IsBeginning course.past new → IsBeginning new (poll g lines course e).past → overlays new ≡ overlays course.past
+poll-overlays g lines course e new began part = part-overlays course.past new (poll g lines course e).past (poll-quiet g lines course e) began part
 
 -- a course that was gone through is a part of itself
 pub goes_part : (old new : WorldView) (course : Course) (going : Going) → IsBeginning old.history.past course.past → Goes new course going → IsPartOf old new course

@@ -5,7 +5,7 @@ use Rattle.st_net.specs.declared.message.Command.{Command}
 use Rattle.st_net.specs.declared.message.Report.{Report}
 use Rattle.st_net.specs.Groups.{Group, IsEntityOf}
 use Rattle.st_event.specs.declared.event.Event.{Event}
-use Rattle.st_event.specs.declared.event.Event.TheVariants.{Submit, Check, Lock, Unlock, Send, Deliver, Finish, Report as make_report, Hear, Fail}
+use Rattle.st_event.specs.declared.event.Event.TheVariants.{Submit, Check, Lock, Unlock, Send, Deliver, Finish, Report as make_report, Hear, Fail, Withdraw}
 use Rattle.st_event.specs.declared.reply.Reply.{Reply}
 use Rattle.st_event.specs.Standing.{Wires, standing_of, wires_of, standing_after, wires_after, reply_in}
 use Rattle.st_event.specs.Versions.{value_at, versions_after}
@@ -50,6 +50,7 @@ is_without_memory (Finish entity) = true
 is_without_memory (make_report entity) = true
 is_without_memory (Hear n) = true
 is_without_memory (Fail entity vals health) = true
+is_without_memory (Withdraw entity) = false
 
 -- the machine of a group at its opening
 pub record IsOpening (g : Group) (m : MachineView) : Type 0 where

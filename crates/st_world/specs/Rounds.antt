@@ -1,18 +1,20 @@
--- What a round does: each entity that is not settled is sent its command, finishes, and reports.
-use Rattle.std.specs.Prelude.{◌≡◌, ℕ, Option, Some, None, Bool, true, false, not, ◌&&◌, ◌⊎◌, nat_lt, List, [], ◌∷◌, ◌++◌, length, map, if◌then◌else◌}
+-- What a round does: each entity that is not settled is sent its command, or what can't be set of it is withdrawn; it finishes, and reports.
+use Rattle.std.specs.Prelude.{◌≡◌, ℕ, Option, Some, None, Bool, true, false, not, ◌&&◌, ◌==◌, ◌⊎◌, nat_lt, List, [], ◌∷◌, ◌++◌, length, map, if◌then◌else◌}
 use Rattle.std.specs.List.{filter}
 use Rattle.st_net.specs.declared.entity.Entity.{Entity}
-use Rattle.st_net.specs.Entities.{is_same_entity}
+use Rattle.st_net.specs.declared.entity.Var.{Var}
+use Rattle.st_net.specs.Entities.{is_same_entity, value_of}
+use Rattle.st_net.specs.declared.message.Report.{Report}
 use Rattle.st_net.specs.Groups.{Group}
 use Rattle.st_net.specs.InOrder.{entities_of}
 use Rattle.st_event.specs.declared.event.Event.{Event}
-use Rattle.st_event.specs.declared.event.Event.TheVariants.{Send, Deliver, Finish, Report as make_report, Hear}
+use Rattle.st_event.specs.declared.event.Event.TheVariants.{Send, Deliver, Finish, Report as make_report, Hear, Withdraw}
 use Rattle.st_event.specs.declared.reply.Reply.{Reply}
-use Rattle.st_event.specs.declared.reply.Reply.TheVariants.{Queued, Full as full_queue, Decided, Idle, Granted, Held, Released, NotYours, Sent, Settled, Blocked, Begun, Stale, NoSuch, Done, NotBusy, Reported, Taken, Old, Changed}
+use Rattle.st_event.specs.declared.reply.Reply.TheVariants.{Queued, Full as full_queue, Decided, Idle, Granted, Held, Released, NotYours, Sent, Settled, Blocked, Begun, Stale, NoSuch, Done, NotBusy, Reported, Taken, Old, Changed, Withdrawn, Kept}
 use Rattle.st_event.specs.declared.journal.Entry.{Entry}
 use Rattle.st_event.specs.declared.journal.TheConstants.{MAX_ENTRIES}
 use Rattle.st_event.specs.Moments.{is_sent, is_fail_of}
-use Rattle.st_event.specs.Observed.{is_settled}
+use Rattle.st_event.specs.Observed.{is_settled, observed}
 use Rattle.st_event.specs.Services.{entry_after}
 use Rattle.st_wire.specs.declared.line.WireKind.{WireKind}
 use Rattle.st_wire.specs.declared.line.WireKind.TheVariants.{Command as command_kind, Report as report_kind}
@@ -64,6 +66,8 @@ follow_ups_of g lines past NotBusy = []
 follow_ups_of g lines past Taken = []
 follow_ups_of g lines past (Old kept) = []
 follow_ups_of g lines past Changed = []
+follow_ups_of g lines past (Withdrawn version rows) = []
+follow_ups_of g lines past Kept = []
 
 -- what follows the newest entry
 abbrev pub follow_ups : Group → List WireLine → List Entry → List Event
@@ -83,9 +87,27 @@ arrivals_of lines (Some message) = map (arrival message.kind) (deliveries lines 
 abbrev pub enter_told : Group → List WireLine → Course → Event → Course
 enter_told g lines course event = let next = enter g course event in enter_all g next (follow_ups g lines next.past)
 
--- the half of an entity's turn that updates it: Send with the arrivals of its command, and Finish
+-- whether an entity with these values is blocked by a row that would change one
+abbrev pub blocks_change : (Var → ℕ) → Reply → Bool
+blocks_change value (Blocked row) = not (value row.var == row.value)
+blocks_change value _ = false
+
+-- whether the newest entry says so of an entity, by what was observed of it
+abbrev pub is_called_back : Group → List Entry → Entity → Bool
+is_called_back g [] e = false
+is_called_back g (entry ∷ past) e = blocks_change (value_of e (observed g (entry ∷ past) e).vals) entry.reply
+
+-- then what it is to become is withdrawn
+abbrev pub called_back : Group → Course → Entity → Course
+called_back g course e = if is_called_back g course.past e then enter g course (Withdraw e) else course
+
+-- the half of an entity's turn that updates it: Send with the arrivals of its command, or with a Withdraw where it was blocked by a row that
+-- would change a value; and Finish
+abbrev pub send_turn : Group → List WireLine → Course → Entity → Course
+send_turn g lines course e = called_back g (enter_told g lines course (Send e)) e
+
 abbrev pub update_turn : Group → List WireLine → Course → Entity → Course
-update_turn g lines course e = enter g (enter_told g lines course (Send e)) (Finish e)
+update_turn g lines course e = enter g (send_turn g lines course e) (Finish e)
 
 -- the half of an entity's turn that monitors the entity: Report with the arrivals of its report
 abbrev pub poll : Group → List WireLine → Course → Entity → Course
@@ -157,3 +179,39 @@ pub record SettlesSent (old new : WorldView) : Type 0 where
 abbrev pub DidSettle : WorldView → WorldView → Rounded → Type 0
 DidSettle old new (Did count) = SettlesSent old new
 DidSettle old new (JournalFull entries) = Unit {0}
+
+-- which entity a Withdraw is of, and which one a blocked Send calls for a Withdraw of
+abbrev pub withdraws : Event → Option Entity
+withdraws (Withdraw e) = Some e
+withdraws _ = None
+
+abbrev pub calls_by : (Entity → Report) → Event → Reply → Option Entity
+calls_by observed (Send e) reply = if blocks_change (value_of e (observed e).vals) reply then Some e else None
+calls_by observed _ reply = None
+
+-- the entity that the newest of these entries calls for a Withdraw of; `past` are the entries before them
+abbrev pub calls_for : Group → List Entry → List Entry → Option Entity
+calls_for g [] past = None
+calls_for g (entry ∷ made) past = calls_by (observed g (entry ∷ made ++ past)) entry.event entry.reply
+
+-- each of these entries is a Withdraw exactly where the one directly before it calls for it, and then of that entity
+abbrev pub AnswersCalls : Group → List Entry → List Entry → Type 0
+AnswersCalls g [] past = Unit {0}
+AnswersCalls g (entry ∷ made) past = (withdraws entry.event ≡ calls_for g made past) × AnswersCalls g made past
+
+-- a world made these entries; a Withdraw stands directly behind each Send of them that calls for it, but for the last entry, and nowhere else
+pub record WithdrawsInTurn (old new : WorldView) : Type 0 where
+  pub made : List Entry
+  pub all : new.history.past ≡ made ++ old.history.past
+  pub answers : AnswersCalls old.history.group made old.history.past
+
+-- and the last one calls for none
+pub record WithdrawsAll (old new : WorldView) : Type 0 where
+  pub made : List Entry
+  pub all : new.history.past ≡ made ++ old.history.past
+  pub answers : AnswersCalls old.history.group made old.history.past
+  pub no_more : calls_for old.history.group made old.history.past ≡ None
+
+abbrev pub DidWithdraw : WorldView → WorldView → Rounded → Type 0
+DidWithdraw old new (Did count) = WithdrawsAll old new
+DidWithdraw old new (JournalFull entries) = WithdrawsInTurn old new

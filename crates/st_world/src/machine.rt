@@ -4,7 +4,7 @@
 ghost use Rattle.std.specs.Prelude.{◌≡◌, ℕ, ◌<◌, ◌≤◌, ◌+◌, ◌^◌, length, IfOk, IsOk, IsTrue, OnOk, OnErr};
 ghost use Rattle.st_net.specs.Groups.{IsEntityOf};
 ghost use Rattle.st_net.specs.Ranges.{RowsFit};
-ghost use Rattle.st_event.specs.declared.event.Event.TheVariants.{Submit, Check as check_event, Lock, Unlock, Send, Deliver, Finish as finish_event, Report as report_event, Hear, Fail};
+ghost use Rattle.st_event.specs.declared.event.Event.TheVariants.{Submit, Check as check_event, Lock, Unlock, Send, Deliver, Finish as finish_event, Report as report_event, Hear, Fail, Withdraw};
 ghost use Rattle.st_event.specs.declared.reply.Reply.TheVariants.{Decided as decided_reply};
 ghost use Rattle.st_event.specs.declared.journal.TheConstants.{MAX_ENTRIES};
 ghost use Rattle.st_event.specs.Events.{answers_without_list, is_without_list};
@@ -16,7 +16,7 @@ use crate::plant::Plant;
 use st_agent::{Delivery, Finish};
 use st_control::{
     Control, Judged, SendStep, Twice, check_reply, grant_reply, keep_reply, put_reply,
-    release_reply,
+    release_reply, withdrawal_reply,
 };
 use st_event::{Event, Receipt, Reply, Rows};
 use st_net::{AppId, Entity, GroupTopo, Prio, Vals};
@@ -267,8 +267,35 @@ impl Machine {
         Reply::Changed
     }
 
+    /// What an entity is to become is withdrawn, where it can't be set any more. At `Err` nothing has changed.
+    fn withdraw(&mut self, entry: u32, entity: Entity) -> Result<Reply, AllocError>
+        requires entity { IsEntityOf self.old.checker.group entity }
+        requires version { self.old.checker.store.version + 1 < 2 ^ 32 }
+        ensures ok { IfOk result (Answers self.old self.new entry (Withdraw entity)) }
+        ensures err { OnErr result (HasSameMachine self.old self.new) }
+        ensures room { self.new.messages ≡ self.old.messages }
+    {
+        Ok(withdrawal_reply(self.control.withdraw(entry, entity)?))
+    }
+
+    /// The same, with the reply twice.
+    fn withdraw_twice(&mut self, entry: u32, entity: Entity) -> Result<Twice<Reply>, AllocError>
+        requires entity { IsEntityOf self.old.checker.group entity }
+        requires version { self.old.checker.store.version + 1 < 2 ^ 32 }
+        ensures ok { IfOk result (λ answered. Answers self.old self.new entry (Withdraw entity) answered.told) }
+        ensures kept { IfOk result (λ answered. answered.kept ≡ answered.told) }
+        ensures err { OnErr result (HasSameMachine self.old self.new) }
+        ensures room { self.new.messages ≡ self.old.messages }
+    {
+        let withdrawals = self.control.withdraw_twice(entry, entity)?;
+        Ok(Twice {
+            told: withdrawal_reply(withdrawals.told),
+            kept: withdrawal_reply(withdrawals.kept),
+        })
+    }
+
     /// Answers an event as entry number `entry`. At `Err` nothing has changed but the checker's count of runs. Where there is room, only
-    /// proposals and decisions take memory.
+    /// proposals, decisions and withdrawals take memory.
     pub fn answer(&mut self, entry: u32, event: &Event) -> Result<Reply, AllocError>
         requires fits { Fits self.old.checker.group event.now }
         requires below { IsBelow entry self.old }
@@ -295,12 +322,13 @@ impl Machine {
                 vals,
                 health,
             } => self.fail(*entity, *vals, *health),
+            Event::Withdraw { entity } => self.withdraw(entry, *entity)?,
         };
         Ok(reply)
     }
 
     /// Answers an event as `answer` does, and gives the reply twice: one to hand out and one to enter in a journal. To copy the reply to a
-    /// check once it is given could be refused memory; no other reply needs any.
+    /// check or a withdrawal once it is given could be refused memory; no other reply needs any.
     pub fn answer_twice(&mut self, entry: u32, event: &Event) -> Result<Twice<Reply>, AllocError>
         requires fits { Fits self.old.checker.group event.now }
         requires below { IsBelow entry self.old }
@@ -314,6 +342,7 @@ impl Machine {
     {
         match event {
             Event::Check => self.check_twice(entry),
+            Event::Withdraw { entity } => self.withdraw_twice(entry, *entity),
             _ => {
                 let told = self.answer(entry, event)?;
                 Ok(told_twice(self.alloc, told))

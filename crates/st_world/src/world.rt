@@ -112,7 +112,8 @@ impl World {
     /// Enters an event with the reply that the entries before it call for. `JournalFull` comes exactly where the journal has
     /// 200,000 entries, and then nothing changes. A Deliver or a Hear of a message that was never sent is entered as NoSuch. At
     /// `Err` the group, its journal and its plan are as they were, no room is spent, and the event is dropped. Where there is room, only
-    /// proposals and decisions take memory. It takes constant time but for the rows of a proposal, and for a decision.
+    /// proposals, decisions and withdrawals take memory. It takes constant time but for the rows of a proposal or of a withdrawal, and for a
+    /// decision.
     pub fn step(&mut self, event: Event) -> Result<Stepped, AllocError>
         requires { Fits self.old.history.group event }
         ensures ok { IfOk result (Steps self.old.history self.new.history event) }

@@ -28,7 +28,8 @@ impl World {
             | Event::Unlock { entity, .. }
             | Event::Send { entity }
             | Event::Finish { entity }
-            | Event::Report { entity } => topo.has(*entity),
+            | Event::Report { entity }
+            | Event::Withdraw { entity } => topo.has(*entity),
             Event::Fail {
                 entity,
                 vals,

@@ -1,5 +1,5 @@
-//! Rounds of a world: each entity that is not settled is sent its command, carries it out and reports, as far as the loss plan lets
-//! messages through.
+//! Rounds of a world: each entity that is not settled is sent its command, or what can't be set of the entity is withdrawn; its agent
+//! carries the command out and reports, as far as the loss plan lets messages through.
 
 ghost use Rattle.std.specs.Prelude.{◌≡◌, List, All, IfOk, OnErr, map};
 ghost use Rattle.st_net.specs.Groups.{Group, IsEntityOf};
@@ -7,7 +7,7 @@ ghost use Rattle.st_event.specs.declared.event.Event.TheVariants.{Deliver, Hear}
 ghost use Rattle.st_event.specs.declared.journal.Entry.{Entry};
 ghost use Rattle.st_event.specs.Legal.{Fits};
 ghost use Rattle.st_wire.specs.declared.line.WireLine.{WireLine};
-ghost use Rattle.st_world.specs.Rounds.{arrivals_of, follow_ups, follow_ups_of, enter_all, enter_told, update_turn as update_turn_lem, poll as poll_lem, turn as turn_lem, turns as turns_lem, round as round_lem, course_from, unsettled as unsettled_lem, Goes, Rounds, IsPartOf, HasSameSetting, DidSettle};
+ghost use Rattle.st_world.specs.Rounds.{arrivals_of, follow_ups, follow_ups_of, enter_all, enter_told, is_called_back, called_back as called_back_lem, send_turn as send_turn_lem, update_turn as update_turn_lem, poll as poll_lem, turn as turn_lem, turns as turns_lem, round as round_lem, course_from, unsettled as unsettled_lem, Goes, Rounds, IsPartOf, HasSameSetting, DidSettle, DidWithdraw, WithdrawsInTurn};
 
 use crate::world::World;
 use st_event::{Event, MAX_ENTRIES, Reply};
@@ -69,7 +69,9 @@ fn message_of(reply: &Reply) -> Option<Message>
         | Reply::NotBusy
         | Reply::Taken
         | Reply::Old { .. }
-        | Reply::Changed => None,
+        | Reply::Changed
+        | Reply::Withdrawn { .. }
+        | Reply::Kept => None,
     }
 }
 
@@ -157,16 +159,62 @@ impl World {
         }
     }
 
-    /// The half of an entity's turn that updates it: it is sent its command; where one was sent, each command that arrives at its turn is
-    /// delivered; and it carries its command in work out. At `Full` the journal met its limit; then, and at `Err`, a part of these
-    /// events was entered, from the first, and stands.
+    /// Whether the newest entry blocked an entity by a row that would change an observed value.
+    fn is_called_back(&self, entity: Entity) -> bool
+        requires { IsEntityOf self.now.history.group entity }
+        ensures { result ≡ is_called_back self.now.history.group self.now.history.past entity }
+    {
+        let Some(newest) = self.journal.as_slice().last() else {
+            return false;
+        };
+        let Reply::Blocked { row } = &newest.reply else {
+            return false;
+        };
+        let control = self.machine.control();
+        let place = control.topo().place(entity);
+        let vals = control.store().observed()[place].vals;
+        vals.get(entity, row.var) != row.value
+    }
+
+    /// Where the newest entry blocked an entity by a row that would change an observed value, what the entity is to become is withdrawn.
+    fn call_back(&mut self, entity: Entity) -> Result<Going, AllocError>
+        requires { IsEntityOf self.old.history.group entity }
+        ensures ok { IfOk result (Goes self.new (called_back_lem self.old.history.group (course_from self.old.history.past) entity)) }
+        ensures err { OnErr result (IsPartOf self.old self.new (called_back_lem self.old.history.group (course_from self.old.history.past) entity)) }
+        ensures setting { HasSameSetting self.old self.new }
+    {
+        if self.is_called_back(entity) {
+            self.enter(Event::Withdraw { entity })
+        } else {
+            Ok(Going::On)
+        }
+    }
+
+    /// An entity is sent its command. Where a command was sent, each command that arrives at the turn is delivered; where the entity was
+    /// blocked by a row that would change an observed value, what the entity is to become is withdrawn.
+    fn send_turn(&mut self, entity: Entity) -> Result<Going, AllocError>
+        requires { IsEntityOf self.old.history.group entity }
+        ensures ok { IfOk result (Goes self.new (send_turn_lem self.old.history.group self.old.lines (course_from self.old.history.past) entity)) }
+        ensures err { OnErr result (IsPartOf self.old self.new (send_turn_lem self.old.history.group self.old.lines (course_from self.old.history.past) entity)) }
+        ensures setting { HasSameSetting self.old self.new }
+    {
+        match self.enter_with_follow_ups(Event::Send { entity })? {
+            Going::On => self.call_back(entity),
+            Going::Full => Ok(Going::Full),
+        }
+    }
+
+    /// The half of an entity's turn that updates the entity: the entity is sent its command; where a command was sent, each command that
+    /// arrives at the turn is delivered; where the entity was blocked by a row that would change an observed value, what the entity is to
+    /// become is withdrawn; and its agent carries the command in work out. At `Full` the journal met its limit; then, and at `Err`, a part
+    /// of these events was entered, from the first, and stands.
     pub fn update_turn(&mut self, entity: Entity) -> Result<Going, AllocError>
         requires { IsEntityOf self.old.history.group entity }
         ensures ok { IfOk result (Goes self.new (update_turn_lem self.old.history.group self.old.lines (course_from self.old.history.past) entity)) }
         ensures err { OnErr result (IsPartOf self.old self.new (update_turn_lem self.old.history.group self.old.lines (course_from self.old.history.past) entity)) }
         ensures setting { HasSameSetting self.old self.new }
     {
-        match self.enter_with_follow_ups(Event::Send { entity })? {
+        match self.send_turn(entity)? {
             Going::On => self.enter(Event::Finish { entity }),
             Going::Full => Ok(Going::Full),
         }
@@ -213,16 +261,18 @@ impl World {
         Ok(Going::On)
     }
 
-    /// A round: the entities that are not settled as it begins, in order, each have their turn. That is a Send; where a command was
-    /// sent, a Deliver of each command that arrives at its turn; a Finish; a Report; and a Hear of each report that arrives at that
-    /// one's turn. `JournalFull` comes exactly where one more entry was due at 200,000. At `JournalFull` and at `Err` a part of the
-    /// round was entered, from its start, and stands. The time grows with the entities of the group, and with the lines of the plan for
-    /// each message that is sent.
+    /// A round: the entities that are not settled as the round begins, in order, each have their turn. That is a Send; where the Send was
+    /// blocked by a row whose value is not the observed one, a Withdraw; where a command was sent, a Deliver of each command that arrives
+    /// at the Send's turn; a Finish; a Report; and a Hear of each report that arrives at the Report's turn. `JournalFull` comes exactly
+    /// where one more entry was due at 200,000. At `JournalFull` and at `Err` a part of the round was entered, from its start, and stands.
+    /// The time grows with the entities of the group, and with the lines of the plan for each message that is sent.
     pub fn round(&mut self) -> Result<Rounded, AllocError>
         ensures ok { IfOk result (Rounds self.old self.new) }
         ensures err { OnErr result (IsPartOf self.old self.new (round_lem self.old.history.group self.old.lines self.old.history.past)) }
         ensures setting { HasSameSetting self.old self.new }
         ensures settles { IfOk result (DidSettle self.old self.new) }
+        ensures withdraws { IfOk result (DidWithdraw self.old self.new) }
+        ensures broken_off { OnErr result (WithdrawsInTurn self.old self.new) }
     {
         self.is_legal();
         let entities = self.unsettled()?;

@@ -12,7 +12,7 @@ impl World {
     pub fn update_most(&self) -> usize
         ensures { result ≡ min (update_most_lem self.now.lines) MAX_ENTRIES }
     {
-        (3 + self.plan().len().min(MAX_ENTRIES)).min(MAX_ENTRIES)
+        (4 + self.plan().len().min(MAX_ENTRIES)).min(MAX_ENTRIES)
     }
 
     /// The same number of the half that monitors an entity.
@@ -26,6 +26,6 @@ impl World {
     pub fn turn_most(&self) -> usize
         ensures { result ≡ min (turn_most_lem self.now.lines) MAX_ENTRIES }
     {
-        (5 + 2 * self.plan().len().min(MAX_ENTRIES)).min(MAX_ENTRIES)
+        (6 + 2 * self.plan().len().min(MAX_ENTRIES)).min(MAX_ENTRIES)
     }
 }

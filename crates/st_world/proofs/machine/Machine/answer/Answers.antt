@@ -3,7 +3,7 @@ use Rattle.std.specs.Prelude.{true, false, IsTrue}
 use Rattle.st_event.specs.declared.event.Event.{Event}
 use Rattle.st_event.specs.Events.{answers_without_list, is_without_list}
 use Rattle.st_world.specs.Machine.{Answers}
-use Rattle.st_world.proofs.machine.Machine.answer.Goals.{in-Submit+in_ok-reply-in-Submit, in-Check+in_ok-reply-in-Check, in-Lock, in-Unlock, in-Send+in_ok-reply-in-Send, in-Deliver, in-Finish, in-Report+in_ok-reply-in-Report, in-Hear, in-Fail}
+use Rattle.st_world.proofs.machine.Machine.answer.Goals.{in-Submit+in_ok-reply-in-Submit, in-Check+in_ok-reply-in-Check, in-Lock, in-Unlock, in-Send+in_ok-reply-in-Send, in-Deliver, in-Finish, in-Report+in_ok-reply-in-Report, in-Hear, in-Fail, in-Withdraw+in_ok-reply-in-Withdraw}
 use Rattle.st_world.proofs.machine.Machine.answer.Goals as goal
 
 pub returns-clause-ok : goal.returns-clause-ok
@@ -19,6 +19,7 @@ returns-clause-ok c =
       | in-Report+in_ok-reply-in-Report w ↦ rw (w.self-is, w.reply-is, w.in-Report.is) (w.in_ok-reply-in-Report.ensures.ok c.args.entry)
       | in-Hear w ↦ rw (w.self-is, w.reply-is, w.in-Hear.is) w.hear-reply.ensures.ok
       | in-Fail w ↦ rw (w.self-is, w.reply-is, w.in-Fail.is) (w.fail-reply.ensures.ok c.args.entry)
+      | in-Withdraw+in_ok-reply-in-Withdraw w ↦ rw (w.self-is, w.reply-is, w.in-Withdraw.is) w.in_ok-reply-in-Withdraw.ensures.ok
     ] in
     answers
 
@@ -38,5 +39,6 @@ returns-clause-plain c =
       | in-Report+in_ok-reply-in-Report w ↦ λ other. rw w.reply-is w.in_ok-reply-in-Report.ensures.plain
       | in-Hear w ↦ λ other. rw w.reply-is w.hear-reply.ensures.plain
       | in-Fail w ↦ λ other. rw w.reply-is w.fail-reply.ensures.plain
+      | in-Withdraw+in_ok-reply-in-Withdraw w ↦ λ other. absurd (false_true (subst (λ (e : Event). answers_without_list e ≡ true) w.in-Withdraw.is other))
     ] in
     plain
