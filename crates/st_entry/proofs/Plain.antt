@@ -24,13 +24,13 @@ use Rattle.st_net.specs.Names.{is_name_byte, are_name_bytes, begins_with_letter,
 use Rattle.st_net.specs.Groups.{Group, IsSound, are_names, name_of}
 use Rattle.st_net.specs.Demands.{broken_pair}
 use Rattle.st_event.specs.declared.event.Event.{Event}
-use Rattle.st_event.specs.declared.event.Event.TheVariants.{Submit, Check, Lock, Unlock, Send, Deliver, Finish, Report, Hear, Fail}
+use Rattle.st_event.specs.declared.event.Event.TheVariants.{Submit, Check, Lock, Unlock, Send, Deliver, Finish, Report, Hear, Fail, Withdraw}
 use Rattle.st_event.specs.declared.reply.Lack.{Lack}
 use Rattle.st_event.specs.declared.reply.Lack.TheVariants.{Level, PowerOff}
 use Rattle.st_event.specs.declared.reply.Cause.{Cause}
 use Rattle.st_event.specs.declared.reply.Cause.TheVariants.{NotControllable, Locked, Broken as broken_cause}
 use Rattle.st_event.specs.declared.reply.Reply.{Reply}
-use Rattle.st_event.specs.declared.reply.Reply.TheVariants.{Queued, Full, Decided, Idle, Granted, Held, Released, NotYours, Sent, Settled, Blocked, Begun, Stale, NoSuch, Done, NotBusy, Reported, Taken, Old, Changed}
+use Rattle.st_event.specs.declared.reply.Reply.TheVariants.{Queued, Full, Decided, Idle, Granted, Held, Released, NotYours, Sent, Settled, Blocked, Begun, Stale, NoSuch, Done, NotBusy, Reported, Taken, Old, Changed, Withdrawn, Kept}
 use Rattle.st_event.specs.declared.reply.Verdict.{Verdict}
 use Rattle.st_event.specs.declared.reply.Verdict.TheVariants.{Accepted, Refused}
 use Rattle.st_token.specs.Words.{prio_word, value_word, var_word}
@@ -152,6 +152,10 @@ holder_plain : (apps : List (List ℕ)) (holder : Option AppId) → are_names ap
 holder_plain apps None are = refl
 holder_plain apps (Some app) are = app_plain apps app are
 
+pub rows_plain : (g : Group) (rows : List Row) → IsSound g → are_plain (assignment_words g rows) ≡ true
+rows_plain g [] sound = refl
+rows_plain g (row ∷ rows) sound = rw (assignment_plain g row sound) (rows_plain g rows sound)
+
 pub reply_plain : (g : Group) (apps : List (List ℕ)) (reply : Reply) → IsSound g → are_names apps ≡ true → are_plain (reply_words g apps reply) ≡ true
 reply_plain g apps (Queued ticket) sound are = rw (number_plain ticket) refl
 reply_plain g apps (Full pending) sound are = rw (number_plain pending) refl
@@ -173,10 +177,8 @@ reply_plain g apps (Reported report) sound are = rw (number_plain report) refl
 reply_plain g apps Taken sound are = refl
 reply_plain g apps (Old kept) sound are = rw (number_plain kept) refl
 reply_plain g apps Changed sound are = refl
-
-rows_plain : (g : Group) (rows : List Row) → IsSound g → are_plain (assignment_words g rows) ≡ true
-rows_plain g [] sound = refl
-rows_plain g (row ∷ rows) sound = rw (assignment_plain g row sound) (rows_plain g rows sound)
+reply_plain g apps (Withdrawn version rows) sound are = rw (number_plain version) (rows_plain g rows sound)
+reply_plain g apps Kept sound are = refl
 
 value_plain : (v : Var) (n : ℕ) → is_plain (value_word v n) ≡ true
 value_plain v n = join (var_word v) (61 ∷ decimal n) (var_plain v) (number_plain n)
@@ -196,6 +198,7 @@ event_plain g apps (Finish e) sound are = rw (entity_plain g e sound) refl
 event_plain g apps (Report e) sound are = rw (entity_plain g e sound) refl
 event_plain g apps (Hear n) sound are = rw (number_plain n) refl
 event_plain g apps (Fail e vals health) sound are = rw (entity_plain g e sound, number_plain health) (values_plain e vals)
+event_plain g apps (Withdraw e) sound are = rw (entity_plain g e sound) refl
 
 -- the words of an entry
 pub words_plain : (g : Group) (apps : List (List ℕ)) (event : Event) (reply : Reply) → IsSound g → are_names apps ≡ true → is_plain (spaced (event_words g apps event ++ reply_mark ∷ reply_words g apps reply)) ≡ true

@@ -2,9 +2,9 @@
 use Rattle.std.specs.Prelude.{ℕ, List, [], ◌∷◌, ◌++◌, decimal}
 use Rattle.st_net.specs.Groups.{Group, name_of}
 use Rattle.st_event.specs.declared.event.Event.{Event}
-use Rattle.st_event.specs.declared.event.Event.TheVariants.{Submit, Check, Lock, Unlock, Send, Deliver, Finish, Report, Hear, Fail}
+use Rattle.st_event.specs.declared.event.Event.TheVariants.{Submit, Check, Lock, Unlock, Send, Deliver, Finish, Report, Hear, Fail, Withdraw}
 use Rattle.st_event.specs.declared.reply.Reply.{Reply}
-use Rattle.st_event.specs.declared.reply.Reply.TheVariants.{Queued, Full, Decided, Idle, Granted, Held, Released, NotYours, Sent, Settled, Blocked, Begun, Stale, NoSuch, Done, NotBusy, Reported, Taken, Old, Changed}
+use Rattle.st_event.specs.declared.reply.Reply.TheVariants.{Queued, Full, Decided, Idle, Granted, Held, Released, NotYours, Sent, Settled, Blocked, Begun, Stale, NoSuch, Done, NotBusy, Reported, Taken, Old, Changed, Withdrawn, Kept}
 use Rattle.st_event.specs.declared.journal.Entry.{Entry}
 use Rattle.st_token.specs.Words.{prio_word}
 use Rattle.st_entry.specs.declared.keyword.EventWord.TheVariants as events
@@ -25,6 +25,7 @@ event_words g apps (Finish e) = event_word events.Finish ∷ name_of g e ∷ []
 event_words g apps (Report e) = event_word events.Report ∷ name_of g e ∷ []
 event_words g apps (Hear report) = event_word events.Hear ∷ decimal report ∷ []
 event_words g apps (Fail e vals health) = event_word events.Fail ∷ name_of g e ∷ decimal health ∷ value_words e vals
+event_words g apps (Withdraw e) = event_word events.Withdraw ∷ name_of g e ∷ []
 
 -- the number of the entry that decides a ticket is that of its own line
 abbrev pub reply_words : Group → List (List ℕ) → Reply → Words
@@ -48,6 +49,8 @@ reply_words g apps (Reported report) = reply_word replies.Reported ∷ decimal r
 reply_words g apps Taken = reply_word replies.Taken ∷ []
 reply_words g apps (Old kept) = reply_word replies.Old ∷ decimal kept ∷ []
 reply_words g apps Changed = reply_word replies.Changed ∷ []
+reply_words g apps (Withdrawn version rows) = reply_word replies.Withdrawn ∷ decimal version ∷ assignment_words g rows
+reply_words g apps Kept = reply_word replies.Kept ∷ []
 
 -- the entry of a number: the first of a journal has number 1
 abbrev pub entry_words : Group → List (List ℕ) → ℕ → Entry → Words

@@ -23,6 +23,7 @@ event_word events.Finish = codes "finish"
 event_word events.Report = codes "report"
 event_word events.Hear = codes "hear"
 event_word events.Fail = codes "fail"
+event_word events.Withdraw = codes "withdraw"
 
 abbrev pub reply_word : ReplyWord → List ℕ
 reply_word replies.Queued = codes "queued"
@@ -45,6 +46,8 @@ reply_word replies.Reported = codes "reported"
 reply_word replies.Taken = codes "taken"
 reply_word replies.Old = codes "old"
 reply_word replies.Changed = codes "changed"
+reply_word replies.Withdrawn = codes "withdrawn"
+reply_word replies.Kept = codes "kept"
 
 abbrev pub verdict_word : VerdictWord → List ℕ
 verdict_word verdicts.Accepted = codes "accepted"

@@ -19,8 +19,8 @@ use st_text::{Text, Word, print_word, print_words};
 use st_token::{prio_word, var_word};
 use std::alloc::AllocError;
 
-/// Adds rows as assignments.
-fn print_assignments(topo: &GroupTopo, rows: &[Row], out: &mut Text) -> Result<(), AllocError>
+/// Adds rows as assignments, each behind a space. `Err` is for want of memory alone, and nothing is said of the text then.
+pub fn print_assignments(topo: &GroupTopo, rows: &[Row], out: &mut Text) -> Result<(), AllocError>
     ensures { OnOk result (out.new ≡ out.old ++ spaced (assignment_words topo.now rows.now)) }
 {
     for row in rows {
@@ -174,5 +174,8 @@ pub fn print_event<'a>(
             vals,
             health,
         } => print_fail(entity_name(topo, *entity), *health, *entity, *vals, out),
+        Event::Withdraw { entity } => {
+            print_named(EventWord::Withdraw, entity_name(topo, *entity), out)
+        }
     }
 }

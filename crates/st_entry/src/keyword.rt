@@ -19,6 +19,7 @@ pub enum EventWord {
     Report,
     Hear,
     Fail,
+    Withdraw,
 }
 
 /// The first word of a reply, one for each. `Receipt` is that of a decision.
@@ -44,6 +45,8 @@ pub enum ReplyWord {
     Taken,
     Old,
     Changed,
+    Withdrawn,
+    Kept,
 }
 
 /// The first word of a verdict.
@@ -79,6 +82,7 @@ impl EventWord {
             EventWord::Report => b"report",
             EventWord::Hear => b"hear",
             EventWord::Fail => b"fail",
+            EventWord::Withdraw => b"withdraw",
         }
     }
 }
@@ -109,6 +113,8 @@ impl ReplyWord {
             ReplyWord::Taken => b"taken",
             ReplyWord::Old => b"old",
             ReplyWord::Changed => b"changed",
+            ReplyWord::Withdrawn => b"withdrawn",
+            ReplyWord::Kept => b"kept",
         }
     }
 }

@@ -12,7 +12,7 @@ mod saws;
 
 pub use causes::{print_cause, print_verdict};
 pub use entries::print_entry;
-pub use events::print_event;
+pub use events::{print_assignments, print_event};
 pub use keyword::{CauseWord, EventWord, ReplyWord, VerdictWord, kind_word};
 pub use names::{app_name, entity_name, holder_name};
 pub use replies::print_reply;

@@ -4,11 +4,12 @@ ghost use Rattle.std.specs.Prelude.{◌≡◌, ◌++◌, ◌∷◌, [], OnOk, de
 ghost use Rattle.st_text.specs.Words.{spaced};
 ghost use Rattle.st_entry.specs.declared.keyword.ReplyWord.TheVariants as replies;
 ghost use Rattle.st_entry.specs.Keywords.{reply_word};
-ghost use Rattle.st_entry.specs.Words.{assignment};
+ghost use Rattle.st_entry.specs.Words.{assignment, assignment_words};
 ghost use Rattle.st_entry.specs.Causes.{verdict_words};
 ghost use Rattle.st_entry.specs.Entries.{reply_words};
 
 use crate::causes::print_verdict;
+use crate::events::print_assignments;
 use crate::keyword::ReplyWord;
 use crate::names::{app_name, entity_name, holder_name};
 use st_event::{Receipt, Reply};
@@ -66,6 +67,19 @@ fn print_blocked(topo: &GroupTopo, row: Row, out: &mut Text) -> Result<(), Alloc
     print_words(&[Word::Plain(ReplyWord::Blocked.word()), assignment], out)
 }
 
+/// Adds what is withdrawn: the version that it is, and its rows.
+fn print_withdrawn(
+    topo: &GroupTopo,
+    version: u32,
+    rows: &[Row],
+    out: &mut Text,
+) -> Result<(), AllocError>
+    ensures { OnOk result (out.new ≡ out.old ++ spaced (reply_word replies.Withdrawn ∷ decimal version ∷ assignment_words topo.now rows.now)) }
+{
+    print_numbered(ReplyWord::Withdrawn, version, out)?;
+    print_assignments(topo, rows, out)
+}
+
 /// Adds the words of a reply, each behind a space. `Err` is for want of memory alone, and nothing is said of the text then.
 pub fn print_reply<'a>(
     topo: &'a GroupTopo,
@@ -98,5 +112,9 @@ pub fn print_reply<'a>(
         Reply::Taken => print_bare(ReplyWord::Taken, out),
         Reply::Old { kept } => print_numbered(ReplyWord::Old, *kept, out),
         Reply::Changed => print_bare(ReplyWord::Changed, out),
+        Reply::Withdrawn { version, rows } => {
+            print_withdrawn(topo, *version, rows.as_slice(), out)
+        }
+        Reply::Kept => print_bare(ReplyWord::Kept, out),
     }
 }

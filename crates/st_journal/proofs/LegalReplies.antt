@@ -23,7 +23,7 @@ use Rattle.st_net.specs.declared.promise.Promise.{Promise}
 use Rattle.st_net.specs.declared.topo.DeviceOpening.{DeviceOpening}
 use Rattle.st_net.specs.declared.topo.LinkOpening.{LinkOpening}
 use Rattle.st_net.specs.Cuts.{is_crossing, cut_value_from, cut_value, cut_of, least_over, least_cut, is_in_least_side, all_over, numbers_in, with_number}
-use Rattle.st_net.specs.Entities.{value_of, is_var_of, is_same_entity}
+use Rattle.st_net.specs.Entities.{value_of, vars_of, is_var_of, is_same_entity}
 use Rattle.st_net.specs.Groups.{Group, IsSound, IsEntityOf, IsDevice, AreDevices, AreLinks, ArePromises, IsPromiseAmong, health_of, opening_of, no_device, no_link}
 use Rattle.st_net.specs.Holders.{Holding, high_or_low, effective_of, holder_set, holder_freed, is_held_by, is_same_prio, is_free_for}
 use Rattle.st_net.specs.Levels.{level_of}
@@ -34,7 +34,7 @@ use Rattle.st_net.specs.Ranges.{RowFits, is_in_range, is_health_of}
 use Rattle.st_net.specs.UpGraph.{is_up_link}
 use Rattle.st_net.proofs.WalkLaws.{is_link_at}
 use Rattle.st_event.specs.declared.event.Event.{Event}
-use Rattle.st_event.specs.declared.event.Event.TheVariants.{Submit, Check, Lock, Unlock, Send, Deliver, Finish, Report as make_report, Hear, Fail}
+use Rattle.st_event.specs.declared.event.Event.TheVariants.{Submit, Check, Lock, Unlock, Send, Deliver, Finish, Report as make_report, Hear, Fail, Withdraw}
 use Rattle.st_event.specs.declared.event.Proposal.{Proposal}
 use Rattle.st_event.specs.declared.journal.Entry.{Entry}
 use Rattle.st_event.specs.declared.journal.TheConstants.{MAX_ENTRIES, MAX_PENDING}
@@ -43,7 +43,7 @@ use Rattle.st_event.specs.declared.reply.Cause.TheVariants.{Locked, Broken as br
 use Rattle.st_event.specs.declared.reply.Lack.{Lack}
 use Rattle.st_event.specs.declared.reply.Lack.TheVariants.{Level, PowerOff}
 use Rattle.st_event.specs.declared.reply.Reply.{Reply}
-use Rattle.st_event.specs.declared.reply.Reply.TheVariants.{Queued, Full, Granted, Held, Released, NotYours, Settled, Begun, Stale, Done, NotBusy, Taken, Old}
+use Rattle.st_event.specs.declared.reply.Reply.TheVariants.{Queued, Full, Granted, Held, Released, NotYours, Settled, Begun, Stale, Done, NotBusy, Taken, Old, Withdrawn, Kept}
 use Rattle.st_event.specs.declared.reply.Verdict.{Verdict}
 use Rattle.st_event.specs.Judge.{needs_of, lack_or, level_lack, power_lack, lack_at, lack_cause, first_lack, locked_cause, first_locked, cause_or, refusal_or_version}
 use Rattle.st_event.specs.Legal.{Fits, IsLegal}
@@ -51,12 +51,14 @@ use Rattle.st_event.specs.Locks.{is_granted, is_released, holder_after, holder}
 use Rattle.st_event.specs.Moments.{commands, reports, fence, busy, vals, health, health_after}
 use Rattle.st_event.specs.Observed.{observed, is_settled, sure, sure_after}
 use Rattle.st_event.specs.Proposals.{proposals, verdicts, pending, accepted_among, is_accepted, version, target, first_rows}
-use Rattle.st_event.specs.Replies.{check_reply, lock_reply, first_other, governing, row_to, blocked_or_sent, deliver_reply, hear_reply, reply}
+use Rattle.st_event.specs.Replies.{check_reply, lock_reply, first_other, governing, row_to, rows_back, kept_or_withdrawn, blocked_or_sent, deliver_reply, hear_reply, reply}
 use Rattle.st_event.proofs.Accepting.{next_fits}
 use Rattle.st_event.proofs.Made.{IsMade, Makes, report_now, observed_own}
 use Rattle.st_event.proofs.Shown.{made_is_true}
 use Rattle.st_event.proofs.Stamps.{stamp_small, fence_small}
-use Rattle.st_event.proofs.Targets.{legal_orderly, overlays_are_accepted}
+use Rattle.st_event.proofs.Ranges.{back_in_range}
+use Rattle.st_event.proofs.Targets.{legal_orderly}
+use Rattle.st_event.proofs.Versions.{versions_few}
 use Rattle.st_entry.specs.Keywords.{reply_word}
 use Rattle.st_journal.specs.EntryWords.{replies_of, reply_among}
 use Rattle.st_journal.specs.ReadingBack.{IsByApp}
@@ -64,7 +66,8 @@ use Rattle.st_world.proofs.RangeLaws.{target_in_range}
 use Rattle.st_net.proofs.RangeLaws.{value_in_range}
 use Rattle.st_world.proofs.WorldLaws.{few_tickets, few_commands, few_reports, low_numbers}
 use Rattle.st_journal.proofs.PrintedEvents.{event_keyword}
-use Rattle.st_journal.proofs.PrintedReplies.{Ascends, LackFits, BrokenFits, CauseFits, VerdictFits, HolderFits, ReplyFits, reply_keyword}
+use Rattle.st_journal.proofs.PrintedReplies.{Ascends, LackFits, BrokenFits, CauseFits, VerdictFits, HolderFits, ReplyFits, AreOwn, IsOfEvent, reply_keyword}
+use Rattle.st_journal.proofs.OwnRows.{are_own}
 
 -- healths and levels
 
@@ -96,6 +99,7 @@ health_next g (Deliver n) e before fits less = less
 health_next g (Finish at) e before fits less = less
 health_next g (make_report at) e before fits less = less
 health_next g (Hear n) e before fits less = less
+health_next g (Withdraw at) e before fits less = less
 
 few_health : (g : Group) (past : List Entry) (e : Entity) → IsSound g → IsLegal g past → IsEntityOf g e → health g past e ≤ 5
 few_health g [] e sound legal own = opening_health g e sound own
@@ -366,30 +370,22 @@ verdict_by : (g : Group) (apps : List (List ℕ)) (o : Option Cause) (accepts : 
 verdict_by g apps (Some cause) accepts has less = has
 verdict_by g apps None accepts has less = less
 
-accepting_few : (b : Bool) (rows : List Row) (rest : List (List Row)) (n : ℕ) → length rest ≤ n → length (if b then rows ∷ rest else rest) ≤ n + 1
-accepting_few true rows rest n few = omega arith
-accepting_few false rows rest n few = omega arith
-
-accepted_few : (ps : List Proposal) (vs : List Verdict) → length (accepted_among ps vs) ≤ length vs
-accepted_few ps [] = omega arith
-accepted_few [] (v ∷ vs) = omega arith
-accepted_few (p ∷ ps) (v ∷ vs) = omega (arith, accepting_few (is_accepted v) p.rows (accepted_among ps vs) (length vs) (accepted_few ps vs))
-
 few_verdicts : (g : Group) (past : List Entry) → IsLegal g past → length (verdicts past) ≤ length past
 few_verdicts g past legal = omega (arith, (legal_orderly g past legal).few, few_tickets past)
 
 -- the reply to an event names what can be read back, and is one that the event takes
 pub record IsAnswer (g : Group) (apps : List (List ℕ)) (n : ℕ) (event : Event) (answer : Reply) : Type 0 where
   pub fits : ReplyFits g apps n answer
+  pub own : IsOfEvent event answer
   pub taken : reply_among (replies_of (event_keyword event)) (reply_word (reply_keyword answer)) ≡ Some (reply_keyword answer)
 
 module _ (g : Group) (apps : List (List ℕ)) (past : List Entry) (sound : IsSound g) (legal : IsLegal g past) (room : length past < MAX_ENTRIES) (asked : AllByRecursion (λ (entry : Entry). IsByApp apps entry.event) past) where
   submit_answer : (app : AppId) (rows : List Row) (ticket waiting : ℕ) (b : Bool) → ticket < 2 ^ 32 → waiting < 2 ^ 32 → IsAnswer g apps (length past + 1) (Submit app rows) (if b then Queued ticket else Full waiting)
-  submit_answer app rows ticket waiting true few less = record { fits = few; taken = refl }
-  submit_answer app rows ticket waiting false few less = record { fits = less; taken = refl }
+  submit_answer app rows ticket waiting true few less = record { fits = few; own = tt; taken = refl }
+  submit_answer app rows ticket waiting false few less = record { fits = less; own = tt; taken = refl }
 
   check_answer : (queue : List Proposal) → pending past ≡ queue → IsAnswer g apps (length past + 1) Check (check_reply g past queue)
-  check_answer [] first = record { fits = tt; taken = refl }
+  check_answer [] first = record { fits = tt; own = tt; taken = refl }
   check_answer (p ∷ ps) first =
       let fit : AllByRecursion (RowFits g) p.rows = recursion_from_All (RowFits g) p.rows (subst (λ (queue : List Proposal). All (RowFits g) (first_rows queue)) first (next_fits g past legal)) in
       let lacks = lacks_fit g apps past (target_with (target g past) p.rows) p.rows sound legal fit in
@@ -400,49 +396,50 @@ module _ (g : Group) (apps : List (List ℕ)) (past : List Entry) (sound : IsSou
         fits = record {
           ticket = omega (arith, few_verdicts g past legal);
           entry = refl;
-          verdict = verdict_by g apps _ (version past) (or_cause g apps (first_lack g (observed g past) (target_with (target g past) p.rows) p.rows) _ lacks later) (omega (arith, ap length (overlays_are_accepted g past legal), accepted_few (proposals past) (verdicts past), few_verdicts g past legal));
+          verdict = verdict_by g apps _ (version past) (or_cause g apps (first_lack g (observed g past) (target_with (target g past) p.rows) p.rows) _ lacks later) (omega (arith, versions_few past));
         };
+        own = tt;
         taken = refl;
       }
 
   lock_if : (app holder : AppId) (e : Entity) (prio : Prio) (b : Bool) → holder.0 < length apps → IsAnswer g apps (length past + 1) (Lock app e prio) (if b then Granted else Held holder)
-  lock_if app holder e prio true low = record { fits = tt; taken = refl }
-  lock_if app holder e prio false low = record { fits = low; taken = refl }
+  lock_if app holder e prio true low = record { fits = tt; own = tt; taken = refl }
+  lock_if app holder e prio false low = record { fits = low; own = tt; taken = refl }
 
   lock_answer : (app : AppId) (e : Entity) (prio : Prio) (o : Option AppId) → HolderFits apps o → IsAnswer g apps (length past + 1) (Lock app e prio) (lock_reply app o)
-  lock_answer app e prio None has = record { fits = tt; taken = refl }
+  lock_answer app e prio None has = record { fits = tt; own = tt; taken = refl }
   lock_answer app e prio (Some holder) has = lock_if app holder e prio (is_free_for app (Some holder)) has
 
   unlock_answer : (app : AppId) (e : Entity) (prio : Prio) (o : Option AppId) (b : Bool) → HolderFits apps o → IsAnswer g apps (length past + 1) (Unlock app e prio) (if b then Released else NotYours o)
-  unlock_answer app e prio o true has = record { fits = tt; taken = refl }
-  unlock_answer app e prio o false has = record { fits = has; taken = refl }
+  unlock_answer app e prio o true has = record { fits = tt; own = tt; taken = refl }
+  unlock_answer app e prio o false has = record { fits = has; own = tt; taken = refl }
 
   blocked_answer : (e : Entity) (o : Option Lack) (row : Row) (sent : ℕ) → RowFits g row → sent + 1 < 2 ^ 32 → IsAnswer g apps (length past + 1) (Send e) (blocked_or_sent o row sent)
-  blocked_answer e (Some lack) row sent fits less = record { fits = fits; taken = refl }
-  blocked_answer e None row sent fits less = record { fits = less; taken = refl }
+  blocked_answer e (Some lack) row sent fits less = record { fits = fits; own = tt; taken = refl }
+  blocked_answer e None row sent fits less = record { fits = less; own = tt; taken = refl }
 
   send_if : (e : Entity) (b : Bool) (next : Reply) → IsAnswer g apps (length past + 1) (Send e) next → IsAnswer g apps (length past + 1) (Send e) (if b then Settled else next)
-  send_if e true next answers = record { fits = tt; taken = refl }
+  send_if e true next answers = record { fits = tt; own = tt; taken = refl }
   send_if e false next answers = answers
 
   stale_if : (n fence : ℕ) (b : Bool) → fence < 2 ^ 32 → IsAnswer g apps (length past + 1) (Deliver n) (if b then Begun else Stale fence)
-  stale_if n fence true less = record { fits = tt; taken = refl }
-  stale_if n fence false less = record { fits = less; taken = refl }
+  stale_if n fence true less = record { fits = tt; own = tt; taken = refl }
+  stale_if n fence false less = record { fits = less; own = tt; taken = refl }
 
   deliver_answer : (n : ℕ) (fences : Entity → ℕ) (sent : ℕ) (o : Option Command) → ((e : Entity) → fences e < 2 ^ 32) → sent < 2 ^ 32 → IsAnswer g apps (length past + 1) (Deliver n) (deliver_reply fences sent o)
-  deliver_answer n fences sent None few less = record { fits = less; taken = refl }
+  deliver_answer n fences sent None few less = record { fits = less; own = tt; taken = refl }
   deliver_answer n fences sent (Some c) few less = stale_if n (fences c.entity) (nat_lt (fences c.entity) c.stamp) (few c.entity)
 
   finish_if : (e : Entity) (b : Bool) → IsAnswer g apps (length past + 1) (Finish e) (if b then Done else NotBusy)
-  finish_if e true = record { fits = tt; taken = refl }
-  finish_if e false = record { fits = tt; taken = refl }
+  finish_if e true = record { fits = tt; own = tt; taken = refl }
+  finish_if e false = record { fits = tt; own = tt; taken = refl }
 
   old_if : (n kept : ℕ) (b : Bool) → kept < 2 ^ 32 → IsAnswer g apps (length past + 1) (Hear n) (if b then Taken else Old kept)
-  old_if n kept true less = record { fits = tt; taken = refl }
-  old_if n kept false less = record { fits = less; taken = refl }
+  old_if n kept true less = record { fits = tt; own = tt; taken = refl }
+  old_if n kept false less = record { fits = less; own = tt; taken = refl }
 
   hear_answer : (n : ℕ) (kept : Entity → Report) (made : ℕ) (o : Option Report) → ((e : Entity) → (kept e).number < 2 ^ 32) → made < 2 ^ 32 → IsAnswer g apps (length past + 1) (Hear n) (hear_reply kept made o)
-  hear_answer n kept made None few less = record { fits = less; taken = refl }
+  hear_answer n kept made None few less = record { fits = less; own = tt; taken = refl }
   hear_answer n kept made (Some r) few less = old_if n (kept r.entity).number (nat_lt (kept r.entity).number r.number) (few r.entity)
 
   -- the variable that a command waits for is one of its entity
@@ -478,6 +475,18 @@ module _ (g : Group) (apps : List (List ℕ)) (past : List Entry) (sound : IsSou
     range = subst (λ (x : ℕ). is_in_range e v x ≡ true) (wanted_value e v is) (value_in_range e (vals_in g (target g past) e) v (target_in_range g past e sound legal own) is);
   }
 
+  -- a withdrawal
+  withdraw_by : (e : Entity) (lack : Option Lack) (rows : List Row) → AllByRecursion (RowFits g) rows → AreOwn e [] rows → IsAnswer g apps (length past + 1) (Withdraw e) (kept_or_withdrawn lack rows (version past))
+  withdraw_by e None rows fits own = record { fits = tt; own = tt; taken = refl }
+  withdraw_by e (Some lack) [] fits own = record { fits = tt; own = tt; taken = refl }
+  withdraw_by e (Some lack) (row ∷ rows) fits own = record { fits = (omega (arith, versions_few past, room), omega arith, fits); own = (e, refl, own); taken = refl }
+
+  withdraw_answer : (e : Entity) → IsEntityOf g e → IsAnswer g apps (length past + 1) (Withdraw e) (reply g past (Withdraw e))
+  withdraw_answer e own =
+      let value = value_of e (observed g past e).vals in
+      let rows = rows_back e value (target g past e) (vars_of e) in
+      withdraw_by e (lack_at g (observed g past) (target g past) e (governing e (observed g past e).vals (target g past e))) rows (recursion_from_All (RowFits g) rows (back_in_range g past e sound legal own)) (are_own e value (target g past e))
+
   pub answers : (event : Event) → Fits g event → IsAnswer g apps (length past + 1) event (reply g past event)
   answers (Submit app rows) fits =
       submit_answer app rows (length (proposals past) + 1) (length (pending past)) (nat_lt (length (pending past)) MAX_PENDING) (omega (arith, few_tickets past)) (omega (arith, few_tickets past, length-drop (length (verdicts past)) (proposals past)))
@@ -489,6 +498,7 @@ module _ (g : Group) (apps : List (List ℕ)) (past : List Entry) (sound : IsSou
       send_if e (is_settled g past e) _ (blocked_answer e (lack_at g (observed g past) (target g past) e v) (row_to e v (target g past e)) (length (commands g past)) (target_row e v fits (governs e (observed g past e).vals (target g past e))) (omega (arith, few_commands g past)))
   answers (Deliver n) fits = deliver_answer n (fence g past) (length (commands g past)) (nth (commands g past) n) (λ e. omega (arith, fence_small g past e, stamp_small g past e)) (omega (arith, few_commands g past))
   answers (Finish e) fits = finish_if e (busy g past e)
-  answers (make_report e) fits = record { fits = omega (arith, few_reports g past); taken = refl }
+  answers (make_report e) fits = record { fits = omega (arith, few_reports g past); own = tt; taken = refl }
   answers (Hear n) fits = hear_answer n (observed g past) (length (reports g past)) (nth (reports g past) n) (λ e. omega (arith, low_observed g past e)) (omega (arith, few_reports g past))
-  answers (Fail e made level) fits = record { fits = tt; taken = refl }
+  answers (Fail e made level) fits = record { fits = tt; own = tt; taken = refl }
+  answers (Withdraw e) fits = withdraw_answer e fits

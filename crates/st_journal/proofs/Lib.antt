@@ -10,6 +10,7 @@ mod WorkedReading
 pub mod PrintedNames
 pub mod PrintedEvents
 pub mod PrintedReplies
+pub mod OwnRows
 pub mod PrintedEntries
 pub mod PrintedJournals
 pub mod LegalReplies

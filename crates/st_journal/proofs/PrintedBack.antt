@@ -28,6 +28,7 @@ readable_at g apps past entry sound next legal asked is =
     record {
       event = record { fits = next.fits; app = is.app; number = is.number };
       reply = answer.fits;
+      own = answer.own;
       taken = answer.taken;
     }
 

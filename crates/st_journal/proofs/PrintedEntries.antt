@@ -16,12 +16,13 @@ use Rattle.st_journal.specs.EntryWords.{replies_of, reply_among, takes_event_tok
 use Rattle.st_journal.specs.EntryReading.{cut_at_colon, parts_of, event_part_of, reply_part_of, entry_of}
 use Rattle.st_journal.specs.ReadingBack.{AreNames}
 use Rattle.st_journal.proofs.PrintedEvents.{IsSpelled, event_keyword, event_args, event_words_are, event_named_again, event_again, event_counted, few_rows, IsEventToken, event_tokens}
-use Rattle.st_journal.proofs.PrintedReplies.{ReplyFits, reply_keyword, reply_args, reply_words_are, reply_named_again, reply_again, reply_counted, reply_is_words}
+use Rattle.st_journal.proofs.PrintedReplies.{IsOfEvent, ReplyFits, reply_keyword, reply_args, reply_words_are, reply_named_again, reply_again, reply_counted, reply_is_words}
 
 -- an entry of this number, whose words say what it is: its event and its reply do, and the event takes the reply
 pub record IsReadable (g : Group) (apps : List (List ℕ)) (n : ℕ) (entry : Entry) : Type 0 where
   pub event : IsSpelled g apps entry.event
   pub reply : ReplyFits g apps n entry.reply
+  pub own : IsOfEvent entry.event entry.reply
   pub taken : reply_among (replies_of (event_keyword entry.event)) (reply_word (reply_keyword entry.reply)) ≡ Some (reply_keyword entry.reply)
 
 -- an event's words end at the mark
@@ -55,7 +56,7 @@ by_words g apps n entry sound are less is =
       event_part_again (event_keyword entry.event) (event_args g apps entry.event),
       reply_part_again (event_keyword entry.event) (reply_keyword entry.reply) (reply_args g apps entry.reply) is.taken,
       event_again g apps entry.event sound are is.event,
-      reply_again g apps sound are n entry.reply is.reply,
+      reply_again g apps sound are n entry.event entry.reply is.reply is.own,
       few_rows g entry.event is.event.fits,
     ) refl
 

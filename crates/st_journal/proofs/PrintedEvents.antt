@@ -24,7 +24,7 @@ use Rattle.st_net.specs.Entities.{vars_of}
 use Rattle.st_net.specs.Groups.{Group, IsSound, IsEntityOf, name_of, find_in, no_vals}
 use Rattle.st_net.specs.Ranges.{RowFits, RowsFit, is_in_range, are_in_range, is_health_of, most_health}
 use Rattle.st_event.specs.declared.event.Event.{Event}
-use Rattle.st_event.specs.declared.event.Event.TheVariants.{Submit, Check, Lock, Unlock, Send, Deliver, Finish, Report as make_report, Hear, Fail}
+use Rattle.st_event.specs.declared.event.Event.TheVariants.{Submit, Check, Lock, Unlock, Send, Deliver, Finish, Report as make_report, Hear, Fail, Withdraw}
 use Rattle.st_event.specs.Legal.{Fits, FailFits}
 use Rattle.st_token.specs.Variables.{rows_in}
 use Rattle.st_token.specs.Words.{prio_word, value_word}
@@ -39,7 +39,7 @@ use Rattle.st_entry.specs.Keywords.{event_word, reply_mark}
 use Rattle.st_entry.specs.Words.{Words, app_word, assignment, assignment_words, value_words}
 use Rattle.st_entry.specs.Entries.{event_words}
 use Rattle.st_journal.specs.EntryWords.{event_named, takes_event_tokens}
-use Rattle.st_journal.specs.EventReading.{vals_in, submit_of, check_of, lock_of, unlock_of, send_of, finish_of, report_of, deliver_of, hear_of, fail_of, event_of, has_few_rows}
+use Rattle.st_journal.specs.EventReading.{vals_in, submit_of, check_of, lock_of, unlock_of, send_of, finish_of, report_of, deliver_of, hear_of, fail_of, withdraw_of, event_of, has_few_rows}
 use Rattle.st_journal.specs.ReadingBack.{AreNames, IsByApp, HasSmallNumber}
 use Rattle.st_journal.proofs.PrintedNames.{app_spelled, app_again, entity_spelled, entity_name_again}
 
@@ -61,6 +61,7 @@ event_keyword (Finish e) = events.Finish
 event_keyword (make_report e) = events.Report
 event_keyword (Hear n) = events.Hear
 event_keyword (Fail e vals health) = events.Fail
+event_keyword (Withdraw e) = events.Withdraw
 
 abbrev pub event_args : Group → List (List ℕ) → Event → Words
 event_args g apps (Submit app rows) = app_word apps app ∷ assignment_words g rows
@@ -73,6 +74,7 @@ event_args g apps (Finish e) = name_of g e ∷ []
 event_args g apps (make_report e) = name_of g e ∷ []
 event_args g apps (Hear n) = decimal n ∷ []
 event_args g apps (Fail e vals health) = name_of g e ∷ decimal health ∷ value_words e vals
+event_args g apps (Withdraw e) = name_of g e ∷ []
 
 pub event_words_are : (g : Group) (apps : List (List ℕ)) (event : Event) → event_words g apps event ≡ event_word (event_keyword event) ∷ event_args g apps event
 event_words_are g apps (Submit app rows) = refl
@@ -85,6 +87,7 @@ event_words_are g apps (Finish e) = refl
 event_words_are g apps (make_report e) = refl
 event_words_are g apps (Hear n) = refl
 event_words_are g apps (Fail e vals health) = refl
+event_words_are g apps (Withdraw e) = refl
 
 pub event_named_again : (word : EventWord) → event_named (event_word word) ≡ Some word
 unfolding event_named
@@ -98,6 +101,7 @@ event_named_again events.Finish = refl
 event_named_again events.Report = refl
 event_named_again events.Hear = refl
 event_named_again events.Fail = refl
+event_named_again events.Withdraw = refl
 
 pub event_is_word : (word : EventWord) → IsWord (event_word word)
 event_is_word events.Submit = literal (codes "submit") refl refl
@@ -110,6 +114,7 @@ event_is_word events.Finish = literal (codes "finish") refl refl
 event_is_word events.Report = literal (codes "report") refl refl
 event_is_word events.Hear = literal (codes "hear") refl refl
 event_is_word events.Fail = literal (codes "fail") refl refl
+event_is_word events.Withdraw = literal (codes "withdraw") refl refl
 
 -- tokens other than `:`
 abbrev pub IsNoMark : List ℕ → Type 0
@@ -158,6 +163,7 @@ event_is_no_mark events.Finish = refl
 event_is_no_mark events.Report = refl
 event_is_no_mark events.Hear = refl
 event_is_no_mark events.Fail = refl
+event_is_no_mark events.Withdraw = refl
 
 module _ (g : Group) (apps : List (List ℕ)) (sound : IsSound g) (are : AreNames apps) where
   printable : (rows : List Row) → AllByRecursion (RowFits g) rows → AllByRecursion (IsPrintable (find_in g) (name_of g)) rows
@@ -191,6 +197,10 @@ module _ (g : Group) (apps : List (List ℕ)) (sound : IsSound g) (are : AreName
   report_again : (e : Entity) → IsEntityOf g e → report_of g (name_of g e ∷ []) ≡ Ok (make_report e)
   unfolding report_of
   report_again e within = rw (entity_name_again g e sound within) refl
+
+  withdraw_again : (e : Entity) → IsEntityOf g e → withdraw_of g (name_of g e ∷ []) ≡ Ok (Withdraw e)
+  unfolding withdraw_of
+  withdraw_again e within = rw (entity_name_again g e sound within) refl
 
   deliver_again : (n : ℕ) → n < 2 ^ 32 → deliver_of (decimal n ∷ []) ≡ Ok (Deliver n)
   unfolding deliver_of
@@ -253,6 +263,7 @@ event_again g apps (Finish e) sound are is = finish_again g apps sound are e is.
 event_again g apps (make_report e) sound are is = report_again g apps sound are e is.fits
 event_again g apps (Hear n) sound are is = hear_again g apps sound are n is.number
 event_again g apps (Fail e vals health) sound are is = fail_again g e vals health sound is.fits
+event_again g apps (Withdraw e) sound are is = withdraw_again g apps sound are e is.fits
 
 -- they are as many as the event takes
 pub event_counted : (g : Group) (apps : List (List ℕ)) (event : Event) → IsSpelled g apps event → takes_event_tokens (event_keyword event) (length (event_args g apps event)) ≡ true
@@ -268,6 +279,7 @@ event_counted g apps (make_report e) is = refl
 event_counted g apps (Hear n) is = refl
 event_counted g apps (Fail (Device i) vals health) is = refl
 event_counted g apps (Fail (Link i) vals health) is = refl
+event_counted g apps (Withdraw e) is = refl
 
 pub few_rows : (g : Group) (event : Event) → Fits g event → has_few_rows event ≡ true
 few_rows g (Submit app rows) fits = at_most (length rows) MAX_ROWS fits.few
@@ -280,6 +292,7 @@ few_rows g (Finish e) fits = refl
 few_rows g (make_report e) fits = refl
 few_rows g (Hear n) fits = refl
 few_rows g (Fail e vals health) fits = refl
+few_rows g (Withdraw e) fits = refl
 
 -- each of them can stand in a line, and none is `:`
 pub record IsEventToken (token : List ℕ) : Type 0 where
@@ -335,6 +348,7 @@ args_are_tokens g apps (Finish e) sound are is = (name_token (name_of g e) (enti
 args_are_tokens g apps (make_report e) sound are is = (name_token (name_of g e) (entity_spelled g e sound is.fits), tt)
 args_are_tokens g apps (Hear n) sound are is = (number_token n is.number, tt)
 args_are_tokens g apps (Fail e vals health) sound are is = (name_token (name_of g e) (entity_spelled g e sound is.fits.entity), (number_token health (healthy e health is.fits.level).0, value_tokens e vals is.fits.range))
+args_are_tokens g apps (Withdraw e) sound are is = (name_token (name_of g e) (entity_spelled g e sound is.fits), tt)
 
 pub event_tokens : (g : Group) (apps : List (List ℕ)) (event : Event) → IsSound g → AreNames apps → IsSpelled g apps event → AllByRecursion IsEventToken (event_word (event_keyword event) ∷ event_args g apps event)
 event_tokens g apps event sound are is = (record { word = event_is_word (event_keyword event); unmarked = event_is_no_mark (event_keyword event) }, args_are_tokens g apps event sound are is)

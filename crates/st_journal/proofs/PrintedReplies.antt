@@ -30,8 +30,9 @@ use Rattle.st_event.specs.declared.reply.Cause.TheVariants.{NotControllable, Loc
 use Rattle.st_event.specs.declared.reply.Verdict.{Verdict}
 use Rattle.st_event.specs.declared.reply.Verdict.TheVariants.{Accepted, Refused}
 use Rattle.st_event.specs.declared.reply.Receipt.{Receipt}
+use Rattle.st_event.specs.declared.event.Event.{Event}
 use Rattle.st_event.specs.declared.reply.Reply.{Reply}
-use Rattle.st_event.specs.declared.reply.Reply.TheVariants.{Queued, Full, Decided, Idle, Granted, Held, Released, NotYours, Sent, Settled, Blocked, Begun, Stale, NoSuch, Done, NotBusy, Reported, Taken, Old, Changed}
+use Rattle.st_event.specs.declared.reply.Reply.TheVariants.{Queued, Full, Decided, Idle, Granted, Held, Released, NotYours, Sent, Settled, Blocked, Begun, Stale, NoSuch, Done, NotBusy, Reported, Taken, Old, Changed, Withdrawn, Kept}
 use Rattle.st_token.specs.Variables.{assignment_in}
 use Rattle.st_token.specs.Words.{prio_word}
 use Rattle.st_token.proofs.PrintedTokens.{name_word, number_is_word, prio_is_word, assignment_is_word, literal, ranged, number_again, prio_again, assignment_again}
@@ -43,11 +44,12 @@ use Rattle.st_entry.specs.declared.keyword.CauseWord.TheVariants as causes
 use Rattle.st_entry.specs.declared.keyword.VerdictWord.{VerdictWord}
 use Rattle.st_entry.specs.declared.keyword.VerdictWord.TheVariants as verdicts
 use Rattle.st_entry.specs.Keywords.{reply_word, verdict_word, cause_word, kind_word, nobody_word, of_word, has_word, needs_word, need_word, side_word}
-use Rattle.st_entry.specs.Words.{Words, app_word, holder_word, assignment, device_words}
+use Rattle.st_entry.specs.Words.{Words, app_word, holder_word, assignment, assignment_words, device_words}
 use Rattle.st_entry.specs.Causes.{cause_words, verdict_words}
 use Rattle.st_entry.specs.Entries.{reply_words}
 use Rattle.st_journal.specs.EntryWords.{reply_named, verdict_named, cause_named, takes_cause_tokens, has_receipt_count, takes_reply_tokens}
-use Rattle.st_journal.specs.ReplyReading.{holder_in, device_in, broken_kind_in, two_told_in, is_behind, devices_in, side_in, promise_place, cut_behind, row_of_in, level_of, off_of, locked_of, ends_in, broken_of, one_number_in, accepted_of, refused_of, receipt_of, bare_of, held_of, notyours_of, blocked_of, cause_of, reply_of}
+use Rattle.st_journal.specs.ReplyReading.{holder_in, device_in, broken_kind_in, two_told_in, is_behind, devices_in, side_in, promise_place, cut_behind, row_of_in, level_of, off_of, locked_of, ends_in, broken_of, one_number_in, accepted_of, refused_of, receipt_of, bare_of, held_of, notyours_of, blocked_of, cause_of, may_follow, own_row_in, own_rows_in, withdrawn_of, reply_of}
+use Rattle.st_world.specs.Rounds.{withdraws}
 use Rattle.st_journal.specs.ReadingBack.{AreNames}
 use Rattle.st_journal.proofs.PrintedEvents.{untrue}
 use Rattle.st_journal.proofs.PrintedNames.{app_spelled, app_again, entity_spelled, entity_name_again}
@@ -111,6 +113,17 @@ ReplyFits g apps n (Reported report) = report < 2 ^ 32
 ReplyFits g apps n Taken = Unit {0}
 ReplyFits g apps n (Old kept) = kept < 2 ^ 32
 ReplyFits g apps n Changed = Unit {0}
+ReplyFits g apps n (Withdrawn version rows) = (version < 2 ^ 32) × (1 ≤ length rows) × AllByRecursion (RowFits g) rows
+ReplyFits g apps n Kept = Unit {0}
+
+-- what is withdrawn is of the event's entity, in the order of variables
+abbrev pub AreOwn : Entity → List Row → List Row → Type 0
+AreOwn e before [] = Unit {0}
+AreOwn e before (row ∷ rows) = (may_follow e before row ≡ true) × AreOwn e (before ++ row ∷ []) rows
+
+abbrev pub IsOfEvent : Event → Reply → Type 0
+IsOfEvent event (Withdrawn version rows) = (e : Entity) × (withdraws event ≡ Some e) × AreOwn e [] rows
+IsOfEvent event _ = Unit {0}
 
 -- the word of a reply, of a verdict and of a cause, and the words behind each
 abbrev pub reply_keyword : Reply → ReplyWord
@@ -134,6 +147,8 @@ reply_keyword (Reported report) = replies.Reported
 reply_keyword Taken = replies.Taken
 reply_keyword (Old kept) = replies.Old
 reply_keyword Changed = replies.Changed
+reply_keyword (Withdrawn version rows) = replies.Withdrawn
+reply_keyword Kept = replies.Kept
 
 abbrev pub reply_args : Group → List (List ℕ) → Reply → Words
 reply_args g apps (Queued ticket) = decimal ticket ∷ []
@@ -156,6 +171,8 @@ reply_args g apps (Reported report) = decimal report ∷ []
 reply_args g apps Taken = []
 reply_args g apps (Old kept) = decimal kept ∷ []
 reply_args g apps Changed = []
+reply_args g apps (Withdrawn version rows) = decimal version ∷ assignment_words g rows
+reply_args g apps Kept = []
 
 pub reply_words_are : (g : Group) (apps : List (List ℕ)) (reply : Reply) → reply_words g apps reply ≡ reply_word (reply_keyword reply) ∷ reply_args g apps reply
 reply_words_are g apps (Queued ticket) = refl
@@ -178,6 +195,8 @@ reply_words_are g apps (Reported report) = refl
 reply_words_are g apps Taken = refl
 reply_words_are g apps (Old kept) = refl
 reply_words_are g apps Changed = refl
+reply_words_are g apps (Withdrawn version rows) = refl
+reply_words_are g apps Kept = refl
 
 pub reply_named_again : (word : ReplyWord) → reply_named (reply_word word) ≡ Some word
 unfolding reply_named
@@ -201,6 +220,8 @@ reply_named_again replies.Reported = refl
 reply_named_again replies.Taken = refl
 reply_named_again replies.Old = refl
 reply_named_again replies.Changed = refl
+reply_named_again replies.Withdrawn = refl
+reply_named_again replies.Kept = refl
 
 reply_is_word : (word : ReplyWord) → IsWord (reply_word word)
 reply_is_word replies.Queued = literal (codes "queued") refl refl
@@ -223,6 +244,8 @@ reply_is_word replies.Reported = literal (codes "reported") refl refl
 reply_is_word replies.Taken = literal (codes "taken") refl refl
 reply_is_word replies.Old = literal (codes "old") refl refl
 reply_is_word replies.Changed = literal (codes "changed") refl refl
+reply_is_word replies.Withdrawn = literal (codes "withdrawn") refl refl
+reply_is_word replies.Kept = literal (codes "kept") refl refl
 
 verdict_named_again : (word : VerdictWord) → verdict_named (verdict_word word) ≡ Some word
 unfolding verdict_named
@@ -527,28 +550,41 @@ module _ (g : Group) (apps : List (List ℕ)) (sound : IsSound g) (are : AreName
   unfolding blocked_of
   blocked_again row fits = rw (row_again g apps sound are row fits) refl
 
-  -- the words behind the word of a reply say the reply
-  pub reply_again : (n : ℕ) (reply : Reply) → ReplyFits g apps n reply → reply_of g apps n (reply_keyword reply) (reply_args g apps reply) ≡ Ok reply
-  reply_again n (Queued ticket) fits = rw (one_again ticket fits) refl
-  reply_again n (Full pending) fits = rw (one_again pending fits) refl
-  reply_again n (Decided receipt) fits = receipt_again n receipt fits
-  reply_again n Idle fits = bare_again Idle
-  reply_again n Granted fits = bare_again Granted
-  reply_again n (Held app) fits = held_again app fits
-  reply_again n Released fits = bare_again Released
-  reply_again n (NotYours holder) fits = notyours_again holder fits
-  reply_again n (Sent command) fits = rw (one_again command fits) refl
-  reply_again n Settled fits = bare_again Settled
-  reply_again n (Blocked row) fits = blocked_again row fits
-  reply_again n Begun fits = bare_again Begun
-  reply_again n (Stale fence) fits = rw (one_again fence fits) refl
-  reply_again n (NoSuch sent) fits = rw (one_again sent fits) refl
-  reply_again n Done fits = bare_again Done
-  reply_again n NotBusy fits = bare_again NotBusy
-  reply_again n (Reported report) fits = rw (one_again report fits) refl
-  reply_again n Taken fits = bare_again Taken
-  reply_again n (Old kept) fits = rw (one_again kept fits) refl
-  reply_again n Changed fits = bare_again Changed
+  own_again : (e : Entity) (before rows : List Row) → AllByRecursion (RowFits g) rows → AreOwn e before rows → own_rows_in g e before (assignment_words g rows) ≡ Ok (before ++ rows)
+  unfolding own_rows_in own_row_in
+  own_again e before [] fits own = ap Ok (sym (append-nil before))
+  own_again e before (row ∷ rows) fits own = rw (row_again g apps sound are row fits.0, own.0) (own_again e (before ++ row ∷ []) rows fits.1 own.1 ∙ ap Ok (append_assoc before (row ∷ []) rows))
+
+  withdrawn_again : (event : Event) (version : ℕ) (rows : List Row) (e : Entity) → version < 2 ^ 32 → 1 ≤ length rows → AllByRecursion (RowFits g) rows → withdraws event ≡ Some e → AreOwn e [] rows
+      → withdrawn_of g event (decimal version ∷ assignment_words g rows) ≡ Ok (Withdrawn version rows)
+  unfolding withdrawn_of
+  withdrawn_again event version [] e less some fits is own = absurd (omega (arith, some))
+  withdrawn_again event version (row ∷ rows) e less some fits is own = rw (number_again version less, is, own_again e [] (row ∷ rows) fits own) refl
+
+  -- the words behind the word of a reply say the reply, to an event that it may answer
+  pub reply_again : (n : ℕ) (event : Event) (reply : Reply) → ReplyFits g apps n reply → IsOfEvent event reply → reply_of g apps n event (reply_keyword reply) (reply_args g apps reply) ≡ Ok reply
+  reply_again n event (Queued ticket) fits own = rw (one_again ticket fits) refl
+  reply_again n event (Full pending) fits own = rw (one_again pending fits) refl
+  reply_again n event (Decided receipt) fits own = receipt_again n receipt fits
+  reply_again n event Idle fits own = bare_again Idle
+  reply_again n event Granted fits own = bare_again Granted
+  reply_again n event (Held app) fits own = held_again app fits
+  reply_again n event Released fits own = bare_again Released
+  reply_again n event (NotYours holder) fits own = notyours_again holder fits
+  reply_again n event (Sent command) fits own = rw (one_again command fits) refl
+  reply_again n event Settled fits own = bare_again Settled
+  reply_again n event (Blocked row) fits own = blocked_again row fits
+  reply_again n event Begun fits own = bare_again Begun
+  reply_again n event (Stale fence) fits own = rw (one_again fence fits) refl
+  reply_again n event (NoSuch sent) fits own = rw (one_again sent fits) refl
+  reply_again n event Done fits own = bare_again Done
+  reply_again n event NotBusy fits own = bare_again NotBusy
+  reply_again n event (Reported report) fits own = rw (one_again report fits) refl
+  reply_again n event Taken fits own = bare_again Taken
+  reply_again n event (Old kept) fits own = rw (one_again kept fits) refl
+  reply_again n event Changed fits own = bare_again Changed
+  reply_again n event (Withdrawn version rows) fits own = withdrawn_again event version rows own.0 fits.0 fits.1 fits.2 own.1 own.2
+  reply_again n event Kept fits own = bare_again Kept
 
   -- they are as many as the reply takes
   pub reply_counted : (n : ℕ) (reply : Reply) → ReplyFits g apps n reply → takes_reply_tokens (reply_keyword reply) (reply_args g apps reply) ≡ true
@@ -572,6 +608,13 @@ module _ (g : Group) (apps : List (List ℕ)) (sound : IsSound g) (are : AreName
   reply_counted n Taken fits = refl
   reply_counted n (Old kept) fits = refl
   reply_counted n Changed fits = refl
+  reply_counted n (Withdrawn version []) fits = absurd (omega (arith, fits.1))
+  reply_counted n (Withdrawn version (row ∷ rows)) fits = at_most 2 (length (decimal version ∷ assignment g row ∷ assignment_words g rows)) (omega arith)
+  reply_counted n Kept fits = refl
+
+  rows_are_words : (rows : List Row) → AllByRecursion (RowFits g) rows → AllByRecursion IsWord (assignment_words g rows)
+  rows_are_words [] fits = tt
+  rows_are_words (row ∷ rows) fits = (row_is_word row fits.0, rows_are_words rows fits.1)
 
   args_are_words : (n : ℕ) (reply : Reply) → ReplyFits g apps n reply → AllByRecursion IsWord (reply_args g apps reply)
   args_are_words n (Queued ticket) fits = (number_is_word ticket fits, tt)
@@ -594,6 +637,8 @@ module _ (g : Group) (apps : List (List ℕ)) (sound : IsSound g) (are : AreName
   args_are_words n Taken fits = tt
   args_are_words n (Old kept) fits = (number_is_word kept fits, tt)
   args_are_words n Changed fits = tt
+  args_are_words n (Withdrawn version rows) fits = (number_is_word version fits.0, rows_are_words rows fits.2)
+  args_are_words n Kept fits = tt
 
   pub reply_is_words : (n : ℕ) (reply : Reply) → ReplyFits g apps n reply → AllByRecursion IsWord (reply_word (reply_keyword reply) ∷ reply_args g apps reply)
   reply_is_words n reply fits = (reply_is_word (reply_keyword reply), args_are_words n reply fits)

@@ -18,7 +18,7 @@ use Rattle.st_net.specs.Groups.{Group, IsSound, IsEntityOf, entity_or, find_in, 
 use Rattle.st_net.specs.Ranges.{RowFits, is_in_range, are_in_range, are_apart, is_free_of, most_health}
 use Rattle.st_net.proofs.Tests.{both}
 use Rattle.st_event.specs.declared.event.Event.{Event}
-use Rattle.st_event.specs.declared.event.Event.TheVariants.{Submit, Check, Lock, Unlock, Send, Deliver, Finish, Report as make_report, Hear, Fail}
+use Rattle.st_event.specs.declared.event.Event.TheVariants.{Submit, Check, Lock, Unlock, Send, Deliver, Finish, Report as make_report, Hear, Fail, Withdraw}
 use Rattle.st_event.specs.Legal.{Fits}
 use Rattle.st_entry.specs.declared.keyword.EventWord.{EventWord}
 use Rattle.st_entry.specs.declared.keyword.EventWord.TheVariants as events
@@ -29,7 +29,7 @@ use Rattle.st_token.specs.Spelling.{name_in, entity_in, number_in, number_within
 use Rattle.st_token.specs.Variables.{dotted_in, undotted_in, assignment_by, assignment_in, new_assignment_in, rows_in, number_of_var_in, value_by, value_in}
 use Rattle.st_token.proofs.ReadTokens.{came_from, chose, chosen, was_some, number_range, place_below, assigned_range, some_tokens}
 use Rattle.st_token.proofs.RowLemmas.{apart_last}
-use Rattle.st_journal.specs.EventReading.{app_in, vals_in, submit_of, check_of, lock_of, unlock_of, send_of, finish_of, report_of, deliver_of, hear_of, fail_of, event_of, has_few_rows}
+use Rattle.st_journal.specs.EventReading.{app_in, vals_in, submit_of, check_of, lock_of, unlock_of, send_of, finish_of, report_of, deliver_of, hear_of, fail_of, withdraw_of, event_of, has_few_rows}
 
 -- what a name finds is of the group
 found_within : (g : Group) (devices links : Option ℕ) (e : Entity) → IsSound g → ((k : ℕ) → devices ≡ Some k → k < length g.device_names) → ((k : ℕ) → links ≡ Some k → k < length g.link_names)
@@ -158,6 +158,14 @@ report_fits g args event s is =
     let made : make_report e.0 ≡ event = cc in
     subst (FitsIfFew g) made (λ few. entity_within g word.0 e.0 s e.1)
 
+withdraw_fits : (g : Group) (args : List (List ℕ)) (event : Event) → IsSound g → withdraw_of g args ≡ Ok event → FitsIfFew g event
+unfolding withdraw_of
+withdraw_fits g args event s is =
+    let word = came_from (one_of args) _ event is in
+    let e = came_from (entity_in (find_in g) word.0) _ event word.2 in
+    let made : Withdraw e.0 ≡ event = cc in
+    subst (FitsIfFew g) made (λ few. entity_within g word.0 e.0 s e.1)
+
 deliver_fits : (g : Group) (args : List (List ℕ)) (event : Event) → deliver_of args ≡ Ok event → FitsIfFew g event
 unfolding deliver_of
 deliver_fits g args event is =
@@ -233,3 +241,4 @@ event_fits g apps args events.Finish event s is = finish_fits g args event s is
 event_fits g apps args events.Report event s is = report_fits g args event s is
 event_fits g apps args events.Hear event s is = hear_fits g args event is
 event_fits g apps args events.Fail event s is = fail_fits g args event s is
+event_fits g apps args events.Withdraw event s is = withdraw_fits g args event s is

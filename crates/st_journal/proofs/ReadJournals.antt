@@ -100,7 +100,7 @@ entry_fits g apps n number tokens entry s is =
     let asked = came_from (event_part_of parts.0.0) _ entry next.2 in
     let given = came_from (reply_part_of asked.0.0 parts.0.1) _ entry asked.2 in
     let event = came_from (event_of g apps asked.0.0 asked.0.1) _ entry given.2 in
-    let reply = came_from (reply_of g apps next.0 given.0.0 given.0.1) _ entry event.2 in
+    let reply = came_from (reply_of g apps next.0 event.0 given.0.0 given.0.1) _ entry event.2 in
     let few = chose (has_few_rows event.0) (record { event = event.0; reply = reply.0 }) entry kinds.Limit reply.2 in
     subst (λ (e : Entry). Fits g e.event) few.1 (event_fits g apps asked.0.1 asked.0.0 event.0 s event.1 few.0)
 

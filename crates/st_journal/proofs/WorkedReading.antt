@@ -7,19 +7,19 @@ use Rattle.st_net.specs.declared.entity.Entity.{Entity}
 use Rattle.st_net.specs.declared.entity.Entity.TheVariants.{Device, Link}
 use Rattle.st_net.specs.declared.entity.Prio.TheVariants.{Low, High}
 use Rattle.st_net.specs.declared.entity.Row.{Row}
-use Rattle.st_net.specs.declared.entity.Var.TheVariants.{Firmware}
+use Rattle.st_net.specs.declared.entity.Var.TheVariants.{Firmware, Routing}
 use Rattle.st_net.specs.declared.promise.BrokenKind.TheVariants.{Short}
 use Rattle.st_net.specs.declared.promise.BrokenOf.TheVariants.{Promise as of_promise}
 use Rattle.st_net.specs.declared.topo.DeviceOpening.{DeviceOpening}
 use Rattle.st_net.specs.Groups.{Group, no_group}
 use Rattle.st_event.specs.declared.event.Event.{Event}
-use Rattle.st_event.specs.declared.event.Event.TheVariants.{Submit, Check, Lock, Unlock, Send, Deliver, Finish, Report as make_report, Hear, Fail}
+use Rattle.st_event.specs.declared.event.Event.TheVariants.{Submit, Check, Lock, Unlock, Send, Deliver, Finish, Report as make_report, Hear, Fail, Withdraw}
 use Rattle.st_event.specs.declared.reply.Lack.TheVariants.{Level, PowerOff}
 use Rattle.st_event.specs.declared.reply.Cause.TheVariants.{NotControllable, Locked, Broken as broken_cause}
 use Rattle.st_event.specs.declared.reply.Verdict.{Verdict}
 use Rattle.st_event.specs.declared.reply.Verdict.TheVariants.{Accepted, Refused}
 use Rattle.st_event.specs.declared.reply.Reply.{Reply}
-use Rattle.st_event.specs.declared.reply.Reply.TheVariants.{Queued, Decided, Idle, Granted, Held, NotYours, Sent, Blocked, Begun, NoSuch, Done, Reported, Taken, Changed}
+use Rattle.st_event.specs.declared.reply.Reply.TheVariants.{Queued, Decided, Idle, Granted, Held, NotYours, Sent, Blocked, Begun, NoSuch, Done, Reported, Taken, Changed, Withdrawn, Kept}
 use Rattle.st_event.specs.declared.journal.Entry.{Entry}
 use Rattle.st_event.specs.declared.journal.Journal.{Journal}
 use Rattle.st_token.specs.declared.fault.FaultKind.{FaultKind}
@@ -27,8 +27,8 @@ use Rattle.st_token.specs.declared.fault.FaultKind.TheVariants as kinds
 use Rattle.st_token.specs.Spelling.{known_name_in, entity_in, number_within}
 use Rattle.st_token.specs.Variables.{set_in, unset_in, number_of_var_in, dotted_in, undotted_in, new_assignment_in, rows_in}
 use Rattle.st_journal.specs.EntryWords.{event_named, reply_named, verdict_named, cause_named}
-use Rattle.st_journal.specs.EventReading.{app_in, vals_in, submit_of, check_of, lock_of, unlock_of, send_of, finish_of, report_of, deliver_of, hear_of, fail_of}
-use Rattle.st_journal.specs.ReplyReading.{holder_in, device_in, two_told_in, devices_in, side_in, cut_behind, row_of_in, level_of, off_of, locked_of, ends_in, broken_of, one_number_in, accepted_of, refused_of, receipt_of, bare_of, held_of, notyours_of, blocked_of}
+use Rattle.st_journal.specs.EventReading.{app_in, vals_in, submit_of, check_of, lock_of, unlock_of, send_of, finish_of, report_of, deliver_of, hear_of, fail_of, withdraw_of}
+use Rattle.st_journal.specs.ReplyReading.{holder_in, device_in, two_told_in, devices_in, side_in, cut_behind, row_of_in, level_of, off_of, locked_of, ends_in, broken_of, one_number_in, accepted_of, refused_of, receipt_of, bare_of, held_of, notyours_of, blocked_of, own_row_in, own_rows_in, withdrawn_of}
 use Rattle.st_journal.specs.EntryReading.{parts_of, event_part_of, reply_part_of, entry_of}
 use Rattle.st_journal.specs.JournalLines.{JournalDraft, nothing, journal_line, entry_in, entry_line, line_of}
 
@@ -164,3 +164,24 @@ faults =
 pub faults_read : AllByRecursion IsSo faults
 unfolding known_name_in entity_in number_within set_in unset_in number_of_var_in dotted_in undotted_in new_assignment_in rows_in event_named reply_named verdict_named cause_named app_in vals_in submit_of check_of lock_of unlock_of send_of fail_of device_in two_told_in devices_in side_in cut_behind ends_in broken_of one_number_in refused_of receipt_of bare_of parts_of event_part_of reply_part_of entry_of entry_in entry_line line_of
 faults_read = (refl, (refl, (refl, (refl, (refl, (refl, (refl, (refl, (refl, (refl, (refl, (refl, tt))))))))))))
+
+-- a withdrawal has one row at least, and its rows are of the event's entity and in the order of variables: each is looked at before the next
+abbrev rows_back : List Row
+rows_back = firmware 1 ∷ record { entity = a1; var = Routing; value = 1 } ∷ []
+
+abbrev withdrawals : List Line
+withdrawals =
+    first (codes "1 withdraw a1 : kept") (Withdraw a1) Kept ∷
+    first (codes "1 withdraw a1 : withdrawn 2 a1.firmware=1") (Withdraw a1) (Withdrawn 2 (firmware 1 ∷ [])) ∷
+    first (codes "1 withdraw a1 : withdrawn 2 a1.firmware=1 a1.routing=1") (Withdraw a1) (Withdrawn 2 rows_back) ∷
+    bad (codes "1 withdraw a1 : withdrawn 2") kinds.Count ∷
+    bad (codes "1 withdraw : kept") kinds.Count ∷
+    bad (codes "1 withdraw a1 : withdrawn x a9.firmware=1") kinds.Number ∷
+    bad (codes "1 withdraw a1 : withdrawn 2 t1.firmware=1 a9.firmware=1") kinds.Value ∷
+    bad (codes "1 withdraw a1 : withdrawn 2 a1.routing=1 a1.firmware=1") kinds.Value ∷
+    bad (codes "1 withdraw a1 : withdrawn 2 a1.firmware=1 a1.firmware=1") kinds.Value ∷
+    bad (codes "1 send a1 : kept") kinds.Value ∷ []
+
+pub withdrawals_read : AllByRecursion IsSo withdrawals
+unfolding known_name_in entity_in number_within set_in unset_in dotted_in undotted_in event_named reply_named app_in withdraw_of send_of own_row_in own_rows_in withdrawn_of bare_of parts_of event_part_of reply_part_of entry_of entry_in entry_line line_of
+withdrawals_read = (refl, (refl, (refl, (refl, (refl, (refl, (refl, (refl, (refl, (refl, tt))))))))))

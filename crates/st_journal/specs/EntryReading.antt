@@ -48,5 +48,5 @@ entry_of g apps n number tokens = do
   asked ← event_part_of parts.0
   given ← reply_part_of asked.0 parts.1
   event ← event_of g apps asked.0 asked.1
-  reply ← reply_of g apps next given.0 given.1
+  reply ← reply_of g apps next event given.0 given.1
   if has_few_rows event then Ok (record { event = event; reply = reply }) else Err kinds.Limit

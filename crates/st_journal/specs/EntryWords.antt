@@ -11,7 +11,7 @@ use Rattle.st_entry.specs.declared.keyword.CauseWord.TheVariants as causes
 use Rattle.st_entry.specs.Keywords.{event_word, reply_word, verdict_word, cause_word}
 
 abbrev pub all_events : List EventWord
-all_events = events.Submit ∷ events.Check ∷ events.Lock ∷ events.Unlock ∷ events.Send ∷ events.Deliver ∷ events.Finish ∷ events.Report ∷ events.Hear ∷ events.Fail ∷ []
+all_events = events.Submit ∷ events.Check ∷ events.Lock ∷ events.Unlock ∷ events.Send ∷ events.Deliver ∷ events.Finish ∷ events.Report ∷ events.Hear ∷ events.Fail ∷ events.Withdraw ∷ []
 
 abbrev pub all_causes : List CauseWord
 all_causes = causes.Level ∷ causes.Off ∷ causes.Locked ∷ causes.Broken ∷ []
@@ -31,11 +31,13 @@ replies_of events.Finish = replies.Done ∷ replies.NotBusy ∷ []
 replies_of events.Report = replies.Reported ∷ []
 replies_of events.Hear = replies.Taken ∷ replies.Old ∷ replies.NoSuch ∷ []
 replies_of events.Fail = replies.Changed ∷ []
+replies_of events.Withdraw = replies.Withdrawn ∷ replies.Kept ∷ []
 
 abbrev pub all_replies : List ReplyWord
 all_replies =
     replies.Queued ∷ replies.Full ∷ replies.Receipt ∷ replies.Idle ∷ replies.Granted ∷ replies.Held ∷ replies.Released ∷ replies.NotYours ∷ replies.Sent ∷ replies.Settled ∷
-    replies.Blocked ∷ replies.Begun ∷ replies.Stale ∷ replies.NoSuch ∷ replies.Done ∷ replies.NotBusy ∷ replies.Reported ∷ replies.Taken ∷ replies.Old ∷ replies.Changed ∷ []
+    replies.Blocked ∷ replies.Begun ∷ replies.Stale ∷ replies.NoSuch ∷ replies.Done ∷ replies.NotBusy ∷ replies.Reported ∷ replies.Taken ∷ replies.Old ∷ replies.Changed ∷ replies.Withdrawn ∷
+    replies.Kept ∷ []
 
 -- the first of these words that the token is
 abbrev pub event_among : List EventWord → List ℕ → Option EventWord
@@ -79,6 +81,7 @@ takes_event_tokens events.Finish n = n == 1
 takes_event_tokens events.Report n = n == 1
 takes_event_tokens events.Hear n = n == 1
 takes_event_tokens events.Fail n = nat_le 3 n
+takes_event_tokens events.Withdraw n = n == 1
 
 -- whether so many tokens may stand behind the word of a cause: `ASSIGNMENT of ENTITY has N needs N`, `ASSIGNMENT`, `ENTITY APP PRIO`, and
 -- `NAME NAME KIND need N has N side NAME..`
@@ -130,6 +133,8 @@ takes_reply_tokens replies.Reported args = length args == 1
 takes_reply_tokens replies.Taken args = length args == 0
 takes_reply_tokens replies.Old args = length args == 1
 takes_reply_tokens replies.Changed args = length args == 0
+takes_reply_tokens replies.Withdrawn args = nat_le 2 (length args)
+takes_reply_tokens replies.Kept args = length args == 0
 
 abbrev pub has_reply_count_by : Option ReplyWord → List (List ℕ) → Bool
 has_reply_count_by None args = true

@@ -10,7 +10,7 @@ use Rattle.st_net.specs.Entities.{vars_of, value_set}
 use Rattle.st_net.specs.Groups.{Group, find_in, no_vals}
 use Rattle.st_net.specs.Ranges.{most_health}
 use Rattle.st_event.specs.declared.event.Event.{Event}
-use Rattle.st_event.specs.declared.event.Event.TheVariants.{Submit, Check, Lock, Unlock, Send, Deliver, Finish, Report as make_report, Hear, Fail}
+use Rattle.st_event.specs.declared.event.Event.TheVariants.{Submit, Check, Lock, Unlock, Send, Deliver, Finish, Report as make_report, Hear, Fail, Withdraw}
 use Rattle.st_token.specs.declared.fault.FaultKind.{FaultKind}
 use Rattle.st_token.specs.declared.fault.FaultKind.TheVariants as kinds
 use Rattle.st_token.specs.Steps.{◌>>=◌}
@@ -66,7 +66,7 @@ unlock_of g apps args = do
   prio ← prio_in words.2
   Ok (Unlock app e prio)
 
--- `send ENTITY`, `finish ENTITY` and `report ENTITY`
+-- `send ENTITY`, `finish ENTITY`, `report ENTITY` and `withdraw ENTITY`
 unfoldable pub send_of : Group → List (List ℕ) → Result Event FaultKind
 send_of g args = do
   word ← one_of args
@@ -84,6 +84,12 @@ report_of g args = do
   word ← one_of args
   e ← entity_in (find_in g) word
   Ok (make_report e)
+
+unfoldable pub withdraw_of : Group → List (List ℕ) → Result Event FaultKind
+withdraw_of g args = do
+  word ← one_of args
+  e ← entity_in (find_in g) word
+  Ok (Withdraw e)
 
 -- `deliver N` and `hear N`
 unfoldable pub deliver_of : List (List ℕ) → Result Event FaultKind
@@ -119,6 +125,7 @@ event_of g apps events.Finish args = finish_of g args
 event_of g apps events.Report args = report_of g args
 event_of g apps events.Hear args = hear_of args
 event_of g apps events.Fail args = fail_of g args
+event_of g apps events.Withdraw args = withdraw_of g args
 
 -- a proposal has at most 16 rows
 abbrev pub has_few_rows : Event → Bool
@@ -132,3 +139,4 @@ has_few_rows (Finish e) = true
 has_few_rows (make_report e) = true
 has_few_rows (Hear n) = true
 has_few_rows (Fail e vals health) = true
+has_few_rows (Withdraw e) = true

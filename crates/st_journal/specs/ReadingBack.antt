@@ -3,7 +3,7 @@ use Rattle.std.specs.Prelude.{◌≡◌, ℕ, ◌+◌, ◌<◌, ◌≤◌, ◌^�
 use Rattle.st_text.specs.Words.{text_of}
 use Rattle.st_net.specs.Groups.{Group, IsSound, are_new, are_names}
 use Rattle.st_event.specs.declared.event.Event.{Event}
-use Rattle.st_event.specs.declared.event.Event.TheVariants.{Submit, Check, Lock, Unlock, Send, Deliver, Finish, Report as make_report, Hear, Fail}
+use Rattle.st_event.specs.declared.event.Event.TheVariants.{Submit, Check, Lock, Unlock, Send, Deliver, Finish, Report as make_report, Hear, Fail, Withdraw}
 use Rattle.st_event.specs.declared.journal.Entry.{Entry}
 use Rattle.st_event.specs.declared.journal.Journal.{Journal}
 use Rattle.st_event.specs.Legal.{IsLegal}
@@ -34,6 +34,7 @@ IsByApp apps (Finish e) = Unit {0}
 IsByApp apps (make_report e) = Unit {0}
 IsByApp apps (Hear n) = Unit {0}
 IsByApp apps (Fail e vals health) = Unit {0}
+IsByApp apps (Withdraw e) = Unit {0}
 
 -- where an event names a message, its number has 32 bits
 abbrev pub HasSmallNumber : Event → Type 0
@@ -47,6 +48,7 @@ HasSmallNumber (Finish e) = Unit {0}
 HasSmallNumber (make_report e) = Unit {0}
 HasSmallNumber (Hear n) = n < 2 ^ 32
 HasSmallNumber (Fail e vals health) = Unit {0}
+HasSmallNumber (Withdraw e) = Unit {0}
 
 -- the event of an entry is asked by one of these applications, and names a message as a call can
 pub record IsAsked (apps : List (List ℕ)) (entry : Entry) : Type 0 where

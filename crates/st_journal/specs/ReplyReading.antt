@@ -1,13 +1,15 @@
 -- What a reply says, by the tokens behind its word, or the first kind that applies to these. Each `do` line is one test, and they stand in the
 -- order of the tokens; that a promise was declared comes behind all of them.
-use Rattle.std.specs.Prelude.{ℕ, zero, suc, ◌-◌, List, [], ◌∷◌, ◌++◌, Bool, ◌==◌, ◌&&◌, ◌||◌, length, slice_index, if◌then◌else◌, nat_lt, Option, Some, None, option_map, Result, Ok, Err, ok_or, bytes_eq}
+use Rattle.std.specs.Prelude.{ℕ, zero, suc, ◌-◌, List, [], ◌∷◌, ◌++◌, Bool, true, ◌==◌, ◌&&◌, ◌||◌, length, slice_index, if◌then◌else◌, nat_lt, Option, Some, None, option_map, Result, Ok, Err, ok_or, bytes_eq}
 use Rattle.st_net.specs.declared.entity.AppId.{AppId}
 use Rattle.st_net.specs.declared.entity.Entity.{Entity}
 use Rattle.st_net.specs.declared.entity.Entity.TheVariants.{Device, Link}
 use Rattle.st_net.specs.declared.entity.Row.{Row}
+use Rattle.st_net.specs.declared.entity.Var.{Var}
 use Rattle.st_net.specs.declared.promise.Promise.{Promise}
 use Rattle.st_net.specs.declared.promise.BrokenKind.{BrokenKind}
 use Rattle.st_net.specs.declared.promise.BrokenKind.TheVariants.{CutOff, Short}
+use Rattle.st_net.specs.Entities.{is_same_entity, place_of}
 use Rattle.st_net.specs.declared.promise.BrokenOf.TheVariants.{Promise as of_promise}
 use Rattle.st_net.specs.Groups.{Group, find_in}
 use Rattle.st_event.specs.declared.reply.Lack.TheVariants.{Level, PowerOff}
@@ -15,12 +17,14 @@ use Rattle.st_event.specs.declared.reply.Cause.{Cause}
 use Rattle.st_event.specs.declared.reply.Cause.TheVariants.{NotControllable, Locked, Broken as broken_cause}
 use Rattle.st_event.specs.declared.reply.Verdict.{Verdict}
 use Rattle.st_event.specs.declared.reply.Verdict.TheVariants.{Accepted, Refused}
+use Rattle.st_event.specs.declared.event.Event.{Event}
 use Rattle.st_event.specs.declared.reply.Reply.{Reply}
-use Rattle.st_event.specs.declared.reply.Reply.TheVariants.{Queued, Full, Decided, Idle, Granted, Held, Released, NotYours, Sent, Settled, Blocked, Begun, Stale, NoSuch, Done, NotBusy, Reported, Taken, Old, Changed}
+use Rattle.st_event.specs.declared.reply.Reply.TheVariants.{Queued, Full, Decided, Idle, Granted, Held, Released, NotYours, Sent, Settled, Blocked, Begun, Stale, NoSuch, Done, NotBusy, Reported, Taken, Old, Changed, Withdrawn, Kept}
+use Rattle.st_world.specs.Rounds.{withdraws}
 use Rattle.st_token.specs.declared.fault.FaultKind.{FaultKind}
 use Rattle.st_token.specs.declared.fault.FaultKind.TheVariants as kinds
 use Rattle.st_token.specs.Steps.{◌>>=◌}
-use Rattle.st_token.specs.Counts.{none_of, one_of, three_of, four_of, one_and_more_of, two_and_some_of}
+use Rattle.st_token.specs.Counts.{none_of, one_of, three_of, four_of, one_and_more_of, one_and_some_of, two_and_some_of}
 use Rattle.st_token.specs.Spelling.{entity_in, number_in, prio_in, word_in}
 use Rattle.st_token.specs.Variables.{assignment_in}
 use Rattle.st_entry.specs.declared.keyword.ReplyWord.{ReplyWord}
@@ -213,25 +217,56 @@ blocked_of g args = do
   row ← assignment_in (find_in g) word
   Ok (Blocked row)
 
--- what the reply of a word says, in entry n
-abbrev pub reply_of : Group → List (List ℕ) → ℕ → ReplyWord → List (List ℕ) → Result Reply FaultKind
-reply_of g apps n replies.Queued args = one_number_in args >>= λ m. Ok (Queued m)
-reply_of g apps n replies.Full args = one_number_in args >>= λ m. Ok (Full m)
-reply_of g apps n replies.Receipt args = receipt_of g apps n args
-reply_of g apps n replies.Idle args = bare_of Idle args
-reply_of g apps n replies.Granted args = bare_of Granted args
-reply_of g apps n replies.Held args = held_of apps args
-reply_of g apps n replies.Released args = bare_of Released args
-reply_of g apps n replies.NotYours args = notyours_of apps args
-reply_of g apps n replies.Sent args = one_number_in args >>= λ m. Ok (Sent m)
-reply_of g apps n replies.Settled args = bare_of Settled args
-reply_of g apps n replies.Blocked args = blocked_of g args
-reply_of g apps n replies.Begun args = bare_of Begun args
-reply_of g apps n replies.Stale args = one_number_in args >>= λ m. Ok (Stale m)
-reply_of g apps n replies.NoSuch args = one_number_in args >>= λ m. Ok (NoSuch m)
-reply_of g apps n replies.Done args = bare_of Done args
-reply_of g apps n replies.NotBusy args = bare_of NotBusy args
-reply_of g apps n replies.Reported args = one_number_in args >>= λ m. Ok (Reported m)
-reply_of g apps n replies.Taken args = bare_of Taken args
-reply_of g apps n replies.Old args = one_number_in args >>= λ m. Ok (Old m)
-reply_of g apps n replies.Changed args = bare_of Changed args
+-- a row is of this entity, and its variable stands behind those of these rows
+abbrev pub is_behind_each : List Row → Var → Bool
+is_behind_each [] v = true
+is_behind_each (row ∷ rows) v = nat_lt (place_of row.var) (place_of v) && is_behind_each rows v
+
+abbrev pub may_follow : Entity → List Row → Row → Bool
+may_follow e before row = is_same_entity row.entity e && is_behind_each before row.var
+
+-- an ASSIGNMENT of this entity behind these, and all of a line: in the order of variables
+unfoldable pub own_row_in : Group → Entity → List Row → List ℕ → Result Row FaultKind
+own_row_in g e before token = do
+  row ← assignment_in (find_in g) token
+  if may_follow e before row then Ok row else Err kinds.Value
+
+unfoldable pub own_rows_in : Group → Entity → List Row → List (List ℕ) → Result (List Row) FaultKind
+own_rows_in g e before [] = Ok before
+own_rows_in g e before (token ∷ tokens) = do
+  row ← own_row_in g e before token
+  own_rows_in g e (before ++ row ∷ []) tokens
+
+-- `withdrawn N ASSIGNMENT..`, of the entity that the event withdraws
+unfoldable pub withdrawn_of : Group → Event → List (List ℕ) → Result Reply FaultKind
+withdrawn_of g event args = do
+  words ← one_and_some_of args
+  version ← number_in words.0
+  e ← ok_or (withdraws event) kinds.Value
+  rows ← own_rows_in g e [] words.1
+  Ok (Withdrawn version rows)
+
+-- what the reply of a word says, in entry n, to this event
+abbrev pub reply_of : Group → List (List ℕ) → ℕ → Event → ReplyWord → List (List ℕ) → Result Reply FaultKind
+reply_of g apps n event replies.Queued args = one_number_in args >>= λ m. Ok (Queued m)
+reply_of g apps n event replies.Full args = one_number_in args >>= λ m. Ok (Full m)
+reply_of g apps n event replies.Receipt args = receipt_of g apps n args
+reply_of g apps n event replies.Idle args = bare_of Idle args
+reply_of g apps n event replies.Granted args = bare_of Granted args
+reply_of g apps n event replies.Held args = held_of apps args
+reply_of g apps n event replies.Released args = bare_of Released args
+reply_of g apps n event replies.NotYours args = notyours_of apps args
+reply_of g apps n event replies.Sent args = one_number_in args >>= λ m. Ok (Sent m)
+reply_of g apps n event replies.Settled args = bare_of Settled args
+reply_of g apps n event replies.Blocked args = blocked_of g args
+reply_of g apps n event replies.Begun args = bare_of Begun args
+reply_of g apps n event replies.Stale args = one_number_in args >>= λ m. Ok (Stale m)
+reply_of g apps n event replies.NoSuch args = one_number_in args >>= λ m. Ok (NoSuch m)
+reply_of g apps n event replies.Done args = bare_of Done args
+reply_of g apps n event replies.NotBusy args = bare_of NotBusy args
+reply_of g apps n event replies.Reported args = one_number_in args >>= λ m. Ok (Reported m)
+reply_of g apps n event replies.Taken args = bare_of Taken args
+reply_of g apps n event replies.Old args = one_number_in args >>= λ m. Ok (Old m)
+reply_of g apps n event replies.Changed args = bare_of Changed args
+reply_of g apps n event replies.Withdrawn args = withdrawn_of g event args
+reply_of g apps n event replies.Kept args = bare_of Kept args

@@ -10,6 +10,7 @@ mod entries;
 mod events;
 mod groups;
 mod replies;
+mod withdrawals;
 mod words;
 
 use crate::reader::entries::entry_of;

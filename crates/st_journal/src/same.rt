@@ -1,9 +1,10 @@
 //! Whether two replies are equal. A journal's reply is compared with the one that is called for, and neither is copied.
 
 ghost use Rattle.std.specs.Prelude.{◌≡◌, ◌↔◌, IsTrue};
+ghost use Rattle.st_event.specs.declared.reply.Reply.TheVariants.{Withdrawn as withdrawn};
 
-use st_event::{Cause, Receipt, Reply, Verdict};
-use st_net::{Broken, Side};
+use st_event::{Cause, Receipt, Reply, Rows, Verdict};
+use st_net::{Broken, Row, Side};
 
 /// Whether two sets of devices are one.
 fn is_same_side(a: &Side, b: &Side) -> bool
@@ -70,7 +71,42 @@ fn is_same_receipt(a: &Receipt, b: &Receipt) -> bool
     a.ticket == b.ticket && a.entry == b.entry && is_same_verdict(&a.verdict, &b.verdict)
 }
 
-/// Whether two replies are equal. Takes time in the devices of a side, and no memory.
+/// Whether two rows are equal.
+fn is_same_row(a: &Row, b: &Row) -> bool
+    ensures { IsTrue result ↔ (a.now ≡ b.now) }
+{
+    a == b
+}
+
+/// Whether two lists of rows are one.
+fn are_same_rows(a: &[Row], b: &[Row]) -> bool
+    ensures { IsTrue result ↔ (a.now ≡ b.now) }
+{
+    if a.len() != b.len() {
+        return false;
+    }
+    for (i, row) in a.iter().enumerate() {
+        if !is_same_row(row, &b[i]) {
+            return false;
+        }
+    }
+    true
+}
+
+/// Whether the same rows are withdrawn as the same version.
+fn is_same_withdrawal(version: u32, rows: &Rows, b: &Reply) -> bool
+    ensures { IsTrue result ↔ (withdrawn version rows.now ≡ b.now) }
+{
+    match b {
+        Reply::Withdrawn {
+            version: other,
+            rows: others,
+        } => *other == version && are_same_rows(rows.as_slice(), others.as_slice()),
+        _ => false,
+    }
+}
+
+/// Whether two replies are equal. Takes time in the devices of a side and in rows, and no memory.
 pub fn is_same_reply(a: &Reply, b: &Reply) -> bool
     ensures { IsTrue result ↔ (a.now ≡ b.now) }
 {
@@ -98,5 +134,7 @@ pub fn is_same_reply(a: &Reply, b: &Reply) -> bool
         Reply::Taken => matches!(b, Reply::Taken),
         Reply::Old { kept } => matches!(b, Reply::Old { kept: other } if other == kept),
         Reply::Changed => matches!(b, Reply::Changed),
+        Reply::Withdrawn { version, rows } => is_same_withdrawal(*version, rows, b),
+        Reply::Kept => matches!(b, Reply::Kept),
     }
 }

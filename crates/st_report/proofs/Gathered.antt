@@ -23,7 +23,7 @@ use Rattle.st_entry.specs.Words.{assignment}
 use Rattle.st_world.specs.World.{WorldView}
 use Rattle.st_report.specs.declared.report.Summary.{Summary}
 use Rattle.st_report.specs.Inside.{lost_text, summary_of, summaries_of}
-use Rattle.st_report.specs.Lines.{is_lock_event, locks_among, changed_words, lost_words, histories, seen_words, read_words}
+use Rattle.st_report.specs.Lines.{is_lock_event, locks_among, back_words, withdrawn_among, changed_words, lost_words, histories, seen_words, read_words}
 use Rattle.st_report.proofs.Adding.{chosen, map_twice, map_flat}
 
 -- the text of an entry that asks for a lock or gives one back
@@ -34,6 +34,13 @@ pub locks_are : (g : Group) (apps : List (List ℕ)) (entries : List Entry) → 
 locks_are g apps entries =
     map_twice spaced (λ (entry : Entry). event_words g apps entry.event ++ reply_words g apps entry.reply) (filter (λ entry. is_lock_event entry.event) entries) ∙
     chosen (λ (entry : Entry). is_lock_event entry.event) (λ entry. spaced (event_words g apps entry.event ++ reply_words g apps entry.reply)) entries
+
+-- the texts of what an entry withdraws
+abbrev pub withdrawn_texts : Group → Entry → List (List ℕ)
+withdrawn_texts g entry = map spaced (back_words g entry.reply)
+
+pub withdrawn_are : (g : Group) (entries : List Entry) → map spaced (withdrawn_among g entries) ≡ flat_map (withdrawn_texts g) entries
+withdrawn_are g entries = map_flat spaced (λ (entry : Entry). back_words g entry.reply) entries
 
 -- the text of a variable whose target is not its opening value
 abbrev pub change_texts : Group → (Entity → Var → ℕ) → Entity → Var → List (List ℕ)

@@ -20,7 +20,7 @@ use Rattle.st_report.specs.declared.report.WireCounts.{WireCounts}
 use Rattle.st_report.specs.Inside.{summary_of, summaries_of}
 use Rattle.st_report.specs.Json.{in_quotes, after_commas, in_brackets, list_of_texts, list_of_lines, joined, group_json, report_json_of}
 use Rattle.st_report.specs.JsonInside.{without_space, strings, lines_data, group_data, groups_data, report_data, is_plain_summary}
-use Rattle.st_report.specs.Lines.{lock_words, receipt_words, target_words, unsettled_words, lost_words, read_words}
+use Rattle.st_report.specs.Lines.{lock_words, receipt_words, withdrawn_words, target_words, unsettled_words, lost_words, read_words}
 use Rattle.st_entry.specs.Plain.{is_plain_byte, is_plain}
 use Rattle.st_entry.proofs.Plain.{rest_plain}
 use Rattle.st_report.proofs.TextLines.{all_unspaced}
@@ -66,8 +66,8 @@ wire_pieces w = joined (
     codes ",\"reports\":" ∷ decimal w.reports ∷
     codes ",\"stale\":" ∷ decimal w.stale ∷ codes "}" ∷ [])
 
-unfoldable around : Summary → List ℕ → List ℕ → List ℕ → List ℕ → List ℕ → List ℕ → List ℕ
-around s name locks lost receipts targets unsettled = joined (
+unfoldable around : Summary → List ℕ → List ℕ → List ℕ → List ℕ → List ℕ → List ℕ → List ℕ → List ℕ
+around s name locks lost receipts targets unsettled withdrawn = joined (
     codes "{\"entries\":" ∷ decimal s.entries ∷
     codes ",\"locks\":" ∷ locks ∷
     codes ",\"lost\":" ∷ lost ∷
@@ -79,16 +79,17 @@ around s name locks lost receipts targets unsettled = joined (
     codes ",\"targets\":" ∷ targets ∷
     codes ",\"unsettled\":" ∷ unsettled ∷
     codes ",\"version\":" ∷ decimal s.version ∷
-    codes ",\"wire\":" ∷ wire_pieces s.wire ∷ codes "}" ∷ [])
+    codes ",\"wire\":" ∷ wire_pieces s.wire ∷
+    codes ",\"withdrawn\":" ∷ withdrawn ∷ codes "}" ∷ [])
 
 printed_around : (s : Summary) → compact_text (group_data s)
     ≡ around s (quoted s.name) (compact_text (lines_data s.locks)) (compact_text (lines_data s.lost))
-    (compact_text (lines_data s.receipts)) (compact_text (lines_data s.targets)) (compact_text (lines_data s.unsettled))
+    (compact_text (lines_data s.receipts)) (compact_text (lines_data s.targets)) (compact_text (lines_data s.unsettled)) (compact_text (lines_data s.withdrawn))
 unfolding around escape_byte
 printed_around s = refl
 
 text_around : (apps : List (List ℕ)) (h : History) → around (summary_of h.group apps h.past) (in_quotes h.group.name) (list_of_lines (lock_words h.group apps h.past)) (list_of_lines (lost_words h.group h.past))
-    (list_of_lines (receipt_words h.group apps h.past)) (list_of_lines (target_words h.group h.past)) (list_of_lines (unsettled_words h.group h.past)) ≡ group_json apps h
+    (list_of_lines (receipt_words h.group apps h.past)) (list_of_lines (target_words h.group h.past)) (list_of_lines (unsettled_words h.group h.past)) (list_of_lines (withdrawn_words h.group h.past)) ≡ group_json apps h
 unfolding around
 text_around apps h = refl
 
@@ -100,9 +101,10 @@ group_printed apps h plain =
     let c = both _ _ b.1 in
     let d = both _ _ c.1 in
     let e = both _ _ d.1 in
+    let f = both _ _ e.1 in
     printed_around s
     ∙ (λ i. around s (quoted_plain h.group.name a.0 i) (lines_printed (lock_words h.group apps h.past) b.0 i) (lines_printed (lost_words h.group h.past) c.0 i)
-    (lines_printed (receipt_words h.group apps h.past) d.0 i) (lines_printed (target_words h.group h.past) e.0 i) (lines_printed (unsettled_words h.group h.past) e.1 i))
+    (lines_printed (receipt_words h.group apps h.past) d.0 i) (lines_printed (target_words h.group h.past) e.0 i) (lines_printed (unsettled_words h.group h.past) f.0 i) (lines_printed (withdrawn_words h.group h.past) f.1 i))
     ∙ text_around apps h
 
 more_groups : (apps : List (List ℕ)) (groups : List History) → list_all is_plain_summary (summaries_of apps groups) ≡ true → items_text true (groups_data (summaries_of apps groups)) ≡ after_commas (map (group_json apps) groups) ++ 93 ∷ []
@@ -129,6 +131,7 @@ group_floatless s = rw (
   strings_floatless (without_space s.receipts),
   strings_floatless (without_space s.targets),
   strings_floatless (without_space s.unsettled),
+  strings_floatless (without_space s.withdrawn),
 ) refl
 
 groups_floatless : (groups : List Summary) → items_have_float (groups_data groups) ≡ false
@@ -198,5 +201,5 @@ report_printed groups apps logs summaries reads text gathered read plain plain_r
     ap (λ t. t ++ 10 ∷ []) whole ∙ printed_in_line (summaries_of apps groups) (map spaced (read_words groups apps logs)) ∙ ap₂ line_around (groups_printed apps groups groups_plain) (lines_printed (read_words groups apps logs) reads_plain) ∙ text_in_line groups apps logs
 
 -- what its texts are, one by one
-pub six_plain : (s : Summary) → is_plain s.name ≡ true → list_all is_plain s.locks ≡ true → list_all is_plain s.lost ≡ true → list_all is_plain s.receipts ≡ true → list_all is_plain s.targets ≡ true → list_all is_plain s.unsettled ≡ true → is_plain_summary s ≡ true
-six_plain s name locks lost receipts targets unsettled = rw (name, locks, lost, receipts, targets, unsettled) refl
+pub seven_plain : (s : Summary) → is_plain s.name ≡ true → list_all is_plain s.locks ≡ true → list_all is_plain s.lost ≡ true → list_all is_plain s.receipts ≡ true → list_all is_plain s.targets ≡ true → list_all is_plain s.unsettled ≡ true → list_all is_plain s.withdrawn ≡ true → is_plain_summary s ≡ true
+seven_plain s name locks lost receipts targets unsettled withdrawn = rw (name, locks, lost, receipts, targets, unsettled, withdrawn) refl

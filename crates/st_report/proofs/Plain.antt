@@ -20,16 +20,19 @@ use Rattle.st_entry.specs.Causes.{verdict_words}
 use Rattle.st_entry.specs.Entries.{event_words, reply_words}
 use Rattle.st_entry.specs.Plain.{is_plain, are_plain}
 use Rattle.st_entry.specs.Saws.{saw_words}
-use Rattle.st_entry.specs.Words.{app_word, assignment}
-use Rattle.st_entry.proofs.Plain.{join, join_words, spaced_plain, number_plain, entity_plain, app_plain, var_plain, assignment_plain, verdict_plain, event_plain, reply_plain}
+use Rattle.st_entry.specs.Words.{app_word, assignment, assignment_words}
+use Rattle.st_entry.proofs.Plain.{join, join_words, spaced_plain, number_plain, entity_plain, app_plain, var_plain, assignment_plain, rows_plain, verdict_plain, event_plain, reply_plain}
 use Rattle.st_report.specs.Inside.{lost_text}
 
--- a line of a lock, a receipt, a variable that differs, an entity that is not settled, a promise that was lost
+-- a line of a lock, a receipt, a withdrawal, a variable that differs, an entity that is not settled, a promise that was lost
 pub lock_plain : (g : Group) (apps : List (List ℕ)) (event : Event) (reply : Reply) → IsSound g → are_names apps ≡ true → is_plain (spaced (event_words g apps event ++ reply_words g apps reply)) ≡ true
 lock_plain g apps event reply sound are = spaced_plain (event_words g apps event ++ reply_words g apps reply) (join_words (event_words g apps event) (reply_words g apps reply) (event_plain g apps event sound are) (reply_plain g apps reply sound are))
 
 pub receipt_plain : (g : Group) (apps : List (List ℕ)) (ticket : ℕ) (app : AppId) (v : Verdict) → IsSound g → are_names apps ≡ true → is_plain (spaced (decimal ticket ∷ app_word apps app ∷ verdict_words g apps v)) ≡ true
 receipt_plain g apps ticket app v sound are = spaced_plain (decimal ticket ∷ app_word apps app ∷ verdict_words g apps v) (rw (number_plain ticket, app_plain apps app are) (verdict_plain g apps v sound are))
+
+pub withdrawn_plain : (g : Group) (version : ℕ) (rows : List Row) → IsSound g → is_plain (spaced (decimal version ∷ assignment_words g rows)) ≡ true
+withdrawn_plain g version rows sound = spaced_plain (decimal version ∷ assignment_words g rows) (rw (number_plain version) (rows_plain g rows sound))
 
 pub change_plain : (g : Group) (row : Row) → IsSound g → is_plain (spaced (assignment g row ∷ [])) ≡ true
 change_plain g row sound = spaced_plain (assignment g row ∷ []) (rw (assignment_plain g row sound) refl)

@@ -10,7 +10,7 @@ use Rattle.st_event.specs.History.{History}
 use Rattle.st_entry.specs.Words.{Words}
 use Rattle.st_entry.proofs.Lines.{unspaced}
 use Rattle.st_report.specs.Inside.{summary_of, summaries_of, head_text, whole_lines, lines_behind, wire_text, promise_text, summary_text, whole_text}
-use Rattle.st_report.specs.Lines.{lock_words, receipt_words, target_words, unsettled_words, lost_words, read_words}
+use Rattle.st_report.specs.Lines.{lock_words, receipt_words, withdrawn_words, target_words, unsettled_words, lost_words, read_words}
 use Rattle.st_report.specs.Text.{headed, head_lines, wire_words, promise_words, group_lines, report_text_of}
 
 -- the text of lines behind lines
@@ -43,11 +43,11 @@ two u v us vs = ap (λ t. t ++ line v vs) (one_line u us) ∙ ap (λ t. ended (l
 three : (u v w : List ℕ) (us vs ws : Words) → line u us ++ line v vs ++ line w ws ≡ text_of ((u ∷ us) ∷ (v ∷ vs) ∷ (w ∷ ws) ∷ [])
 three u v w us vs ws = append_assoc (line u us) (line v vs) (line w ws) ∙ (ap (λ t. line u us ++ t) (two v w vs ws) ∙ ap (λ t. t ++ text_of ((v ∷ vs) ∷ (w ∷ ws) ∷ [])) (one_line u us))
 
--- seven parts, one behind another
-seven : (a b c d e f k : List Words) (s t u v w x y : List ℕ) → s ≡ text_of a → t ≡ text_of b → u ≡ text_of c → v ≡ text_of d → w ≡ text_of e → x ≡ text_of f → y ≡ text_of k
-    → s ++ t ++ u ++ v ++ w ++ x ++ y ≡ text_of (a ++ b ++ c ++ d ++ e ++ f ++ k)
-seven a b c d e f k s t u v w x y first second third fourth fifth sixth last =
-    rw (first, second, third, fourth, fifth, sixth, last) (sym (simp text_both))
+-- eight parts, one behind another
+eight : (a b c d e f k l : List Words) (s t u v w x y z : List ℕ) → s ≡ text_of a → t ≡ text_of b → u ≡ text_of c → v ≡ text_of d → w ≡ text_of e → x ≡ text_of f → y ≡ text_of k → z ≡ text_of l
+    → s ++ t ++ u ++ v ++ w ++ x ++ y ++ z ≡ text_of (a ++ b ++ c ++ d ++ e ++ f ++ k ++ l)
+eight a b c d e f k l s t u v w x y z first second third fourth fifth sixth seventh last =
+    rw (first, second, third, fourth, fifth, sixth, seventh, last) (sym (simp text_both))
 
 -- the lines of a group
 summary_printed : (apps : List (List ℕ)) (h : History) → summary_text (summary_of h.group apps h.past) ≡ text_of (group_lines apps h)
@@ -58,11 +58,11 @@ summary_printed apps h =
     let counted : wire_text s ++ promise_text s ≡ text_of (wire_words g past ∷ promise_words g past ∷ []) = two (codes "wire") (codes "promises")
     (codes "commands" ∷ decimal s.wire.commands ∷ codes "reports" ∷ decimal s.wire.reports ∷ codes "stale" ∷ decimal s.wire.stale ∷ codes "old" ∷ decimal s.wire.old ∷ [])
     (decimal s.promises.count ∷ codes "start" ∷ decimal s.promises.held_at_start ∷ codes "now" ∷ decimal s.promises.held_at_end ∷ []) in
-    let front = head_text s ++ whole_lines s.locks ++ lines_behind (codes "receipt") s.receipts ++ lines_behind (codes "target") s.targets ++ lines_behind (codes "unsettled") s.unsettled in
+    let front = head_text s ++ whole_lines s.locks ++ lines_behind (codes "receipt") s.receipts ++ lines_behind (codes "withdrawn") s.withdrawn ++ lines_behind (codes "target") s.targets ++ lines_behind (codes "unsettled") s.unsettled in
     ap (λ t. t ++ lines_behind (codes "lost") s.lost) (append_assoc front (wire_text s) (promise_text s)) ∙
-    seven (head_lines g past) (lock_words g apps past) (headed (codes "receipt") (receipt_words g apps past)) (headed (codes "target") (target_words g past)) (headed (codes "unsettled") (unsettled_words g past)) (wire_words g past ∷ promise_words g past ∷ []) (headed (codes "lost") (lost_words g past))
-    (head_text s) (whole_lines s.locks) (lines_behind (codes "receipt") s.receipts) (lines_behind (codes "target") s.targets) (lines_behind (codes "unsettled") s.unsettled) (wire_text s ++ promise_text s) (lines_behind (codes "lost") s.lost)
-    (three (codes "group") (codes "version") (codes "entries") (s.name ∷ []) (decimal s.version ∷ []) (decimal s.entries ∷ [])) (whole (lock_words g apps past)) (behind (codes "receipt") (receipt_words g apps past)) (behind (codes "target") (target_words g past)) (behind (codes "unsettled") (unsettled_words g past)) counted (behind (codes "lost") (lost_words g past))
+    eight (head_lines g past) (lock_words g apps past) (headed (codes "receipt") (receipt_words g apps past)) (headed (codes "withdrawn") (withdrawn_words g past)) (headed (codes "target") (target_words g past)) (headed (codes "unsettled") (unsettled_words g past)) (wire_words g past ∷ promise_words g past ∷ []) (headed (codes "lost") (lost_words g past))
+    (head_text s) (whole_lines s.locks) (lines_behind (codes "receipt") s.receipts) (lines_behind (codes "withdrawn") s.withdrawn) (lines_behind (codes "target") s.targets) (lines_behind (codes "unsettled") s.unsettled) (wire_text s ++ promise_text s) (lines_behind (codes "lost") s.lost)
+    (three (codes "group") (codes "version") (codes "entries") (s.name ∷ []) (decimal s.version ∷ []) (decimal s.entries ∷ [])) (whole (lock_words g apps past)) (behind (codes "receipt") (receipt_words g apps past)) (behind (codes "withdrawn") (withdrawn_words g past)) (behind (codes "target") (target_words g past)) (behind (codes "unsettled") (unsettled_words g past)) counted (behind (codes "lost") (lost_words g past))
 
 -- and of all groups
 summaries_printed : (apps : List (List ℕ)) (groups : List History) → flat_map summary_text (summaries_of apps groups) ≡ text_of (flat_map (group_lines apps) groups)

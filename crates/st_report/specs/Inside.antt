@@ -21,7 +21,7 @@ use Rattle.st_report.specs.declared.report.WireCounts.{WireCounts}
 use Rattle.st_entry.specs.Causes.{verdict_words}
 use Rattle.st_entry.specs.Words.{app_word}
 use Rattle.st_report.specs.Counts.{stale_count, old_count, kept_count}
-use Rattle.st_report.specs.Lines.{lock_words, receipt_words, target_words, unsettled_words, lost_words}
+use Rattle.st_report.specs.Lines.{lock_words, receipt_words, withdrawn_words, target_words, unsettled_words, lost_words}
 
 abbrev pub wire_counts_of : Group → List Entry → WireCounts
 wire_counts_of g past = record {
@@ -46,6 +46,7 @@ summary_of g apps past = record {
   entries = length past;
   locks = map spaced (lock_words g apps past);
   receipts = map spaced (receipt_words g apps past);
+  withdrawn = map spaced (withdrawn_words g past);
   targets = map spaced (target_words g past);
   unsettled = map spaced (unsettled_words g past);
   lost = map spaced (lost_words g past);
@@ -106,6 +107,7 @@ summary_text s =
     head_text s ++
     whole_lines s.locks ++
     lines_behind (codes "receipt") s.receipts ++
+    lines_behind (codes "withdrawn") s.withdrawn ++
     lines_behind (codes "target") s.targets ++
     lines_behind (codes "unsettled") s.unsettled ++
     wire_text s ++

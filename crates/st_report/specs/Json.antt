@@ -10,7 +10,7 @@ use Rattle.st_event.specs.Observed.{actual}
 use Rattle.st_event.specs.Proposals.{version}
 use Rattle.st_entry.specs.Words.{Words}
 use Rattle.st_report.specs.Counts.{stale_count, old_count, kept_count}
-use Rattle.st_report.specs.Lines.{lock_words, receipt_words, target_words, unsettled_words, lost_words, read_words}
+use Rattle.st_report.specs.Lines.{lock_words, receipt_words, withdrawn_words, target_words, unsettled_words, lost_words, read_words}
 
 abbrev pub in_quotes : List ℕ → List ℕ
 in_quotes text = 34 ∷ (text ++ 34 ∷ [])
@@ -60,7 +60,8 @@ group_json apps h = joined (
     codes ",\"targets\":" ∷ list_of_lines (target_words h.group h.past) ∷
     codes ",\"unsettled\":" ∷ list_of_lines (unsettled_words h.group h.past) ∷
     codes ",\"version\":" ∷ decimal (version h.past) ∷
-    codes ",\"wire\":" ∷ wire_json h.group h.past ∷ codes "}" ∷ [])
+    codes ",\"wire\":" ∷ wire_json h.group h.past ∷
+    codes ",\"withdrawn\":" ∷ list_of_lines (withdrawn_words h.group h.past) ∷ codes "}" ∷ [])
 
 -- the whole line
 abbrev pub report_json_of : List History → List (List ℕ) → List Log → List ℕ

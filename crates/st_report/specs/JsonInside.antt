@@ -10,7 +10,7 @@ use Rattle.st_entry.specs.Plain.{is_plain}
 abbrev pub is_plain_summary : Summary → Bool
 is_plain_summary s = is_plain s.name
     && (list_all is_plain s.locks && (list_all is_plain s.lost && (list_all is_plain s.receipts
-    && (list_all is_plain s.targets && list_all is_plain s.unsettled))))
+    && (list_all is_plain s.targets && (list_all is_plain s.unsettled && list_all is_plain s.withdrawn)))))
 
 -- texts without the space that each begins with
 abbrev pub without_space : List (List ℕ) → List (List ℕ)
@@ -29,7 +29,7 @@ wire_data w = object (member (codes "commands") (number (unsigned w.commands))
     (member (codes "reports") (number (unsigned w.reports))
     (member (codes "stale") (number (unsigned w.stale)) no_members))))
 
--- four members after four
+-- four members after four, and five at the end
 abbrev pub with_front : Summary → Members → Members
 with_front s ms = put (codes "name") (string s.name)
     (put (codes "lost") (lines_data s.lost)
@@ -43,10 +43,11 @@ with_middle s ms = put (codes "start") (number (unsigned s.promises.held_at_star
     (put (codes "now") (number (unsigned s.promises.held_at_end)) ms)))
 
 abbrev pub with_back : Summary → Members → Members
-with_back s ms = put (codes "wire") (wire_data s.wire)
+with_back s ms = put (codes "withdrawn") (lines_data s.withdrawn)
+    (put (codes "wire") (wire_data s.wire)
     (put (codes "version") (number (unsigned s.version))
     (put (codes "unsettled") (lines_data s.unsettled)
-    (put (codes "targets") (lines_data s.targets) ms)))
+    (put (codes "targets") (lines_data s.targets) ms))))
 
 abbrev pub group_data : Summary → Data
 group_data s = object (with_back s (with_middle s (with_front s no_members)))

@@ -12,9 +12,11 @@ use Rattle.st_net.specs.Promises.{is_broken}
 use Rattle.st_event.specs.declared.act.Log.{Log}
 use Rattle.st_event.specs.declared.act.LogEntry.{LogEntry}
 use Rattle.st_event.specs.declared.event.Event.{Event}
-use Rattle.st_event.specs.declared.event.Event.TheVariants.{Submit, Check, Lock, Unlock, Send, Deliver, Finish, Report as make_report, Hear, Fail}
+use Rattle.st_event.specs.declared.event.Event.TheVariants.{Lock, Unlock}
 use Rattle.st_event.specs.declared.event.Proposal.{Proposal}
 use Rattle.st_event.specs.declared.journal.Entry.{Entry}
+use Rattle.st_event.specs.declared.reply.Reply.{Reply}
+use Rattle.st_event.specs.declared.reply.Reply.TheVariants.{Withdrawn}
 use Rattle.st_event.specs.declared.reply.Verdict.{Verdict}
 use Rattle.st_event.specs.History.{History}
 use Rattle.st_event.specs.Observed.{actual}
@@ -22,7 +24,7 @@ use Rattle.st_event.specs.Proposals.{proposals, verdicts, target}
 use Rattle.st_entry.specs.Causes.{verdict_words}
 use Rattle.st_entry.specs.Entries.{event_words, reply_words}
 use Rattle.st_entry.specs.Saws.{saw_words}
-use Rattle.st_entry.specs.Words.{Words, app_word, variable, assignment}
+use Rattle.st_entry.specs.Words.{Words, app_word, variable, assignment, assignment_words}
 use Rattle.st_world.specs.Rounds.{unsettled}
 use Rattle.st_world.specs.World.{WorldView}
 
@@ -34,14 +36,7 @@ histories worlds = map (λ world. world.history) worlds
 abbrev pub is_lock_event : Event → Bool
 is_lock_event (Lock app e prio) = true
 is_lock_event (Unlock app e prio) = true
-is_lock_event (Submit app rows) = false
-is_lock_event Check = false
-is_lock_event (Send entity) = false
-is_lock_event (Deliver n) = false
-is_lock_event (Finish entity) = false
-is_lock_event (make_report entity) = false
-is_lock_event (Hear n) = false
-is_lock_event (Fail entity vals health) = false
+is_lock_event _ = false
 
 -- each such entry with its reply, of entries with the oldest first
 abbrev pub locks_among : Group → List (List ℕ) → List Entry → List Words
@@ -58,6 +53,18 @@ decided_words g apps ticket (p ∷ ps) (v ∷ vs) = (decimal ticket ∷ app_word
 
 abbrev pub receipt_words : Group → List (List ℕ) → List Entry → List Words
 receipt_words g apps past = decided_words g apps 1 (proposals past) (verdicts past)
+
+-- what a reply withdraws: the version that it makes, and its rows
+abbrev pub back_words : Group → Reply → List Words
+back_words g (Withdrawn version rows) = (decimal version ∷ assignment_words g rows) ∷ []
+back_words g _ = []
+
+-- what each entry withdraws, of entries with the oldest first
+abbrev pub withdrawn_among : Group → List Entry → List Words
+withdrawn_among g entries = flat_map (λ entry. back_words g entry.reply) entries
+
+abbrev pub withdrawn_words : Group → List Entry → List Words
+withdrawn_words g past = withdrawn_among g (reverse past)
 
 -- each variable whose target is not its opening value, with the target
 abbrev pub changed_vars : Group → (Entity → Var → ℕ) → Entity → List Var

@@ -10,7 +10,7 @@ use Rattle.st_event.specs.Observed.{actual}
 use Rattle.st_event.specs.Proposals.{version}
 use Rattle.st_entry.specs.Words.{Words}
 use Rattle.st_report.specs.Counts.{stale_count, old_count, kept_count}
-use Rattle.st_report.specs.Lines.{lock_words, receipt_words, target_words, unsettled_words, lost_words, read_words}
+use Rattle.st_report.specs.Lines.{lock_words, receipt_words, withdrawn_words, target_words, unsettled_words, lost_words, read_words}
 
 -- lines behind a first word of each
 abbrev pub headed : List ℕ → List Words → List Words
@@ -38,6 +38,7 @@ group_lines apps h =
     head_lines h.group h.past ++
     lock_words h.group apps h.past ++
     headed (codes "receipt") (receipt_words h.group apps h.past) ++
+    headed (codes "withdrawn") (withdrawn_words h.group h.past) ++
     headed (codes "target") (target_words h.group h.past) ++
     headed (codes "unsettled") (unsettled_words h.group h.past) ++
     (wire_words h.group h.past ∷ promise_words h.group h.past ∷ []) ++

@@ -75,7 +75,7 @@ fn put_middle(
     put(map, alloc, "start", Value::from(promises.held_at_start))
 }
 
-/// Puts the last four.
+/// Puts the last five.
 fn put_back(
     map: &mut Map<String, Value>,
     alloc: Global,
@@ -91,7 +91,13 @@ fn put_back(
         lines_value(alloc, &summary.unsettled)?,
     )?;
     put(map, alloc, "version", Value::from(summary.version))?;
-    put(map, alloc, "wire", wire_value(alloc, summary.wire)?)
+    put(map, alloc, "wire", wire_value(alloc, summary.wire)?)?;
+    put(
+        map,
+        alloc,
+        "withdrawn",
+        lines_value(alloc, &summary.withdrawn)?,
+    )
 }
 
 /// The counts of messages as an object.
@@ -147,6 +153,7 @@ fn is_plain_summary(summary: &Summary)
     let _receipts = summary.receipts.as_slice();
     let _targets = summary.targets.as_slice();
     let _unsettled = summary.unsettled.as_slice();
+    let _withdrawn = summary.withdrawn.as_slice();
 }
 
 /// Nor of any group.

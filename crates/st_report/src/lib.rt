@@ -15,6 +15,7 @@ mod sums;
 mod text_report;
 mod up;
 mod wire;
+mod withdrawals;
 
 pub use json_report::report_json;
 pub use sums::print_sums;

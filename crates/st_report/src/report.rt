@@ -8,7 +8,7 @@ ghost use Rattle.st_net.specs.Promises.{is_kept};
 ghost use Rattle.st_event.specs.Observed.{actual};
 ghost use Rattle.st_event.specs.Proposals.{version as version_lem};
 ghost use Rattle.st_report.specs.Inside.{summary_of, summaries_of, wire_counts_of, promise_counts_of};
-ghost use Rattle.st_report.specs.Lines.{histories, lock_words, read_words, receipt_words, target_words, unsettled_words};
+ghost use Rattle.st_report.specs.Lines.{histories, lock_words, read_words, receipt_words, target_words, unsettled_words, withdrawn_words};
 
 use crate::lines::Lines;
 use crate::locks::lock_lines;
@@ -18,6 +18,7 @@ use crate::promises::{Held, judge_promises, lost_lines, mark_count};
 use crate::receipts::receipt_lines;
 use crate::state::{name_lines, target_lines};
 use crate::wire::{old_count, stale_count};
+use crate::withdrawals::withdrawn_lines;
 use st_event::Log;
 use st_net::Name;
 use st_world::World;
@@ -48,6 +49,7 @@ pub(crate) struct Summary {
     pub(crate) entries: u64,
     pub(crate) locks: Lines,
     pub(crate) receipts: Lines,
+    pub(crate) withdrawn: Lines,
     pub(crate) targets: Lines,
     pub(crate) unsettled: Lines,
     pub(crate) lost: Lines,
@@ -76,6 +78,13 @@ fn receipts(alloc: Global, world: &World, apps: &[Name]) -> Result<Lines, AllocE
     ensures { IfOk result (λ lines. lines ≡ map spaced (receipt_words world.now.history.group apps.now world.now.history.past)) }
 {
     receipt_lines(alloc, world.control().topo(), apps, world.journal())
+}
+
+/// The withdrawals.
+fn withdrawals(alloc: Global, world: &World) -> Result<Lines, AllocError>
+    ensures { IfOk result (λ lines. lines ≡ map spaced (withdrawn_words world.now.history.group world.now.history.past)) }
+{
+    withdrawn_lines(alloc, world.control().topo(), world.journal())
 }
 
 /// The variables whose target is not their opening value.
@@ -121,7 +130,7 @@ fn promise_counts(world: &World, held: &Held) -> PromiseCounts
     }
 }
 
-/// The version of the target.
+/// The version of the target: how many overlays the target has, of accepted proposals and of withdrawals.
 pub(crate) fn version(world: &World) -> u32
     ensures { result ≡ version_lem world.now.history.past }
 {
@@ -140,6 +149,7 @@ fn summarize(alloc: Global, world: &World, apps: &[Name]) -> Result<Summary, All
         entries: u64::from(world.entries()),
         locks: locks(alloc, world, apps)?,
         receipts: receipts(alloc, world, apps)?,
+        withdrawn: withdrawals(alloc, world)?,
         targets: targets(alloc, world)?,
         unsettled: unsettled(alloc, world)?,
         lost: lost_lines(alloc, world, &held)?,

@@ -104,6 +104,7 @@ fn print_summary(summary: &Summary, out: &mut Text) -> Result<(), AllocError>
     print_head(summary, out)?;
     print_whole_lines(&summary.locks, out)?;
     print_lines(b"receipt", &summary.receipts, out)?;
+    print_lines(b"withdrawn", &summary.withdrawn, out)?;
     print_lines(b"target", &summary.targets, out)?;
     print_lines(b"unsettled", &summary.unsettled, out)?;
     print_wire(summary, out)?;

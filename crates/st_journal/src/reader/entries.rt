@@ -125,7 +125,7 @@ pub fn entry_of(
     let (event, asked) = event_part_of(line, asked)?;
     let (reply, given) = reply_part_of(event, line, given)?;
     let event = event_of(alloc, topo, apps, event, line, asked)?;
-    let reply = reply_of(alloc, topo, apps, n, reply, line, given)?;
+    let reply = reply_of(alloc, topo, apps, n, &event, reply, line, given)?;
     if has_few_rows(&event) {
         Ok(Entry { event, reply })
     } else {

@@ -6,7 +6,7 @@ ghost use Rattle.st_net.specs.Entities.{vars_of as vars_of_lem};
 ghost use Rattle.st_net.specs.Groups.{no_vals};
 ghost use Rattle.st_token.specs.Steps.{Gives};
 ghost use Rattle.st_token.specs.Counts.{none_of as none_of_lem};
-ghost use Rattle.st_journal.specs.EventReading.{app_in as app_in_lem, vals_in as vals_in_lem, submit_of as submit_of_lem, check_of as check_of_lem, lock_of as lock_of_lem, unlock_of as unlock_of_lem, send_of as send_of_lem, finish_of as finish_of_lem, report_of as report_of_lem, deliver_of as deliver_of_lem, hear_of as hear_of_lem, fail_of as fail_of_lem, event_of as event_of_lem, has_few_rows as has_few_rows_lem};
+ghost use Rattle.st_journal.specs.EventReading.{app_in as app_in_lem, vals_in as vals_in_lem, submit_of as submit_of_lem, check_of as check_of_lem, lock_of as lock_of_lem, unlock_of as unlock_of_lem, send_of as send_of_lem, finish_of as finish_of_lem, report_of as report_of_lem, deliver_of as deliver_of_lem, hear_of as hear_of_lem, fail_of as fail_of_lem, withdraw_of as withdraw_of_lem, event_of as event_of_lem, has_few_rows as has_few_rows_lem};
 
 use st_entry::EventWord;
 use st_event::{Event, Rows};
@@ -236,6 +236,21 @@ fn fail_of(
     })
 }
 
+#[tactic(auto, unfolding(crate::specs::EventReading::withdraw_of))]
+fn withdraw_of(
+    alloc: Global,
+    topo: &GroupTopo,
+    line: &[u8],
+    tokens: &[Token],
+) -> Result<Event, LineError>
+    requires { All (IsTokenOf line.now) tokens.now }
+    ensures { Gives (λ event. event) result (withdraw_of_lem topo.now (map (token_in line.now) tokens.now)) }
+{
+    let name = one_of(line, tokens)?;
+    let entity = topo.entity_in(alloc, name)?;
+    Ok(Event::Withdraw { entity })
+}
+
 /// What the event of a word says.
 pub fn event_of(
     alloc: Global,
@@ -260,6 +275,7 @@ pub fn event_of(
         EventWord::Report => report_of(alloc, topo, line, tokens),
         EventWord::Hear => hear_of(line, tokens),
         EventWord::Fail => fail_of(alloc, topo, line, tokens),
+        EventWord::Withdraw => withdraw_of(alloc, topo, line, tokens),
     }
 }
 
@@ -277,6 +293,7 @@ pub fn has_few_rows(event: &Event) -> bool
         | Event::Finish { .. }
         | Event::Report { .. }
         | Event::Hear { .. }
-        | Event::Fail { .. } => true,
+        | Event::Fail { .. }
+        | Event::Withdraw { .. } => true,
     }
 }

@@ -7,9 +7,10 @@ ghost use Rattle.st_journal.specs.ReplyReading.{holder_in as holder_in_lem, one_
 
 use crate::reader::causes::cause_of;
 use crate::reader::events::{app_in, none_of};
+use crate::reader::withdrawals::withdrawn_of;
 use crate::reader::words::{cause_named, verdict_named};
 use st_entry::{ReplyWord, VerdictWord};
-use st_event::{Receipt, Reply, Verdict};
+use st_event::{Event, Receipt, Reply, Verdict};
 use st_net::{AppId, GroupTopo, Name};
 use st_text::Token;
 use st_token::{FaultKind, LineError, assignment_in, number_in, one_of};
@@ -173,25 +174,27 @@ fn blocked_of(
     Ok(Reply::Blocked { row })
 }
 
-/// What the reply of a word says in entry `n`.
+/// What the reply of a word says in entry `n`, to this event.
 pub fn reply_of(
     alloc: Global,
     topo: &GroupTopo,
     apps: &[Name],
     n: u32,
+    event: &Event,
     word: ReplyWord,
     line: &[u8],
     tokens: &[Token],
 ) -> Result<Reply, LineError>
     requires few { length apps.now < 2 ^ 32 }
     requires within { All (IsTokenOf line.now) tokens.now }
-    ensures { Gives (λ reply. reply) result (reply_of_lem topo.now apps.now n word (map (token_in line.now) tokens.now)) }
+    ensures { Gives (λ reply. reply) result (reply_of_lem topo.now apps.now n event.now word (map (token_in line.now) tokens.now)) }
 {
     Ok(match word {
         ReplyWord::Receipt => return receipt_of(alloc, topo, apps, n, line, tokens),
         ReplyWord::Held => return held_of(alloc, apps, line, tokens),
         ReplyWord::NotYours => return notyours_of(alloc, apps, line, tokens),
         ReplyWord::Blocked => return blocked_of(alloc, topo, line, tokens),
+        ReplyWord::Withdrawn => return withdrawn_of(alloc, topo, event, line, tokens),
         ReplyWord::Idle => return bare_of(Reply::Idle, line, tokens),
         ReplyWord::Granted => return bare_of(Reply::Granted, line, tokens),
         ReplyWord::Released => return bare_of(Reply::Released, line, tokens),
@@ -201,6 +204,7 @@ pub fn reply_of(
         ReplyWord::NotBusy => return bare_of(Reply::NotBusy, line, tokens),
         ReplyWord::Taken => return bare_of(Reply::Taken, line, tokens),
         ReplyWord::Changed => return bare_of(Reply::Changed, line, tokens),
+        ReplyWord::Kept => return bare_of(Reply::Kept, line, tokens),
         ReplyWord::Queued => Reply::Queued {
             ticket: one_number_in(line, tokens)?,
         },

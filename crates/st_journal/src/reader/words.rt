@@ -7,7 +7,7 @@ ghost use Rattle.st_journal.specs.EntryWords.{replies_of as replies_of_lem, repl
 use st_entry::{CauseWord, EventWord, ReplyWord, VerdictWord};
 use st_text::Token;
 
-static EVENTS: [EventWord; 10] = [
+static EVENTS: [EventWord; 11] = [
     EventWord::Submit,
     EventWord::Check,
     EventWord::Lock,
@@ -18,9 +18,10 @@ static EVENTS: [EventWord; 10] = [
     EventWord::Report,
     EventWord::Hear,
     EventWord::Fail,
+    EventWord::Withdraw,
 ];
 
-static REPLIES: [ReplyWord; 20] = [
+static REPLIES: [ReplyWord; 22] = [
     ReplyWord::Queued,
     ReplyWord::Full,
     ReplyWord::Receipt,
@@ -41,6 +42,8 @@ static REPLIES: [ReplyWord; 20] = [
     ReplyWord::Taken,
     ReplyWord::Old,
     ReplyWord::Changed,
+    ReplyWord::Withdrawn,
+    ReplyWord::Kept,
 ];
 
 /// The event of a word.
@@ -91,6 +94,7 @@ pub fn replies_of(event: EventWord) -> &'static [ReplyWord]
         EventWord::Report => &[ReplyWord::Reported],
         EventWord::Hear => &[ReplyWord::Taken, ReplyWord::Old, ReplyWord::NoSuch],
         EventWord::Fail => &[ReplyWord::Changed],
+        EventWord::Withdraw => &[ReplyWord::Withdrawn, ReplyWord::Kept],
     }
 }
 
@@ -138,7 +142,8 @@ fn takes_event_tokens(event: EventWord, count: usize) -> bool
         | EventWord::Deliver
         | EventWord::Finish
         | EventWord::Report
-        | EventWord::Hear => count == 1,
+        | EventWord::Hear
+        | EventWord::Withdraw => count == 1,
         EventWord::Fail => count >= 3,
     }
 }
@@ -192,6 +197,7 @@ fn takes_reply_tokens(reply: ReplyWord, line: &[u8], tokens: &[Token]) -> bool
 {
     match reply {
         ReplyWord::Receipt => has_receipt_count(line, tokens),
+        ReplyWord::Withdrawn => tokens.len() >= 2,
         ReplyWord::Queued
         | ReplyWord::Full
         | ReplyWord::Held
@@ -210,7 +216,8 @@ fn takes_reply_tokens(reply: ReplyWord, line: &[u8], tokens: &[Token]) -> bool
         | ReplyWord::Done
         | ReplyWord::NotBusy
         | ReplyWord::Taken
-        | ReplyWord::Changed => tokens.is_empty(),
+        | ReplyWord::Changed
+        | ReplyWord::Kept => tokens.is_empty(),
     }
 }
 
