@@ -20,7 +20,8 @@ use Rattle.st_event.specs.Proposals.{accepted_among, deciders, is_accepted, over
 use Rattle.st_event.specs.Versions.{value_at}
 use Rattle.st_event.proofs.Begun.{verdicts_later, overlaid_later}
 use Rattle.st_event.proofs.Standings.{length-deciders}
-use Rattle.st_event.proofs.Targets.{legal_orderly, overlays_are_accepted}
+use Rattle.st_event.proofs.Mixed.{overlays_listed}
+use Rattle.st_event.proofs.Targets.{legal_orderly}
 use Rattle.st_event.proofs.Prefixes.{prefix_length}
 use Rattle.st_run.specs.Logs.{accepted_up_to}
 use Rattle.st_service.specs.Made.{Made, past_in}
@@ -75,8 +76,9 @@ accepts_among ps [] le = refl
 accepts_among [] (v ∷ vs) le = absurd (omega (arith, le))
 accepts_among (p ∷ ps) (v ∷ vs) le = filter_if (is_accepted v) v (filter is_accepted vs) ∙ count_if (is_accepted v) p.rows (accepted_among ps vs) (length (filter is_accepted vs)) (accepts_among ps vs (omega (arith, le)))
 
-accepts_all : (g : Group) (past : List Entry) → IsLegal g past → count_by is_accepted (verdicts past) ≡ version past
-accepts_all g past legal = sym (length-filter is_accepted (verdicts past)) ∙ (accepts_among (proposals past) (verdicts past) (legal_orderly g past legal).few ∙ sym (ap length (overlays_are_accepted g past legal)))
+-- there are as many versions as acceptances, and one more for each withdrawal
+accepts_all : (g : Group) (past : List Entry) → IsLegal g past → count_by is_accepted (verdicts past) ≤ version past
+accepts_all g past legal = omega (arith, length-filter is_accepted (verdicts past), accepts_among (proposals past) (verdicts past) (legal_orderly g past legal).few, (overlays_listed g past legal).count)
 
 -- what is accepted up to a ticket that a beginning has decided is accepted there
 pub accepted_first : (g : Group) (xs ys : List Made) (ticket : ℕ) → IsLegal g (past_in xs) → IsPrefix xs ys → ticket ≤ length (deciders (past_in xs)) → accepted_up_to ticket (past_in ys) ≤ version (past_in xs)

@@ -8,7 +8,7 @@ use Rattle.st_net.specs.Groups.{Group}
 use Rattle.st_net.specs.Numbered.{nth}
 use Rattle.st_net.proofs.Tests.{numbered}
 use Rattle.st_event.specs.declared.event.Event.{Event}
-use Rattle.st_event.specs.declared.event.Event.TheVariants.{Submit, Check, Lock, Unlock, Send, Deliver, Finish, Report as make_report, Hear, Fail}
+use Rattle.st_event.specs.declared.event.Event.TheVariants.{Submit, Check, Lock, Unlock, Send, Deliver, Finish, Report as make_report, Hear, Fail, Withdraw}
 use Rattle.st_event.specs.declared.journal.Entry.{Entry}
 use Rattle.st_event.specs.declared.reply.Reply.{Reply}
 use Rattle.st_event.specs.declared.reply.Reply.TheVariants.{Queued}
@@ -77,6 +77,7 @@ submit_asks (Finish e) is = is
 submit_asks (make_report e) is = is
 submit_asks (Hear n) is = is
 submit_asks (Fail e vals health) is = is
+submit_asks (Withdraw e) is = is
 
 asking_one : (e : Entry) (es : List Entry) (b c : Bool) → proposes e ≡ b → is_asking e ≡ c → (b ≡ true → c ≡ true) → filter proposes (filter is_asking es) ≡ filter proposes es
     → filter proposes (if c then e ∷ filter is_asking es else filter is_asking es) ≡ (if b then e ∷ filter proposes es else filter proposes es)

@@ -46,7 +46,7 @@ abbrev pub NoRequest : Event → Type 0
 NoRequest event = (is_request (asker event) ≡ false) × (is_submit event ≡ false)
 
 no_turns : OfTurns NoRequest
-no_turns = record { send = λ e. (refl, refl); deliver = λ n. (refl, refl); finish = λ e. (refl, refl); report = λ e. (refl, refl); hear = λ n. (refl, refl) }
+no_turns = record { send = λ e. (refl, refl); deliver = λ n. (refl, refl); finish = λ e. (refl, refl); report = λ e. (refl, refl); hear = λ n. (refl, refl); withdraw = λ e. (refl, refl) }
 
 abbrev pub NoneAsks : Entry → Type 0
 NoneAsks e = NoRequest e.event

@@ -152,7 +152,7 @@ did_at groups lines acts before act behind start last is d =
     let s = did_append groups lines before (act ∷ behind) start last (subst (λ (xs : List Act). Did groups lines xs start last) is d) in
     record { old = s.0; mid = s.2.0; before_it = s.1; does = s.2.1; behind_it = s.2.2 }
 
--- and at its last, where the commands stand newest first
+-- a chain at its last command, where the commands stand newest first
 pub record DidLast (groups : ℕ → Group) (lines : ℕ → List WireLine) (before : List Act) (act : Act) (start new : Holder) : Type 0 where
   pub old : Holder
   pub did : Did groups lines (reverse before) start old
@@ -196,7 +196,7 @@ did_enters groups lines n [] number old new is d = (ap (λ (h : Holder). front_a
 did_enters groups lines n (act ∷ acts) number old new is d = did_one groups lines n act acts number old d.0 new (group_number act == n) refl is d.1
     (did_enters groups lines n acts number d.0 new (d.1.kept.number ∙ is) d.2)
 
--- along it the front goes on, and the list of places
+-- along a chain the front goes on, and so does the list of places
 pub enters_grows : (g : Group) (lines : List WireLine) (number : ℕ) (acts : List Act) (before : List Made) (was : List ℕ) (after : List Made) (now : List ℕ) → EntersAll g lines number acts before was after now → (most : ℕ) × Grows most before was after now
 enters_grows g lines number [] before was after now e = (0, subst (λ (f : List Made). Grows 0 before was f now) (sym e.0) (subst (λ (m : List ℕ). Grows 0 before was before m) (sym e.1) (grows_self before was)))
 enters_grows g lines number (act ∷ acts) before was after now e =

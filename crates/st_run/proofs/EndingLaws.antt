@@ -197,7 +197,7 @@ ending_made groups lines rooms apps tasks n start mid came last t e le =
     subst MadeByWorker (sym (e.still le))
     (task_made came task.times task.duty task.group most (groups task.group) (lines task.group) start mid worked.kept worked.to e.had (fresh_made n rooms start e.fresh))
 
--- and where it came through, it did its task
+-- a worker's pass whose job came through did its task
 ending_worked : (groups : ℕ → Group) (lines : ℕ → List WireLine) (rooms : ℕ) (apps : List Script) (tasks : List Task) (n : ℕ) (start mid : Holder) (came : Came) (last : Holder) (t : Task)
     → Ending groups lines rooms apps tasks n start mid came last → came ≡ Through → length apps ≤ n → HasDoneTask groups lines rooms n (get_or tasks (n - length apps) t) last
 ending_worked groups lines rooms apps tasks n start mid came last t e through le =

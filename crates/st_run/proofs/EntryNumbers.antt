@@ -41,7 +41,7 @@ number_reaches kind zero xs ys le = omega arith
 number_reaches kind (suc m) [] ys le = absurd (omega (arith, le))
 number_reaches kind (suc m) (e ∷ xs) ys le = reaches_one kind m e xs ys (kind e) refl le (number_reaches kind m xs ys) (number_reaches kind (suc m) xs ys)
 
--- and one beyond those that it has is behind it
+-- an entry of a kind, by a number above how many of the kind a beginning has, is behind the beginning
 
 passes_one : (kind : Entry → Bool) (m : ℕ) (e : Entry) (xs ys : List Entry) (b : Bool) → kind e ≡ b → length (filter kind (e ∷ xs)) < suc m
     → (length (filter kind xs) < m → length xs < number_of kind m (xs ++ ys)) → (length (filter kind xs) < suc m → length xs < number_of kind (suc m) (xs ++ ys))

@@ -89,7 +89,7 @@ abbrev pub NoFailure : Group → Entry → Type 0
 NoFailure g e = NeverFails g e.event
 
 calm_turns : (g : Group) → OfTurns (NeverFails g)
-calm_turns g = record { send = λ e past. refl; deliver = λ n past. refl; finish = λ e past. refl; report = λ e past. refl; hear = λ n past. refl }
+calm_turns g = record { send = λ e past. refl; deliver = λ n past. refl; finish = λ e past. refl; report = λ e past. refl; hear = λ n past. refl; withdraw = λ e past. refl }
 
 calm_one : (g : Group) (front : List Made) (n : ℕ) (rest : List ℕ) (o : Option Made)
     → (Each (NoFailure g) (entries_at front rest) → failures_at g front rest ≡ []) → Each (NoFailure g) (and_entry o (entries_at front rest))

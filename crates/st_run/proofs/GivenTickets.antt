@@ -8,7 +8,7 @@ use Rattle.st_net.specs.Groups.{Group}
 use Rattle.st_net.specs.Holders.{is_held_by}
 use Rattle.st_net.specs.Numbered.{nth}
 use Rattle.st_event.specs.declared.event.Event.{Event}
-use Rattle.st_event.specs.declared.event.Event.TheVariants.{Submit, Check, Lock, Unlock, Send, Deliver, Finish, Report as make_report, Hear, Fail}
+use Rattle.st_event.specs.declared.event.Event.TheVariants.{Submit, Check, Lock, Unlock, Send, Deliver, Finish, Report as make_report, Hear, Fail, Withdraw}
 use Rattle.st_event.specs.declared.reply.Reply.{Reply}
 use Rattle.st_event.specs.declared.reply.Reply.TheVariants.{Queued, Full, Released, NotYours, Done, NotBusy}
 use Rattle.st_event.specs.declared.journal.Entry.{Entry}
@@ -21,7 +21,7 @@ use Rattle.st_event.specs.Proposals.{pending, proposals, proposals_after}
 use Rattle.st_event.specs.Replies.{reply}
 use Rattle.st_run.specs.Requests.{is_submit}
 use Rattle.st_service.specs.Tickets.{ticket_in, last_ticket}
-use Rattle.st_service.proofs.GivenLaws.{check_none, deliver_none, hear_none, if_none, lock_none, send_none}
+use Rattle.st_service.proofs.GivenLaws.{check_none, deliver_none, hear_none, if_none, lock_none, send_none, withdraw_none}
 use Rattle.st_service.proofs.TicketLaws.{or_assoc}
 use Rattle.st_run.proofs.CommandEntries.{IsChecked}
 use Rattle.st_run.proofs.DidLaws.{Each}
@@ -38,6 +38,7 @@ no_ticket g past (Finish e) other = if_none (busy g past e) Done NotBusy refl re
 no_ticket g past (make_report e) other = refl
 no_ticket g past (Hear n) other = hear_none (observed g past) (length (reports g past)) (nth (reports g past) n)
 no_ticket g past (Fail e vals health) other = refl
+no_ticket g past (Withdraw e) other = withdraw_none g past e
 
 -- an entry that gives no ticket is no proposal that was queued, and one that does gives the number of the proposals
 abbrev pub IsCounted : List Entry → Event → Reply → Type 0
@@ -61,6 +62,7 @@ counted_by g past (Finish e) answer is = inl (other_none g past (Finish e) answe
 counted_by g past (make_report e) answer is = inl (other_none g past (make_report e) answer refl is, refl)
 counted_by g past (Hear n) answer is = inl (other_none g past (Hear n) answer refl is, refl)
 counted_by g past (Fail e vals health) answer is = inl (other_none g past (Fail e vals health) answer refl is, refl)
+counted_by g past (Withdraw e) answer is = inl (other_none g past (Withdraw e) answer refl is, refl)
 
 pub counted : (g : Group) (past : List Entry) (entry : Entry) → IsNext g past entry → IsCounted past entry.event entry.reply
 counted g past entry next = counted_by g past entry.event entry.reply next.answer

@@ -35,7 +35,7 @@ use Rattle.st_run.proofs.WorkerEntries.{IsWorkerEntry, worker_entries}
 
 -- the events of turns are those of workers
 of_turns : OfTurns (λ event. is_workers event ≡ true)
-of_turns = record { send = λ e. refl; deliver = λ n. refl; finish = λ e. refl; report = λ e. refl; hear = λ n. refl }
+of_turns = record { send = λ e. refl; deliver = λ n. refl; finish = λ e. refl; report = λ e. refl; hear = λ n. refl; withdraw = λ e. refl }
 
 -- places of a front, and the entries there
 
@@ -66,7 +66,7 @@ made_more before was after now a w =
 abbrev MadeOn : List Made → List ℕ → Type 0
 MadeOn front mine = All (λ place. IsOfWorker (slice_get front place)) mine
 
--- where what a pass has of one group is a worker's still, it is
+-- a pass that made only what workers make has made only that still, where all that the pass has on the group of the call is a worker's
 all_workers : (n most : ℕ) (old new : Holder) → Kept old new n most → MadeOn (front_at new.fronts n) (mine_at new.mines n) → MadeByWorker old → MadeByWorker new
 all_workers n most old new kept here made k = ⊎_elim
     (λ (at : k ≡ n). subst (λ (j : ℕ). MadeOn (front_at new.fronts j) (mine_at new.mines j)) (sym at) here)

@@ -143,7 +143,7 @@ deciders_few : (past : List Entry) → length (deciders past) ≤ length (filter
 deciders_few [] = omega arith
 deciders_few (entry ∷ past) = deciders_one entry.event entry.reply (length past + 1) (deciders past) entry (filter (λ e. decides_one e.reply) past) (deciders_few past)
 
--- is within each beginning in which it is decided
+-- the entry that decides a ticket is within each beginning in which the ticket is decided
 pub decision_within : (t : ℕ) (front whole : List Made) → IsPrefix front whole → IsDecided t (past_in front) → decision_of t (entries_in whole) ≤ length front
 decision_within t front whole p decided =
     let few = deciders_few (past_in front) in

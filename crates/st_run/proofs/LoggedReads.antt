@@ -103,7 +103,7 @@ read_more P before (Fail n entity health rows) g old new logs one all = subst (�
 read_more P before (Poll n entity) g old new logs one all = subst (λ (log : List LogEntry). EachRead P before (reverse log)) (sym logs) all
 read_more P before (Span first first_rows second second_rows) g old new logs one all = subst (λ (log : List LogEntry). EachRead P before (reverse log)) (sym logs) all
 
--- it has what was asked for
+-- a line has what its command asked for
 
 answers_asked : (b : Bool) (asked x latest : ℕ) → IsAnswerAt asked (if b then At asked x else NoVersion asked latest)
 answers_asked true asked x latest = refl

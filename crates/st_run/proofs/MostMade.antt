@@ -26,14 +26,14 @@ use Rattle.st_run.specs.Workers.{worker_share, worker_shares_on}
 -- the share of a command that a pass does, with that of workers for it, is within that of the command on one thread
 
 -- a round more than a settle asks for has room for a half of each kind
-halves_are : (d own : ℕ) → (3 + d) * own + (2 + d) * own ≡ (5 + 2 * d) * own
-halves_are d own = sym (add-mul (3 + d) (2 + d) own) ∙ ap (λ (m : ℕ). m * own) (omega arith)
+halves_are : (d own : ℕ) → (4 + d) * own + (2 + d) * own ≡ (6 + 2 * d) * own
+halves_are d own = sym (add-mul (4 + d) (2 + d) own) ∙ ap (λ (m : ℕ). m * own) (omega arith)
 
-rounds_within : (rounds d own all : ℕ) → own ≡ all → rounds * ((5 + 2 * d) * own) + ((3 + d) * own + (2 + d) * own) ≤ (5 + 2 * d) * all * (rounds + 1)
+rounds_within : (rounds d own all : ℕ) → own ≡ all → rounds * ((6 + 2 * d) * own) + ((4 + d) * own + (2 + d) * own) ≤ (6 + 2 * d) * all * (rounds + 1)
 rounds_within rounds d own all is =
-    let turns = 5 + 2 * d in
+    let turns = 6 + 2 * d in
     let same : rounds * (turns * own) ≡ turns * all * rounds = ap (λ (m : ℕ). rounds * (turns * m)) is ∙ mul_comm rounds (turns * all) in
-    let half : (3 + d) * own + (2 + d) * own ≡ turns * all = halves_are d own ∙ ap (λ (m : ℕ). turns * m) is in
+    let half : (4 + d) * own + (2 + d) * own ≡ turns * all = halves_are d own ∙ ap (λ (m : ℕ). turns * m) is in
     let next : rounds + 1 ≡ suc rounds = omega arith in
     let more = ap (λ (m : ℕ). turns * all * m) next ∙ mul-suc (turns * all) rounds in
     omega (arith, same, half, more)

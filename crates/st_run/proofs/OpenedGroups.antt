@@ -39,7 +39,7 @@ opened_group (parts ∷ groups) [] k d g same low = absurd (omega (arith, same))
 opened_group (parts ∷ groups) (lines ∷ wires) zero d g same low = refl
 opened_group (parts ∷ groups) (lines ∷ wires) (suc k) d g same low = opened_group groups wires k d g (omega (arith, same)) (omega (arith, low))
 
--- it is the document's
+-- the group of a number is the document's group of that number
 pub group_at : (groups : ℕ → Group) (lines : ℕ → List WireLine) (doc : Doc) → IsSoundDoc doc → AreStatesOf groups lines doc → (k : ℕ) (g : Group)
     → k < length doc.groups → groups k ≡ slice_index_or (groups_of doc) k g
 group_at groups lines doc sound states k g low =

@@ -80,7 +80,7 @@ opened_worlds doc ws is k d low =
       ap (λ (w : WorldView). w.lines) same,
     )
 
--- and they are the states of the document's groups
+-- the worlds have the states of the document's groups
 opened_states : (doc : Doc) (ws : List WorldView) → IsSoundDoc doc → states_of ws ≡ all_opened doc.groups doc.wires → AreStatesOf (group_named ws) (plan_named ws) doc
 opened_states doc ws sound is k d low =
     let many = worlds_many doc ws sound is in
@@ -91,7 +91,7 @@ opened_states doc ws sound is k d low =
     ∙ get_or-map state_of ws k no_world
     ∙ ap (λ (h : History). record { history = h; lines = plan_named ws k }) (opening doc.groups doc.wires ws k no_world is inside)
 
--- each command of a sound document can be done on them
+-- each command of a sound document can be done on the worlds that were opened for the document
 asks_rounds : (groups : List Parts) (act : Act) → IsSoundAct groups act → HasRounds act
 asks_rounds groups (Settle n rounds) sound = omega (arith, sound.1)
 asks_rounds groups _ sound = tt
@@ -103,7 +103,7 @@ can_be_done doc ws sound is k d low j e lower =
     let fits = subst (λ (gs : List Group). FitsIn act gs) (sym same) (scripts_fit doc sound k d low j e lower) in
     (world_there act ws (group_number act) refl fits, world_fits act ws (group_number act) no_world refl fits, asks_rounds doc.groups act ((sound.apps k d low).acts j e lower))
 
--- what was played of its scripts on them is a run of it
+-- what was played of a document's scripts on its worlds is a run of the document
 pub opened_run : (doc : Doc) (ws : List WorldView) (apps : List Script) (full : Option ℕ) (journals : List Journal) (logs : List Log) → IsSoundDoc doc → states_of ws ≡ all_opened doc.groups doc.wires → apps ≡ doc.apps
     → ((ends : List Holder) × IsPlayed (group_named ws) (plan_named ws) (length ws) (acts_of apps) full journals logs ends) → All HasSmallNumbers journals → IsRunOf doc full journals logs
 opened_run doc ws apps full journals logs sound is same played small =

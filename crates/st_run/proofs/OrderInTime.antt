@@ -97,7 +97,7 @@ awaited_within groups lines app n start last whole a (act ∷ before) behind mid
 asked_count : (app : AppId) (n : ℕ) (before : List Act) (front : List Made) (mine : List ℕ) → HasAsked app n before front mine → length (filter (is_asked_by app) (entries_in front)) ≡ length (requests_by app n before)
 asked_count app n before front mine h = sym (length-map (filter (is_asked_by app) (entries_in front)) (λ (e : Entry). e.event)) ∙ ap length h.asks
 
--- so the next request is behind them
+-- the next request is behind the decisions that were awaited
 pub in_time : (groups : ℕ → Group) (lines : ℕ → List WireLine) (app : AppId) (n : ℕ) (start last : Holder) (whole : List Made) → AtEach groups lines app n start last whole
     → (before behind : List Act) (mid : Holder) → Did groups lines (reverse before) start mid → Did groups lines behind mid last
     → All (λ t. decision_of t (entries_in whole) < request_number app (suc (length (requests_by app n (reverse before)))) (entries_in whole)) (awaited_by app n (entries_in whole) before)
@@ -127,7 +127,7 @@ done_within groups lines app n start last whole a before behind mid d e =
     let awaits = greatest_within (λ t. decision_of t (entries_in whole)) (length front) (awaited_by app n (entries_in whole) before) (awaited_within groups lines app n start last whole a before behind mid d e) in
     omega (arith, reaches, size, all, awaits)
 
--- a settle behind it
+-- a settle is behind the requests and the awaited decisions before the settle
 pub settled_behind : (groups : ℕ → Group) (lines : ℕ → List WireLine) (app : AppId) (n : ℕ) (start last : Holder) (whole : List Made) → AtEach groups lines app n start last whole
     → (before behind : List Act) (m rounds : ℕ) (old new : Holder) → Did groups lines (reverse before) start old → Does groups lines (Settle m rounds) old new → Did groups lines behind new last → m ≡ n
     → IsSettledIn (journal_in (groups n) whole) (lines n) (first_of (done_by app n (entries_in whole) before) (past_in whole)) rounds

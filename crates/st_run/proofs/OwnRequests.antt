@@ -5,7 +5,7 @@ use Rattle.std.proofs.lemmas.List.{reverse-reverse}
 use Rattle.st_net.proofs.Tests.{equal_numbers, equal_self}
 use Rattle.st_net.specs.Groups.{Group}
 use Rattle.st_event.specs.declared.event.Event.{Event}
-use Rattle.st_event.specs.declared.event.Event.TheVariants.{Submit, Check, Lock, Unlock, Send, Deliver, Finish, Report, Hear, Fail}
+use Rattle.st_event.specs.declared.event.Event.TheVariants.{Submit, Check, Lock, Unlock, Send, Deliver, Finish, Report, Hear, Fail, Withdraw}
 use Rattle.st_event.specs.declared.journal.Entry.{Entry}
 use Rattle.st_service.specs.Asked.{asker, is_of, is_own, is_request, is_request_at, requests_in, requests_of}
 use Rattle.st_service.specs.Closed.{IsWhole, positions}
@@ -28,7 +28,7 @@ IsNamed a front k = is_of_at a (slice_get front k) ≡ true
 one_more : (xs : List Made) (m : Made) → length (xs ++ m ∷ []) ≡ suc (length xs)
 one_more xs m = omega (arith, length-append xs (m ∷ []))
 
--- so is each at the places of the requests that name it
+-- at each place that is listed as a request of an application the entry names the application
 put_named : (a : ℕ) (front : List Made) (b : Bool) (i : ℕ) (m : Made) (rest : List ℕ) → slice_get front i ≡ Some m → is_of a (asker m.entry.event) ≡ b
     → Each (IsNamed a front) rest → Each (IsNamed a front) (if b then i ∷ rest else rest)
 put_named a front true i m rest at is each = (ap (is_of_at a) at ∙ is, each)
@@ -44,7 +44,7 @@ named_at a pre (m ∷ ms) =
     (subst (λ (l : List Made). Each (IsNamed a l) (requests_of a (length next) ms)) all (named_at a next ms)) in
     put_named a (pre ++ m ∷ ms) (is_of a (asker m.entry.event)) (length pre) m (requests_of a (suc (length pre)) ms) (get_here pre m ms) refl rest
 
--- where the requests at a pass's places all name it, each request that it made names it
+-- where the requests at a pass's places all name the pass's application, so does each request that the pass made
 abbrev IsOwnOf : ℕ → Made → Type 0
 IsOwnOf a m = (m.by == a) ≡ true → is_own a (asker m.entry.event) ≡ true
 
@@ -96,7 +96,7 @@ pass_owned g passes n entries front a p whole low =
     let places : requests_of a 0 front ≡ requests_in front (positions a 0 front) = whole.asked a p low ∙ ap (requests_in front) (whole.made a p low) in
     owned a [] front (subst (Each (IsNamed a front)) places (named_at a [] front))
 
--- so it names one of so many applications
+-- a request that names its pass's application names one of so many applications
 by_asker : (count n : ℕ) (o : Option ℕ) → n < count → is_own n o ≡ true → IfSome o (λ app. app < count)
 by_asker count n (Some app) low own = omega (arith, low, equal_numbers app n own)
 by_asker count n None low own = tt
@@ -116,6 +116,7 @@ by_worker count (Finish entity) is = tt
 by_worker count (Report entity) is = tt
 by_worker count (Hear m) is = tt
 by_worker count (Fail entity vals health) is = tt
+by_worker count (Withdraw entity) is = tt
 
 front_by : (count : ℕ) (ms : List Made) → ((a : ℕ) → a < count → Each (IsOwnOf a) ms) → Each (IsByOrWorkers count) ms → Each (λ e. IsByOneOf count e.event) (map (λ m. m.entry) ms)
 front_by count [] own by = tt

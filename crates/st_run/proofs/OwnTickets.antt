@@ -37,7 +37,7 @@ pub own_append : (p : ℕ) (xs ys : List Made) → own p (xs ++ ys) ≡ own p xs
 own_append p [] ys = refl
 own_append p (m ∷ xs) ys = ap (λ (l : List Entry). if m.by == p then m.entry ∷ l else l) (own_append p xs ys) ∙ own_if (m.by == p) m.entry (own p xs) (own p ys)
 
--- they stand at its positions
+-- the entries that a pass made stand at the pass's positions
 pub entries_positions : (p : ℕ) (pre ms : List Made) → entries_at (pre ++ ms) (positions p (length pre) ms) ≡ own p ms
 entries_positions p pre [] = refl
 entries_positions p pre (m ∷ ms) =

@@ -10,7 +10,7 @@ use Rattle.st_net.proofs.Tests.{get_some}
 use Rattle.st_event.specs.declared.act.Act.{Act}
 use Rattle.st_event.specs.declared.act.Act.TheVariants.{Await}
 use Rattle.st_event.specs.declared.event.Event.{Event}
-use Rattle.st_event.specs.declared.event.Event.TheVariants.{Submit, Check, Lock as lock_event, Unlock as unlock_event, Send, Deliver, Finish, Report, Hear, Fail as fail_event}
+use Rattle.st_event.specs.declared.event.Event.TheVariants.{Submit, Check, Lock as lock_event, Unlock as unlock_event, Send, Deliver, Finish, Report, Hear, Fail as fail_event, Withdraw}
 use Rattle.st_event.specs.declared.journal.Entry.{Entry}
 use Rattle.st_event.specs.Legal.{IsLegal}
 use Rattle.st_event.specs.Proposals.{deciders, pending, proposals}
@@ -65,7 +65,7 @@ awaited g number before was after now ticket latest at within last a = by latest
     by (Some t) is w = let e : Some t ≡ Some ticket = same (Some t) is w in let n : t ≡ ticket = cc e in subst (λ (k : ℕ). IsDecided k (past_in after)) n w.3
     by None is w = let e : None ≡ Some ticket = same None is w in absurd (cc e)
 
--- what the last ticket of a pass's entries is, when its script and the awaits are done: it is decided
+-- the last ticket of a pass's entries is decided when the pass's script and the awaits are done
 pub own_decided : (groups : ℕ → Group) (lines : ℕ → List WireLine) (rooms number n : ℕ) (acts : List Act) (front : List Made) (p : Holder) (ticket : ℕ) → n < rooms → Ended groups lines rooms number n acts front p → last_ticket (own number front) ≡ Some ticket
     → ticket ≤ length (deciders (past_in front))
 own_decided groups lines rooms number n acts front p ticket within e last =
@@ -107,6 +107,7 @@ never_proposed (Deliver n) w s = cc s
 never_proposed (Finish e) w s = cc s
 never_proposed (Report e) w s = cc s
 never_proposed (Hear n) w s = cc s
+never_proposed (Withdraw e) w s = cc s
 never_proposed (fail_event e vals health) w s = cc w
 
 scripts_propose : (count : ℕ) (ms : List Made) → Each (IsByOrWorkers count) ms → Each (Proposes count) ms

@@ -124,7 +124,7 @@ has_done groups lines rooms n acts awaits start mid last came are f p through q 
   did = did_both groups lines acts (awaits_on rooms) start mid last (subst (λ (w : Came). CameTo w groups lines acts start mid) through p) (subst (λ (xs : List Act). Did groups lines xs mid last) are q);
 }
 
--- or met a full journal, on its way or behind
+-- a pass that met a full journal, in its script or in the awaits behind the script, has seen that journal full
 pub was_full : (groups : ℕ → Group) (lines : ℕ → List WireLine) (awaits : List Act) (ends : List Holder) (n m : ℕ) (mid p : Holder) (came : Came) → n < length ends
     → (came ≡ ToFull m → HasFull mid m) → Went groups lines awaits mid (get_or ends n p) → (came ≡ ToFull m) ⊎ HasFull (get_or ends n p) m → WasFull ends m
 was_full groups lines awaits ends n m mid p came lt c w full = record {

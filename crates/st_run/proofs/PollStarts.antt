@@ -8,7 +8,7 @@ use mathlib.Core.List.{IsPrefix}
 use Rattle.st_net.specs.declared.entity.Entity.{Entity}
 use Rattle.st_net.specs.Groups.{Group}
 use Rattle.st_event.specs.declared.event.Event.{Event}
-use Rattle.st_event.specs.declared.event.Event.TheVariants.{Submit, Check, Lock, Unlock, Send, Deliver, Finish, Report, Hear, Fail}
+use Rattle.st_event.specs.declared.event.Event.TheVariants.{Submit, Check, Lock, Unlock, Send, Deliver, Finish, Report, Hear, Fail, Withdraw}
 use Rattle.st_event.specs.declared.journal.Entry.{Entry}
 use Rattle.st_wire.specs.declared.line.WireLine.{WireLine}
 use Rattle.st_event.proofs.Prefixes.{prefix_get, prefix_length, prefix_shorter, prefix_trans}
@@ -29,6 +29,7 @@ is_report (Deliver n) = false
 is_report (Finish entity) = false
 is_report (Hear n) = false
 is_report (Fail entity vals health) = false
+is_report (Withdraw entity) = false
 
 abbrev pub is_report_at : Option Made → Bool
 is_report_at (Some m) = is_report m.entry.event

@@ -1,11 +1,11 @@
 -- The entries that a course adds to a journal.
 use Rattle.std.proofs.Common.{◌≡◌, ℕ, ◌<◌, Bool, true, false, List, [], ◌∷◌, ◌++◌, length, map, refl, ap, sym, subst, ◌∙◌}
-use Rattle.std.specs.Prelude.{reverse, nat_lt}
+use Rattle.std.specs.Prelude.{reverse, nat_lt, if◌then◌else◌}
 use Rattle.std.proofs.lemmas.List.{append_cancel_right, reverse-reverse, reverse-append}
 use Rattle.st_net.specs.declared.entity.Entity.{Entity}
 use Rattle.st_net.specs.Groups.{Group}
 use Rattle.st_event.specs.declared.event.Event.{Event}
-use Rattle.st_event.specs.declared.event.Event.TheVariants.{Send, Deliver, Finish, Report as make_report, Hear}
+use Rattle.st_event.specs.declared.event.Event.TheVariants.{Send, Deliver, Finish, Report as make_report, Hear, Withdraw}
 use Rattle.st_event.specs.declared.reply.Reply.{Reply}
 use Rattle.st_event.specs.declared.reply.Reply.TheVariants.{Sent, Reported}
 use Rattle.st_event.specs.declared.journal.Entry.{Entry}
@@ -14,7 +14,7 @@ use Rattle.st_event.specs.Services.{entry_after}
 use Rattle.st_wire.specs.declared.line.WireKind.TheVariants.{Command as command_kind, Report as report_kind}
 use Rattle.st_wire.specs.declared.line.WireLine.{WireLine}
 use Rattle.st_wire.specs.Deliveries.{deliveries}
-use Rattle.st_world.specs.Rounds.{Course, course_from, enter, enter_all, follow_ups_of, follow_ups, enter_told, update_turn, poll, turn}
+use Rattle.st_world.specs.Rounds.{Course, course_from, enter, enter_all, follow_ups_of, follow_ups, enter_told, is_called_back, send_turn, update_turn, poll, turn}
 use Rattle.st_net.proofs.Tests.{less_is}
 use Rattle.st_world.proofs.RunLaws.{entered}
 use Rattle.st_run.proofs.DidLaws.{Each, each_append}
@@ -61,6 +61,7 @@ pub record OfTurns (P : Event → Type 0) : Type 0 where
   pub finish : (e : Entity) → P (Finish e)
   pub report : (e : Entity) → P (make_report e)
   pub hear : (n : ℕ) → P (Hear n)
+  pub withdraw : (e : Entity) → P (Withdraw e)
 
 each_map : (P : Event → Type 0) (f : ℕ → Event) (ns : List ℕ) → ((n : ℕ) → P (f n)) → Each P (map f ns)
 each_map P f [] p = tt
@@ -83,8 +84,17 @@ only_told P g lines past course event t p o =
 pub only_poll : (P : Event → Type 0) (g : Group) (lines : List WireLine) (past : List Entry) (course : Course) (e : Entity) → OfTurns P → Only P past course → Only P past (poll g lines course e)
 only_poll P g lines past course e t o = only_told P g lines past course (make_report e) t (t.report e) o
 
+only_called : (P : Event → Type 0) (g : Group) (past : List Entry) (course : Course) (e : Entity) (called : Bool) → OfTurns P → Only P past course → Only P past (if called then enter g course (Withdraw e) else course)
+only_called P g past course e true t o = only_enter P g past course (Withdraw e) (t.withdraw e) o
+only_called P g past course e false t o = o
+
+only_send : (P : Event → Type 0) (g : Group) (lines : List WireLine) (past : List Entry) (course : Course) (e : Entity) → OfTurns P → Only P past course → Only P past (send_turn g lines course e)
+only_send P g lines past course e t o =
+    let told = enter_told g lines course (Send e) in
+    only_called P g past told e (is_called_back g told.past e) t (only_told P g lines past course (Send e) t (t.send e) o)
+
 pub only_update : (P : Event → Type 0) (g : Group) (lines : List WireLine) (past : List Entry) (course : Course) (e : Entity) → OfTurns P → Only P past course → Only P past (update_turn g lines course e)
-only_update P g lines past course e t o = only_enter P g past (enter_told g lines course (Send e)) (Finish e) (t.finish e) (only_told P g lines past course (Send e) t (t.send e) o)
+only_update P g lines past course e t o = only_enter P g past (send_turn g lines course e) (Finish e) (t.finish e) (only_send P g lines past course e t o)
 
 pub only_turn : (P : Event → Type 0) (g : Group) (lines : List WireLine) (past : List Entry) (course : Course) (e : Entity) → OfTurns P → Only P past course → Only P past (turn g lines course e)
 only_turn P g lines past course e t o = only_poll P g lines past (update_turn g lines course e) e t (only_update P g lines past course e t o)

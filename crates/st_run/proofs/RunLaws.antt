@@ -58,7 +58,7 @@ journals_kept doc groups lines journals logs passes sound states closed =
     subst (λ (x : Group). IsKept x (slice_index_or journals k j)) (group_at groups lines doc sound states k g within)
     (kept_one (groups k) passes k (slice_index_or journals k j).entries whole.0 (slice_index_or journals k j) refl whole.1))
 
--- it has as many entries as its front, and no more than a journal can have
+-- a journal has as many entries as the front that tells who made each, and no more than a journal can have
 
 entries_count : (g : Group) (passes : List Holder) (n : ℕ) (entries : List Entry) (front : List Made) → IsWhole g passes n entries front
     → length entries ≡ length front
@@ -74,7 +74,7 @@ whole_few g passes n entries front whole =
     let told = ap (λ (es : List Entry). length es) whole.journal in
     omega (arith, few, told, length-reverse entries)
 
--- so where a pass has seen it full it is full
+-- a journal that a pass has seen full is full
 
 full_front : (g : Group) (passes : List Holder) (n : ℕ) (entries : List Entry) (front : List Made) (number : ℕ) (p : Holder)
     → IsWhole g passes n entries front → slice_get passes number ≡ Some p
@@ -138,7 +138,7 @@ own_requests doc groups lines full journals logs passes played = λ k j low.
     subst (λ (n : ℕ). All (λ (entry : Entry). IsByOneOf n entry.event) entries) count
     (requests_own (groups k) passes k entries whole.0 (length (acts_of doc.apps)) played.count played.workers whole.1)
 
--- and so the whole of it
+-- what was played of a document is a run of the document
 pub played_is_run : (doc : Doc) (groups : ℕ → Group) (lines : ℕ → List WireLine) (full : Option ℕ) (journals : List Journal) (logs : List Log) (ends : List Holder)
     → IsSoundDoc doc → AreStatesOf groups lines doc
     → IsPlayed groups lines (length doc.groups) (acts_of doc.apps) full journals logs ends → All HasSmallNumbers journals → IsRunOf doc full journals logs

@@ -9,7 +9,7 @@ use Rattle.st_net.specs.Groups.{Group}
 use Rattle.st_event.specs.declared.act.Act.{Act}
 use Rattle.st_event.specs.declared.act.Act.TheVariants.{Await}
 use Rattle.st_event.specs.declared.event.Event.{Event}
-use Rattle.st_event.specs.declared.event.Event.TheVariants.{Submit, Check, Lock, Unlock, Send, Deliver, Finish, Report, Hear, Fail}
+use Rattle.st_event.specs.declared.event.Event.TheVariants.{Submit, Check, Lock, Unlock, Send, Deliver, Finish, Report, Hear, Fail, Withdraw}
 use Rattle.st_event.specs.declared.reply.Reply.{Reply}
 use Rattle.st_event.specs.declared.journal.Entry.{Entry}
 use Rattle.st_event.specs.Legal.{IsLegal}
@@ -83,6 +83,7 @@ names a (Finish entity) = refl
 names a (Report entity) = refl
 names a (Hear n) = refl
 names a (Fail entity vals health) = refl
+names a (Withdraw entity) = refl
 
 pub at_if : (front : List Made) (b : Bool) (i : ℕ) (m : Made) (rest : List ℕ) → slice_get front i ≡ Some m → entries_at front (if b then i ∷ rest else rest) ≡ (if b then m.entry ∷ entries_at front rest else entries_at front rest)
 at_if front true i m rest is = ap (λ (o : Option Made). and_entry o (entries_at front rest)) is

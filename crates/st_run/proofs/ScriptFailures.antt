@@ -10,7 +10,7 @@ use Rattle.st_net.specs.Groups.{Group}
 use Rattle.st_event.specs.declared.act.Act.{Act}
 use Rattle.st_event.specs.declared.act.Act.TheVariants.{Await}
 use Rattle.st_event.specs.declared.event.Event.{Event}
-use Rattle.st_event.specs.declared.event.Event.TheVariants.{Submit, Check, Lock as lock_event, Unlock as unlock_event, Send, Deliver, Finish, Report, Hear, Fail as fail_event}
+use Rattle.st_event.specs.declared.event.Event.TheVariants.{Submit, Check, Lock as lock_event, Unlock as unlock_event, Send, Deliver, Finish, Report, Hear, Fail as fail_event, Withdraw}
 use Rattle.st_event.specs.declared.journal.Entry.{Entry}
 use Rattle.st_wire.specs.declared.line.WireLine.{WireLine}
 use Rattle.st_world.specs.Acts.{group_number}
@@ -60,6 +60,7 @@ none_failed g past (Deliver n) is = refl
 none_failed g past (Finish e) is = refl
 none_failed g past (Report e) is = refl
 none_failed g past (Hear n) is = refl
+none_failed g past (Withdraw e) is = refl
 none_failed g past (fail_event e vals health) is = absurd (cc is)
 
 entry_owned : (g : Group) (n : ℕ) (past : List Entry) (m : Made) → IsByOrWorkers n m

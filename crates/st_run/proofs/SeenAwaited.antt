@@ -92,7 +92,7 @@ knows_all groups lines app n entries front start last legal p tells =
     (λ waits here t told. knows_awaited groups lines n act old new front t legal begins waits (equal_numbers (group_number act) n here) does (tells before (act ∷ behind) old t d (new, does, e) told)))
     (All-nil (λ t. KnowsOf n start (accepted_up_to t (past_in front))))
 
--- so a line has seen it
+-- a line has seen as many acceptances as its pass knows of
 
 seen_at_version : (b : Bool) (asked x latest count : ℕ) → count ≤ latest → HasSeen (if b then At asked x else NoVersion asked latest) count
 seen_at_version true asked x latest count le = tt

@@ -151,7 +151,7 @@ went_next groups lines acts k act a b c lt is w one =
 pub full_on : (groups : ℕ → Group) (lines : ℕ → List WireLine) (acts : List Act) (n : ℕ) (a b : Holder) → Went groups lines acts a b → HasFull a n → HasFull b n
 full_on groups lines acts n a b w full = (omega (arith, full.0, w.rooms.0), omega (arith, full.1, prefix_length (front_at a.fronts n) (front_at b.fronts n) (w.fronts n)))
 
--- the commands of a list up to one that met it full
+-- the commands of a list up to one that met a full journal
 take_begins : (acts : List Act) (k : ℕ) → IsPrefix (take k acts) acts
 take_begins acts zero = (acts, refl)
 take_begins [] (suc k) = ([], refl)
@@ -169,6 +169,6 @@ stops_at groups lines n acts k act a b c lt is d here met = record {
   met = met;
 }
 
--- the group of a command that met it full
+-- a pass whose command met a full journal has seen the journal of the command's group full
 pub full_of : (act : Act) (n : ℕ) (p : Holder) → group_number act < length p.fronts → n ≡ group_number act → length (front_at p.fronts (group_number act)) ≡ MAX_ENTRIES → HasFull p n
 full_of act n p lt is full = subst (λ (m : ℕ). HasFull p m) (sym is) (lt, omega (arith, full))

@@ -27,11 +27,11 @@ use Rattle.st_run.proofs.SmallCases.{usual, a1, app, firmware, after_all, line, 
 abbrev parts : List ℕ → Parts
 parts name = record no_parts { name = name; devices = record { name = codes "a1"; tor = false; vals = usual; health = 5 } ∷ [] }
 
--- it updates the firmware on the first group
+-- the first application updates the firmware on the first group
 abbrev updates : List Act
 updates = Propose 0 (firmware 2) ∷ Await 0 ∷ Read 0 a1 Firmware ∷ []
 
--- it locks the switch of the second group
+-- the second application locks the switch of the second group
 abbrev locks : List Act
 locks = Lock 1 a1 Low ∷ []
 

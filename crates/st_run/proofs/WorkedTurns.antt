@@ -11,7 +11,7 @@ use Rattle.st_net.specs.Groups.{IsEntityOf}
 use Rattle.st_event.specs.declared.act.Act.{Act}
 use Rattle.st_event.specs.declared.act.Act.TheVariants.{Propose, Await, Settle, Fail, Poll}
 use Rattle.st_event.specs.declared.event.Event.{Event}
-use Rattle.st_event.specs.declared.event.Event.TheVariants.{Submit, Check, Send, Finish, Report, Hear, Fail as fail_event}
+use Rattle.st_event.specs.declared.event.Event.TheVariants.{Submit, Check, Send, Finish, Report, Hear, Fail as fail_event, Withdraw}
 use Rattle.st_event.specs.declared.journal.Entry.{Entry}
 use Rattle.st_event.specs.declared.journal.TheConstants.{MAX_ENTRIES}
 use Rattle.st_event.specs.History.{History}
@@ -21,8 +21,9 @@ use Rattle.st_event.specs.Services.{entry_after}
 use Rattle.st_wire.specs.declared.line.WireKind.TheVariants.{Command}
 use Rattle.st_wire.specs.declared.line.WireLine.TheVariants.{Drop}
 use Rattle.st_wire.specs.declared.line.WireLine.{WireLine}
-use Rattle.st_world.specs.Rounds.{Course, course_from, enter, enter_all, follow_ups, poll, turn}
+use Rattle.st_world.specs.Rounds.{Course, course_from, enter, enter_all, follow_ups, is_called_back, called_back, poll, turn}
 use Rattle.st_world.specs.World.{IsBeginning}
+use Rattle.st_world.proofs.RunLaws.{called_back-stopped}
 use Rattle.st_run.specs.CarriedOn.{FailsAsAsked, HasTurns, PollsAll, WasSettled, is_poll_of}
 use Rattle.st_run.specs.Failures.{IsFailureBy}
 use Rattle.st_run.specs.Requests.{acts_on}
@@ -76,6 +77,10 @@ more_all : (kind : Event → Bool) (course : Course) (events : List Event) → c
 more_all kind course [] = omega arith
 more_all kind course (event ∷ events) = let one = more kind course event in let rest = more_all kind (enter small course event) events in omega (arith, one, rest)
 
+more_back : (kind : Event → Bool) (course : Course) (e : Entity) (called : Bool) → counted kind course.past ≤ counted kind (if called then enter small course (Withdraw e) else course).past
+more_back kind course e true = more kind course (Withdraw e)
+more_back kind course e false = omega arith
+
 -- a stopped course stays so
 still : (past : List Entry) (events : List Event) → enter_all small (record { past = past; stopped = true }) events ≡ record { past = past; stopped = true }
 still past [] = refl
@@ -88,21 +93,24 @@ sends_by lines before after true is run =
     let here : enter small (course_from before) (Send a1) ≡ first = ap (entered (course_from before) (Send a1) false) is in
     let told = follow_ups small lines first.past in
     let third = enter_all small first told in
-    let fourth = enter small third (Finish a1) in
+    let sent = called_back small third a1 in
+    let fourth = enter small sent (Finish a1) in
     let fifth = enter small fourth (Report a1) in
-    let whole : poll small lines (enter small third (Finish a1)) a1 ≡ record { past = after; stopped = false } = ap (λ (r : Course). poll small lines (enter small (enter_all small r (follow_ups small lines r.past)) (Finish a1)) a1) (sym here) ∙ run in
+    let whole : poll small lines (enter small sent (Finish a1)) a1 ≡ record { past = after; stopped = false } = ap (λ (r : Course). poll small lines (enter small (called_back small (enter_all small r (follow_ups small lines r.past)) a1) (Finish a1)) a1) (sym here) ∙ run in
     let a = more_all is_send first told in
-    let b = more is_send third (Finish a1) in
+    let back = more_back is_send third a1 (is_called_back small third.past a1) in
+    let b = more is_send sent (Finish a1) in
     let c = more is_send fourth (Report a1) in
     let d = more_all is_send fifth (follow_ups small lines fifth.past) in
     let e : counted is_send (poll small lines fourth a1).past ≡ counted is_send after = ap (λ (r : Course). counted is_send r.past) whole in
-    omega (arith, a, b, c, d, e)
+    omega (arith, a, back, b, c, d, e)
 sends_by lines before after false is run =
     let full : Course = record { past = before; stopped = true } in
     let here : enter small (course_from before) (Send a1) ≡ full = ap (entered (course_from before) (Send a1) false) is in
     let stays : enter_all small full (follow_ups small lines before) ≡ full = still before (follow_ups small lines before) in
+    let back : called_back small (enter_all small full (follow_ups small lines before)) a1 ≡ full = ap (λ (r : Course). called_back small r a1) stays ∙ called_back-stopped small full a1 refl in
     let flat : full ≡ record { past = after; stopped = false } =
-    sym stays ∙ sym (ap (λ (r : Course). poll small lines (enter small r (Finish a1)) a1) stays) ∙ sym (ap (λ (r : Course). poll small lines (enter small (enter_all small r (follow_ups small lines r.past)) (Finish a1)) a1) here) ∙ run in
+    sym stays ∙ sym (ap (λ (r : Course). poll small lines (enter small r (Finish a1)) a1) back) ∙ sym (ap (λ (r : Course). poll small lines (enter small (called_back small (enter_all small r (follow_ups small lines r.past)) a1) (Finish a1)) a1) here) ∙ run in
     absurd (cc (ap (λ (r : Course). r.stopped) flat))
 
 -- a poll has a Hear
@@ -252,7 +260,7 @@ for_each_lost (Link i) is = absurd (omega (arith, is))
 settles_by_turns : Settled (losing 2 two_lost)
 settles_by_turns = (λ there. for_each_lost, (tt, (tt, tt)))
 
--- two rounds, and one turn: it does not count twice
+-- two rounds, and one turn: the turn does not count twice
 abbrev counted_twice : Case
 counted_twice = losing 2 (lost_turn 1)
 

@@ -58,11 +58,11 @@ no_failure is = let at = is 0 0 0 (omega arith) in cc at
 none_beyond : MadeByWorker (pass (5 ∷ [])) → ⊥
 none_beyond is = is 0 0 0 (omega arith)
 
--- a proposal has one check made for it, and a settle of three rounds one half of each kind: of one switch, without a loss plan, 3 entries and 2
+-- a proposal has one check made for it, and a settle of three rounds one half of each kind: of one switch, without a loss plan, 4 entries and 2
 abbrev script : List Act
 script = Propose 0 (firmware 2) ∷ Settle 0 3 ∷ Lock 0 a1 Low ∷ Propose 1 (firmware 2) ∷ []
 
-few : worker_shares_on 0 small [] script ≡ 6
+few : worker_shares_on 0 small [] script ≡ 7
 few = refl
 
 -- a proposal and a settle on one group make three tasks, with one try each; two proposals to another one task with two

@@ -6,7 +6,7 @@ use Rattle.st_net.specs.Groups.{Group}
 use Rattle.st_event.specs.declared.act.Act.{Act}
 use Rattle.st_event.specs.declared.act.Act.TheVariants.{Propose, Await, Settle, Lock, Unlock, Read, ReadAt, Fail, Poll, Span}
 use Rattle.st_event.specs.declared.event.Event.{Event}
-use Rattle.st_event.specs.declared.event.Event.TheVariants.{Submit, Check, Lock as lock_event, Unlock as unlock_event, Send, Deliver, Finish, Report, Hear, Fail as fail_event}
+use Rattle.st_event.specs.declared.event.Event.TheVariants.{Submit, Check, Lock as lock_event, Unlock as unlock_event, Send, Deliver, Finish, Report, Hear, Fail as fail_event, Withdraw}
 use Rattle.st_event.specs.declared.journal.Entry.{Entry}
 use Rattle.st_event.specs.Moments.{vals}
 use Rattle.st_world.specs.Acts.{failed_vals}
@@ -30,6 +30,7 @@ failure_by g past (Deliver n) = []
 failure_by g past (Finish e) = []
 failure_by g past (Report e) = []
 failure_by g past (Hear n) = []
+failure_by g past (Withdraw e) = []
 
 -- the failures in a journal, the oldest first
 abbrev pub failures_in : Group → List Entry → List Failure

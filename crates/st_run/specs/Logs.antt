@@ -88,7 +88,7 @@ NeverLess (line ∷ lines) = All (GoesOn line) lines × NeverLess lines
 abbrev pub accepted_up_to : ℕ → List Entry → ℕ
 accepted_up_to ticket past = count_by is_accepted (take ticket (verdicts past))
 
--- a line has seen so many acceptances
+-- the version that a line saw, or the latest that it tells, is at least so high
 abbrev pub HasSeen : LogSaw → ℕ → Type 0
 HasSeen (Seen v x) count = count ≤ v
 HasSeen (At v x) count = Unit {0}

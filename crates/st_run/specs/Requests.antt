@@ -35,7 +35,7 @@ acts_on n acts = filter (λ act. group_number act == n) acts
 abbrev pub requests_by : AppId → ℕ → List Act → List Event
 requests_by app n acts = filter_map (request_by app) (acts_on n acts)
 
--- whether the entry's event is a request that names an application
+-- whether the entry's event is a request of this application
 abbrev pub is_asked_by : AppId → Entry → Bool
 is_asked_by app entry = is_request_of app entry.event
 

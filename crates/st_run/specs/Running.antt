@@ -3,7 +3,7 @@ use Rattle.std.specs.Prelude.{ℕ, ◌≡◌, ◌<◌, ◌^◌, List, [], All, l
 use Rattle.st_net.specs.Groups.{Group}
 use Rattle.st_event.specs.declared.act.Log.{Log}
 use Rattle.st_event.specs.declared.event.Event.{Event}
-use Rattle.st_event.specs.declared.event.Event.TheVariants.{Submit, Check, Lock, Unlock, Send, Deliver, Finish, Report, Hear, Fail}
+use Rattle.st_event.specs.declared.event.Event.TheVariants.{Submit, Check, Lock, Unlock, Send, Deliver, Finish, Report, Hear, Fail, Withdraw}
 use Rattle.st_event.specs.declared.journal.Journal.{Journal}
 use Rattle.st_event.specs.declared.journal.TheConstants.{MAX_ENTRIES}
 use Rattle.st_grammar.specs.declared.doc.Doc.{Doc}
@@ -43,6 +43,7 @@ HasSmallNumber (Finish entity) = Unit {0}
 HasSmallNumber (Report entity) = Unit {0}
 HasSmallNumber (Hear n) = n < 2 ^ 32
 HasSmallNumber (Fail entity vals health) = Unit {0}
+HasSmallNumber (Withdraw entity) = Unit {0}
 
 abbrev pub HasSmallNumbers : Journal → Type 0
 HasSmallNumbers journal = All (λ entry. HasSmallNumber entry.event) journal.entries

@@ -4,7 +4,7 @@ use Rattle.st_net.specs.Groups.{Group}
 use Rattle.st_event.specs.declared.act.Act.{Act}
 use Rattle.st_event.specs.declared.act.Act.TheVariants.{Propose, Await, Settle, Lock, Unlock, Read, ReadAt, Fail, Poll, Span}
 use Rattle.st_event.specs.declared.event.Event.{Event}
-use Rattle.st_event.specs.declared.event.Event.TheVariants.{Submit, Check, Lock as lock_event, Unlock as unlock_event, Send, Deliver, Finish, Report, Hear, Fail as fail_event}
+use Rattle.st_event.specs.declared.event.Event.TheVariants.{Submit, Check, Lock as lock_event, Unlock as unlock_event, Send, Deliver, Finish, Report, Hear, Fail as fail_event, Withdraw}
 use Rattle.st_wire.specs.declared.line.WireLine.{WireLine}
 use Rattle.st_world.specs.Acts.{group_number}
 use Rattle.st_service.specs.declared.work.Part.TheVariants.{Update, Monitor}
@@ -23,6 +23,7 @@ is_workers (Deliver n) = true
 is_workers (Finish e) = true
 is_workers (Report e) = true
 is_workers (Hear n) = true
+is_workers (Withdraw e) = true
 is_workers (fail_event e vals health) = false
 
 -- an entry stands at a place, and a worker makes its event

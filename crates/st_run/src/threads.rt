@@ -84,7 +84,8 @@ fn is_numbered(event: &Event)
         | Event::Send { .. }
         | Event::Finish { .. }
         | Event::Report { .. }
-        | Event::Fail { .. } => {}
+        | Event::Fail { .. }
+        | Event::Withdraw { .. } => {}
     }
 }
 
@@ -110,10 +111,10 @@ fn all_numbered(journals: &[Journal])
 /// checker of each group to which a `propose` goes, which makes a check off the lock for each such command; and one for the updater and one
 /// for the monitor of each group that a `settle` names, which make a half of a round for each such command. The call waits for its threads.
 /// The gate is called behind each read, before each half that an updater or a monitor makes, and before each judgement off the lock that a
-/// thread makes; the awaits behind the threads call none. The order in which different threads act is free. Where no event met a full journal the scripts were carried out.
-/// Else the result names a group whose journal is full: the lowest at which a thread stopped, while the others went on, or which an await
-/// behind the threads met full; of that group only this is promised. Journals and logs stand in the order of the document. `Err` is for want
-/// of memory alone, and hands nothing back.
+/// thread makes; the awaits behind the threads call none. The order in which different threads act is free. Where no event met a full
+/// journal the scripts were carried out. Else the result names a group whose journal is full: the lowest at which a thread stopped, while
+/// the others went on, or which an await behind the threads met full; of that group only this is promised. Journals and logs stand in the
+/// order of the document. `Err` is for want of memory alone, and hands nothing back.
 pub fn run_scripts<R: Threads + Wait + Sync, G: Gate + Sync>(
     rt: &R,
     alloc: Global,

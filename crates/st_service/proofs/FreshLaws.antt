@@ -25,14 +25,14 @@ fresh_next n g p q r f none is = rw is (record {
   unlogged = f.unlogged;
 })
 
--- those below the next one have their places, and so has it now
+-- the passes below the next one have their places, and so has the next one now
 pub seated_more : (g next : ℕ) (ps : List Holder) (q : Holder) → next < length ps → IsFresh next (g + 1) q → ((n : ℕ) (p : Holder) → n < next → IsFresh n (g + 1) (get_or ps n p))
     → (n : ℕ) (p : Holder) → n < next + 1 → IsFresh n (g + 1) (get_or (set ps next q) n p)
 seated_more g next ps q in_it here below n p lt = below_more (λ (k : ℕ). IsFresh k (g + 1) (get_or (set ps next q) k p)) next
     (λ k less. let ne : k ≢ next = omega arith in subst (IsFresh k (g + 1)) (sym (get_or-set_other ps next k q p ne)) (below k p less))
     (subst (IsFresh next (g + 1)) (sym (get_or-set_same ps next q p in_it)) here) n lt
 
--- those above it wait for theirs
+-- the passes above the next one wait for their places
 pub waiting_less : (g next : ℕ) (ps : List Holder) (q : Holder) → ((n : ℕ) (p : Holder) → next ≤ n → n < length ps → IsFresh n g (get_or ps n p))
     → (n : ℕ) (p : Holder) → next + 1 ≤ n → n < length (set ps next q) → IsFresh n g (get_or (set ps next q) n p)
 waiting_less g next ps q above n p le lt =

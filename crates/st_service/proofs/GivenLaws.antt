@@ -8,11 +8,12 @@ use Rattle.st_net.specs.declared.entity.Row.{Row}
 use Rattle.st_net.specs.declared.entity.Entity.{Entity}
 use Rattle.st_net.specs.declared.message.Command.{Command}
 use Rattle.st_net.specs.declared.message.Report.{Report}
+use Rattle.st_net.specs.Entities.{value_of, vars_of}
 use Rattle.st_net.specs.Groups.{Group}
 use Rattle.st_net.specs.Holders.{is_free_for, is_held_by}
 use Rattle.st_net.specs.Numbered.{nth}
 use Rattle.st_event.specs.declared.event.Event.{Event}
-use Rattle.st_event.specs.declared.event.Event.TheVariants.{Submit, Check, Lock, Unlock, Send, Deliver, Finish, Report as make_report, Hear, Fail}
+use Rattle.st_event.specs.declared.event.Event.TheVariants.{Submit, Check, Lock, Unlock, Send, Deliver, Finish, Report as make_report, Hear, Fail, Withdraw}
 use Rattle.st_event.specs.declared.event.Proposal.{Proposal}
 use Rattle.st_event.specs.declared.journal.Entry.{Entry}
 use Rattle.st_event.specs.declared.journal.TheConstants.{MAX_PENDING}
@@ -23,9 +24,9 @@ use Rattle.st_event.specs.Judge.{lack_at}
 use Rattle.st_event.specs.Legal.{IsLegal}
 use Rattle.st_event.specs.Moments.{commands, reports, fence, busy}
 use Rattle.st_event.specs.Observed.{observed, is_settled}
-use Rattle.st_event.specs.Proposals.{proposals, proposals_after, pending, target}
+use Rattle.st_event.specs.Proposals.{proposals, proposals_after, pending, target, version}
 use Rattle.st_event.specs.Locks.{holder}
-use Rattle.st_event.specs.Replies.{reply, check_reply, lock_reply, blocked_or_sent, row_to, governing, deliver_reply, hear_reply}
+use Rattle.st_event.specs.Replies.{reply, check_reply, lock_reply, blocked_or_sent, row_to, rows_back, kept_or_withdrawn, governing, deliver_reply, hear_reply}
 use Rattle.st_service.specs.Made.{Made, past_in}
 use Rattle.st_service.specs.Tickets.{ticket_in, ticket_of, latest_in}
 use Rattle.st_service.specs.Works.{IsGiven}
@@ -47,6 +48,16 @@ lock_none app (Some a) = if_none (is_free_for app (Some a)) Granted (Held a) ref
 blocked_none : (lack : Option Lack) (row : Row) (sent : ℕ) → ticket_in (blocked_or_sent lack row sent) ≡ None
 blocked_none (Some lack) row sent = refl
 blocked_none None row sent = refl
+
+withdrawn_none : (lack : Option Lack) (rows : List Row) (n : ℕ) → ticket_in (kept_or_withdrawn lack rows n) ≡ None
+withdrawn_none None rows n = refl
+withdrawn_none (Some lack) [] n = refl
+withdrawn_none (Some lack) (row ∷ rows) n = refl
+
+pub withdraw_none : (g : Group) (past : List Entry) (e : Entity) → ticket_in (reply g past (Withdraw e)) ≡ None
+withdraw_none g past e =
+    let vals = (observed g past e).vals in
+    withdrawn_none (lack_at g (observed g past) (target g past) e (governing e vals (target g past e))) (rows_back e (value_of e vals) (target g past e) (vars_of e)) (version past)
 
 pub deliver_none : (fence : Entity → ℕ) (sent : ℕ) (o : Option Command) → ticket_in (deliver_reply fence sent o) ≡ None
 deliver_none fence sent None = refl
@@ -86,6 +97,7 @@ reply_low g past (Finish e) answer is = other_low g past (Finish e) answer is (i
 reply_low g past (make_report e) answer is = other_low g past (make_report e) answer is refl
 reply_low g past (Hear n) answer is = other_low g past (Hear n) answer is (hear_none (observed g past) (length (reports g past)) (nth (reports g past) n))
 reply_low g past (Fail e vals health) answer is = other_low g past (Fail e vals health) answer is refl
+reply_low g past (Withdraw e) answer is = other_low g past (Withdraw e) answer is (withdraw_none g past e)
 
 -- the tickets of a journal
 

@@ -31,7 +31,7 @@ pub on_err : {T E P : Type 0} (r : Result T E) → P → OnErr r P
 on_err (Ok x) h = tt
 on_err (Err e) h = h
 
--- where it is known anyway, whatever the answer
+-- what holds anyway holds whatever is answered
 pub on_any : {T E P : Type 0} (r : Result T E) → P → OnOk r P
 on_any (Ok x) h = h
 on_any (Err e) h = tt

@@ -33,7 +33,7 @@ kept_set log mine reader number lines more ps i most x y lt at grows reads = rec
   readers = λ k. pairs_set reader (λ (a b : Published). IsPrefix a.proposals b.proposals) ps i x y no_reader (λ a. prefix_self a.proposals) lt at reads k;
 }
 
--- the same, of a pass that is seen so
+-- the same, where contracts see the pass by its fields
 pub kept_place : {X : Type 0} (log : X → List Made) (mine : X → List ℕ) (reader : X → Published) (number : ℕ) (lines more : List LogEntry) (ps : List X) (i most : ℕ) (x y : X) (h : Holder)
     → holder log mine reader number ps lines ≡ h → i < length h.fronts → x ≡ get_or ps i x → Grows most (log x) (mine x) (log y) (mine y) → IsPrefix (reader x).proposals (reader y).proposals
     → Kept h (holder log mine reader number (set ps i y) more) i most
@@ -41,6 +41,6 @@ kept_place log mine reader number lines more ps i most x y h view lt at grows re
     let there : i < length ps = omega (arith, lt, ap (λ (p : Holder). length p.fronts) view, length-map ps log) in
     subst (λ (p : Holder). Kept p (holder log mine reader number (set ps i y) more) i most) view (kept_set log mine reader number lines more ps i most x y there at grows reads)
 
--- and of which the log alone is another
+-- what is kept of a pass is so with another log
 pub kept_logged : (a b : Holder) (g most : ℕ) (lines : List LogEntry) → Kept a b g most → Kept a (record b { log = lines }) g most
 kept_logged a b g most lines k = record { number = k.number; rooms = k.rooms; others = k.others; grows = k.grows; readers = k.readers }

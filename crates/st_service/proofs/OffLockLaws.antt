@@ -111,7 +111,7 @@ oldest_decided g past receipt is =
     let ticket = verdict_ticket g past (pending past) receipt (ap (λ (e : Entry). e.reply) is) in
     omega (arith, ticket, length-deciders past)
 
--- one that found it pending made the check that decides it
+-- a commit that found its ticket pending made the check that decides the ticket
 pub committed_did : (g : Group) (ticket number : ℕ) (mid before : List Made) (was : List ℕ) (after : List Made) (now : List ℕ) (told : List Entry) (receipt : Receipt)
     → Enters (check_course ticket g) On number mid before was after now → is_decided ticket (past_in mid) ≡ false → MayCommit (past_in before) ticket
     → ((more past : List Entry) → past_in after ≡ more ++ past → past ≡ past_in mid → told ≡ reverse more) → IsVerdictOf told receipt → CommitsIn (Did receipt) g ticket number before was after now
@@ -152,18 +152,18 @@ verdict_made g ticket number mid before was after now told e is may since =
     let v = verdict_there g past (pending past) (omega (arith, rest, given, waits, length-deciders past)) in
     (v.0, subst (λ (es : List Entry). IsVerdictOf es v.0) (sym (since (entry ∷ []) past one refl)) v.1)
 
--- a basis is of the ticket that is the oldest, and one that was seen of the one that was it
+-- a basis has the ticket that is the oldest where the basis is taken; between two fronts around that one this ticket was the oldest
 basis_oldest : (g : Group) (past : List Entry) (b : BasisView) → IsBasisAt g past b → IsOldest b.ticket past
 basis_oldest g past b of = record { next = of.oldest; given = of.given }
 
 pub was_oldest : (g : Group) (b : BasisView) (before seen after : List Made) → IsPrefix before seen → IsPrefix seen after → IsBasisAt g (past_in seen) b → WasOldest b.ticket before after
 was_oldest g b before seen after later within of = record { seen = seen; later = later; within = within; oldest = basis_oldest g (past_in seen) b of }
 
--- what was judged on it may be committed
+-- the judgement of a basis may be committed where the basis was taken
 pub judged_may : (g : Group) (past : List Entry) (b : BasisView) (j : JudgedView) → IsBasisAt g past b → IsJudgedOf b j → MayCommit past j.ticket
 judged_may g past b j of on = subst (MayCommit past) (sym on.ticket) (bases_may g past b of)
 
--- a commit, for one that had seen less
+-- a commit, for a pass that had seen less
 pub commits_from : (committed : Committed) (g : Group) (ticket number : ℕ) (before seen : List Made) (was here : List ℕ) (after : List Made) (now : List ℕ)
     → IsPrefix before seen → here ≡ was → CommitsIn committed g ticket number seen here after now → CommitsIn committed g ticket number before was after now
 commits_from (Did receipt) g ticket number before seen was here after now p same c =
@@ -184,7 +184,7 @@ IsDone (Did receipt) = Unit {0}
 IsDone (Gone entry) = Unit {0}
 IsDone (JournalFull entries) = ⊥
 
--- a check off the lock, while a ticket was pending, decided a lower one or it
+-- a check off the lock, made while a ticket was pending, decided this ticket or a lower one
 pub went_off : (committed : Committed) (g : Group) (ticket oldest number : ℕ) (before seen : List Made) (was here : List ℕ) (after : List Made) (now : List ℕ) → IsPrefix before seen → here ≡ was → IsPrefix seen after
     → oldest ≡ length (deciders (past_in seen)) + 1 → length (deciders (past_in seen)) < ticket → ticket ≤ length (deciders (past_in seen)) + MAX_PENDING → CommitsIn committed g oldest number seen here after now
     → IsDone committed → WentOn g ticket number before was after now
@@ -276,7 +276,7 @@ pub begins_for : {E : Type 0} (r : Result Begin E) (g : Group) (h : History) (ti
 begins_for r g h ticket told before front begins journal says is same legal p given =
     begins_ok r g ticket (past_in front) (begins_taught r g h front begins journal same) (ap (is_decided ticket) journal ∙ (sym says ∙ is)) (legal_taught g h.group front h.past journal same legal) (given_later ticket before front p given)
 
--- or that it is decided
+-- a ticket that the lock showed to be decided is decided in the front
 pub begins_over : (ticket : ℕ) (told : Bool) (front : List Made) (past : List Entry) → past_in front ≡ past → told ≡ is_decided ticket past → told ≡ true → IsDecided ticket (past_in front)
 begins_over ticket told front past journal says is = is_decided-at ticket (length (deciders (past_in front))) (ap (is_decided ticket) journal ∙ (sym says ∙ is))
 

@@ -17,7 +17,7 @@ pub units_set : {X : Type 0} (f : X → ℕ) (xs : List X) (i : ℕ) (x y : X) (
     → before ≡ sum_by f xs → after + f x ≡ before + f y → after ≡ sum_by f (set xs i y)
 units_set f xs i x y before after lt at was now = let s = sum_by-set f xs i y x lt in omega (arith, s, ap f at, was, now)
 
--- and they stay where the place that is added has nothing
+-- the units stay where the place that is added has nothing
 pub units_more : {X : Type 0} (f : X → ℕ) (xs : List X) (x : X) (before : ℕ) → f x ≡ 0 → before ≡ sum_by f xs → before ≡ sum_by f (xs ++ x ∷ [])
 units_more f xs x before none was = let all = sum_by-append f xs (x ∷ []) in let one = sum_by-cons f x [] in omega (arith, all, one, none, was)
 

@@ -1,16 +1,18 @@
 -- What a work makes of a room.
 use Rattle.std.proofs.Common.{◌≡◌, ℕ, ◌≤◌, ◌<◌, ◌+◌, ◌^◌, Bool, true, false, List, [], ◌∷◌, ◌++◌, length, ap, sym, subst, ◌∙◌, arith, length-append}
-use Rattle.std.specs.Prelude.{All, Result, Ok, Err, IfOk, OnErr}
+use Rattle.std.specs.Prelude.{All, Some, Result, Ok, Err, IfOk, OnErr}
+use Rattle.std.proofs.lemmas.List.Elements.{All-pop}
 use mathlib.Core.List.{IsPrefix}
 use Rattle.st_net.specs.declared.entity.Row.{Row}
-use Rattle.st_net.specs.Groups.{Group}
+use Rattle.st_net.specs.Groups.{Group, IsSound}
 use Rattle.st_event.specs.declared.journal.Entry.{Entry}
 use Rattle.st_event.specs.History.{History}
 use Rattle.st_net.specs.Ranges.{RowFits}
 use Rattle.st_event.specs.declared.journal.TheConstants.{MAX_ENTRIES}
 use Rattle.st_event.specs.Legal.{IsLegal}
-use Rattle.st_event.specs.Proposals.{overlays, pending, first_rows}
-use Rattle.st_event.proofs.Accepting.{legal_within, next_fits}
+use Rattle.st_event.specs.Proposals.{overlays}
+use Rattle.st_event.proofs.Accepting.{legal_within}
+use Rattle.st_event.proofs.Ranges.{all_in_range}
 use Rattle.st_event.proofs.Versions.{versions_few}
 use Rattle.st_world.specs.World.{WorldView, IsBeginning}
 use Rattle.st_world.specs.Rounds.{Course, is_full, IsPartOf}
@@ -24,14 +26,14 @@ use Rattle.st_service.specs.declared.work.Work.{Work}
 use Rattle.st_service.specs.declared.work.Work.TheVariants.{Commit}
 use Rattle.st_service.specs.Rooms.{Adds, IsRoom, RoomView}
 use Rattle.st_service.specs.Shares.{work_share}
-use Rattle.st_service.specs.Works.{WorkFits, course_at, may_overlay}
-use Rattle.st_service.proofs.CourseLaws.{Went, work-ran, ran_part, went_adds}
+use Rattle.st_service.specs.Works.{WorkFits, course_at}
+use Rattle.st_service.proofs.CourseLaws.{Went, lays, work-ran, ran_part, went_adds}
 
 -- the course of a work from where a world stands
 abbrev pub course_in : ℕ → Work → WorldView → Course
 course_in number work w = course_at number work w.history.group w.lines w.history.past
 
--- a part of it was entered, whatever was answered
+-- whatever was answered, a part of the work's course was entered
 pub went_part : {E : Type 0} (r : Result Going E) (number : ℕ) (work : Work) (old new : WorldView)
     → IfOk r (λ going. course_in number work old ≡ record { past = new.history.past; stopped = is_full going }) → OnErr r (IsPartOf old new (course_in number work old))
     → WorkFits work old.history.group → IsBeginning new.history.past (course_in number work old).past
@@ -40,26 +42,26 @@ went_part (Err e) number work old new ok err fits = err.part
 
 pub work_went : {E : Type 0} (r : Result Going E) (number : ℕ) (work : Work) (old new : WorldView)
     → IfOk r (λ going. course_in number work old ≡ record { past = new.history.past; stopped = is_full going }) → OnErr r (IsPartOf old new (course_in number work old))
-    → WorkFits work old.history.group → Went (may_overlay work) number (work_share work old.history.group old.lines) old.history.past new.history.past
+    → WorkFits work old.history.group → Went (lays work) number (work_share work old.history.group old.lines) old.history.past new.history.past
 work_went (Ok going) number work old new ok err fits =
     let ran = work-ran work number old.history.group old.lines old.history.past fits in
-    ran_part (may_overlay work) number (work_share work old.history.group old.lines) old.history.past new.history.past (course_in number work old)
+    ran_part (lays work) number (work_share work old.history.group old.lines) old.history.past new.history.past (course_in number work old)
     (ran.more, ap (λ (course : Course). course.past) (sym ok) ∙ ran.all) (subst (λ (course : Course). IsBeginning new.history.past course.past) (sym ok) (beginning-self new.history.past)) ran
 work_went (Err e) number work old new ok err fits =
-    ran_part (may_overlay work) number (work_share work old.history.group old.lines) old.history.past new.history.past (course_in number work old)
+    ran_part (lays work) number (work_share work old.history.group old.lines) old.history.past new.history.past (course_in number work old)
     err.began err.part (work-ran work number old.history.group old.lines old.history.past fits)
 
--- the same, where the room is seen so
+-- the same, where contracts see the room by its fields
 pub went_from : {E : Type 0} (r : Result Going E) (number : ℕ) (work : Work) (old new : WorldView) (b : Published) (spent : Bool) (room : RoomView) → record { history = old.history; lines = old.lines; published = b; spent = spent } ≡ room
     → IfOk r (λ going. course_in number work old ≡ record { past = new.history.past; stopped = is_full going }) → OnErr r (IsPartOf old new (course_in number work old))
-    → WorkFits work room.history.group → Went (may_overlay work) number (work_share work old.history.group old.lines) old.history.past new.history.past
+    → WorkFits work room.history.group → Went (lays work) number (work_share work old.history.group old.lines) old.history.past new.history.past
 went_from r number work old new b spent room view ok err fits = work_went r number work old new ok err (subst (λ (v : RoomView). WorkFits work v.history.group) (sym view) fits)
 
 pub adds_from : {E : Type 0} (r : Result Going E) (number : ℕ) (work : Work) (old new : WorldView) (b : Published) (spent : Bool) (room : RoomView) → record { history = old.history; lines = old.lines; published = b; spent = spent } ≡ room
     → IfOk r (λ going. course_in number work old ≡ record { past = new.history.past; stopped = is_full going }) → OnErr r (IsPartOf old new (course_in number work old))
     → WorkFits work room.history.group → Adds number (work_share work room.history.group room.lines) room.history.past new.history.past
 adds_from r number work old new b spent room view ok err fits = subst (λ (v : RoomView). Adds number (work_share work v.history.group v.lines) v.history.past new.history.past) view
-    (went_adds (may_overlay work) number (work_share work old.history.group old.lines) old.history.past new.history.past (went_from r number work old new b spent room view ok err fits))
+    (went_adds (lays work) number (work_share work old.history.group old.lines) old.history.past new.history.past (went_from r number work old new b spent room view ok err fits))
 
 -- where as much was accepted as before, a room stands
 pub room_stands : (old new : History) (b : Published) (spent : Bool) → new.group ≡ old.group → overlays new.past ≡ overlays old.past → IsRoom old b spent → IsRoom new b spent
@@ -81,7 +83,7 @@ room_publishes old new b c spent laid rows group more are is open_still r =
       whole = λ e. same;
     }
 
--- or its publication was refused
+-- a room whose publication was refused is a spent room
 pub room_spends : (old new : History) (b c : Published) (spent : Bool) (laid : List Row) → new.group ≡ old.group → overlays new.past ≡ overlays old.past ++ laid ∷ [] → c ≡ b → IsRoom old b spent → IsRoom new c true
 room_spends old new b c spent laid group more is r = rw is (record {
   group = r.group ∙ sym group;
@@ -90,7 +92,7 @@ room_spends old new b c spent laid group more is r = rw is (record {
   whole = λ e. absurd cc;
 })
 
--- then there are more overlays than it had
+-- behind a publication that was refused the journal has more overlays than the board
 pub refused_more : (old new : History) (b : Published) (spent : Bool) (laid : List Row) → overlays new.past ≡ overlays old.past ++ laid ∷ [] → spent ≡ false → IsRoom old b spent → length b.proposals < length (overlays new.past)
 refused_more old new b spent laid more open_still r = omega (arith, ap length (r.whole open_still), ap length more, length-append (overlays old.past) (laid ∷ []))
 
@@ -104,9 +106,11 @@ work_full (Ok going) number work old new ok fits legal =
     λ e. let full = ran.full (ap (λ (course : Course). course.stopped) ok ∙ e) in omega (arith, within, full, ap (λ (course : Course). length course.past) ok)
 work_full (Err e) number work old new ok fits legal = tt
 
--- the rows that may be published fit
-pub rows_fit : (g h : Group) (d : Bool) (past : List Entry) (rows kept : List Row) → h ≡ g → d ≡ true → (d ≡ true → kept ≡ first_rows (pending past)) → rows ≡ kept → IsLegal g past → All (RowFits h) rows
-rows_fit g h d past rows kept same may are is legal = rw (same, is, are may) (next_fits g past legal)
+-- what is published fits: in a legal journal of a sound group all that was overlaid does
+pub rows_fit : (g h : Group) (before new : List Entry) (laid rows : List Row) → h ≡ g → rows ≡ laid → overlays new ≡ overlays before ++ laid ∷ [] → IsSound g → IsLegal g new → All (RowFits h) rows
+rows_fit g h before new laid rows same is more sound legal =
+    let fits = (All-pop (All (RowFits g)) (overlays new) (overlays before) (Some laid) more (all_in_range g new sound legal).overlaid).1 in
+    subst (λ (k : Group). All (RowFits k) rows) (sym same) (subst (All (RowFits g)) (sym is) fits)
 
 -- a commit that was refused entered nothing
 pub commit_part : {T E : Type 0} (r : Result T E) (number : ℕ) (work : Work) (judged : Bor JudgedView) (old new : WorldView) → work ≡ Commit judged → OnErr r (new.history ≡ old.history) → OnErr r (IsPartOf old new (course_in number work old))

@@ -30,14 +30,14 @@ kept_turns part g lines es a b c n list p q =
     let few = few_turns part g lines es (front_at b.fronts n) list in
     kept_on a b c n 0 (length es * turn_share part lines) (round_share part g lines) (omega (arith, few)) p q
 
--- and a look behind them
+-- a look, the turns of the entities that it lists, and a look behind the turns
 pub kept_round : (part : Part) (g : Group) (lines : List WireLine) (es : List Entity) (a b c d : Holder) (n : ℕ) → es ≡ unsettled g (past_in (front_at b.fronts n))
     → Kept a b n 0 → Kept b c n (length es * turn_share part lines) → Kept c d n 0 → Kept a d n (round_share part g lines)
 kept_round part g lines es a b c d n list p q r =
     let w = round_share part g lines in
     kept_on a c d n w 0 w (omega arith) (kept_turns part g lines es a b c n list p q) r
 
--- the round that this makes
+-- the round that a look, these turns and a look behind the turns make
 pub round_made : (part : Part) (g : Group) (lines : List WireLine) (p number : ℕ) (es : List Entity) (before f mid after : List Made) (was here got now : List ℕ) → p ≡ number → Grows 0 before was f here → es ≡ unsettled g (past_in f)
     → Turns part g lines p es f here mid got → Grows 0 mid got after now → RoundOf part g lines number before was after now
 round_made part g lines p number es before f mid after was here got now same look list t last =

@@ -13,9 +13,11 @@ use Rattle.st_event.specs.declared.act.LogEntry.{LogEntry}
 use Rattle.st_event.specs.declared.act.LogSaw.{LogSaw}
 use Rattle.st_event.specs.declared.act.LogSaw.TheVariants.{Seen, At, NoVersion}
 use Rattle.st_event.specs.declared.event.Event.{Event}
-use Rattle.st_event.specs.declared.event.Event.TheVariants.{Check, Submit, Lock as lock_event, Unlock as unlock_event, Report, Hear, Fail as fail_event}
+use Rattle.st_event.specs.declared.event.Event.TheVariants.{Check, Submit, Lock as lock_event, Unlock as unlock_event, Report, Hear, Fail as fail_event, Withdraw}
 use Rattle.st_event.specs.declared.journal.Entry.{Entry}
 use Rattle.st_event.specs.declared.journal.TheConstants.{MAX_ENTRIES}
+use Rattle.st_event.specs.declared.reply.Reply.{Reply}
+use Rattle.st_event.specs.declared.reply.Reply.TheVariants.{Withdrawn, Kept}
 use Rattle.st_event.specs.Proposals.{overlays}
 use Rattle.st_event.specs.Services.{entry_after}
 use Rattle.st_board.specs.Published.{Published}
@@ -32,14 +34,15 @@ use Rattle.st_service.specs.declared.work.Part.{Part}
 use Rattle.st_service.specs.declared.work.Part.TheVariants.{Whole, Update, Monitor}
 use Rattle.st_service.specs.declared.work.Work.TheVariants.{OneAct, Commit, Turn}
 use Rattle.st_service.specs.Acts.{HasRounds, ActEnters, ActLogs, ActTeaches, ActDone, Acts, CanDo}
+use Rattle.st_service.specs.Laid.{laid_by}
 use Rattle.st_service.specs.Lines.{tagged, numbers}
 use Rattle.st_service.specs.Made.{Made, past_in}
 use Rattle.st_service.specs.Passes.{Holder, no_reader, Reads, IsTaught}
 use Rattle.st_service.specs.Puts.{Enters}
 use Rattle.st_service.specs.Shares.{turn_share, round_share, act_share, check_share, work_share}
-use Rattle.st_service.specs.Works.{IsDecided, IsGiven, is_decided, part_of, check_course, course_at, is_of_one_hold, MayDo, WorkFits, act_may_overlay, may_overlay}
+use Rattle.st_service.specs.Works.{IsDecided, IsGiven, is_decided, part_of, check_course, course_at, is_of_one_hold, MayDo, WorkFits, act_may_decide, may_decide}
 use Rattle.st_service.proofs.Lines.{length_tagged, length_numbers}
-use Rattle.st_service.proofs.WorkedJournals.{small, a1, app, usual, firmware, made, then_by, proposed, decided, turned}
+use Rattle.st_service.proofs.WorkedJournals.{small, a1, app, usual, firmware, lock, idle, made, then_by, proposed, decided, turned}
 use Rattle.st_service.proofs.WorkedChains.{as_many_as_asked, not_a_round_less, checked, one_check}
 
 -- one act of each kind, on group 0
@@ -53,24 +56,24 @@ each_act =
 abbrev one_line : List WireLine
 one_line = Drop Command 1 ∷ []
 
-turn_shares : (turn_share Whole [] ≡ 5) × (turn_share Update [] ≡ 3) × (turn_share Monitor [] ≡ 2)
+turn_shares : (turn_share Whole [] ≡ 6) × (turn_share Update [] ≡ 4) × (turn_share Monitor [] ≡ 2)
 turn_shares = (refl, refl, refl)
 
-turn_shares_with_a_line : (turn_share Whole one_line ≡ 7) × (turn_share Update one_line ≡ 4) × (turn_share Monitor one_line ≡ 3)
+turn_shares_with_a_line : (turn_share Whole one_line ≡ 8) × (turn_share Update one_line ≡ 5) × (turn_share Monitor one_line ≡ 3)
 turn_shares_with_a_line = (refl, refl, refl)
 
--- the switch's turn has that many entries, and so has each half
-turn_fills_it : (length (part_of Whole small [] (course_from []) a1).past ≡ 4) × (length turned ≡ length decided + turn_share Whole [])
-turn_fills_it = (refl, refl)
+-- the switch's turn has one entry less, since nothing is withdrawn where a command is sent
+turn_within_it : (length (part_of Whole small [] (course_from []) a1).past ≡ 4) × (length turned + 1 ≡ length decided + turn_share Whole [])
+turn_within_it = (refl, refl)
 
 -- with a second switch a round has twice as many
 abbrev pair : Group
 pair = record small { devices = record { tor = false; vals = usual; health = 5 } ∷ record { tor = false; vals = usual; health = 5 } ∷ [] }
 
-round_shares : (round_share Whole small [] ≡ 5) × (round_share Whole pair one_line ≡ 14) × (round_share Update pair [] ≡ 6) × (round_share Monitor pair [] ≡ 4)
+round_shares : (round_share Whole small [] ≡ 6) × (round_share Whole pair one_line ≡ 16) × (round_share Update pair [] ≡ 8) × (round_share Monitor pair [] ≡ 4)
 round_shares = (refl, refl, refl, refl)
 
-act_shares : map (λ act. act_share act pair one_line) each_act ≡ 2 ∷ 64 ∷ 42 ∷ 1 ∷ 1 ∷ 0 ∷ 0 ∷ 1 ∷ 3 ∷ []
+act_shares : map (λ act. act_share act pair one_line) each_act ≡ 2 ∷ 64 ∷ 48 ∷ 1 ∷ 1 ∷ 0 ∷ 0 ∷ 1 ∷ 3 ∷ []
 act_shares = refl
 
 work_shares : (check_share ≡ 1) × (work_share (Turn Monitor a1) small one_line ≡ 3)
@@ -135,17 +138,24 @@ course_of_a_lock = refl
 one_hold : map is_of_one_hold each_act ≡ true ∷ false ∷ false ∷ true ∷ true ∷ false ∷ false ∷ true ∷ true ∷ []
 one_hold = refl
 
-overlaying_acts : map act_may_overlay each_act ≡ true ∷ false ∷ false ∷ false ∷ false ∷ false ∷ false ∷ false ∷ false ∷ []
-overlaying_acts = refl
+deciding_acts : map act_may_decide each_act ≡ true ∷ false ∷ false ∷ false ∷ false ∷ false ∷ false ∷ false ∷ false ∷ []
+deciding_acts = refl
 
-overlaying_works : (may_overlay (Turn Whole a1) ≡ false) × (may_overlay (Turn Update a1) ≡ false)
-overlaying_works = (refl, refl)
+deciding_works : (may_decide (Turn Whole a1) ≡ false) × (may_decide (Turn Update a1) ≡ false)
+deciding_works = (refl, refl)
 
-a_commit_overlays : (judged : Bor JudgedView) → may_overlay (Commit judged) ≡ true
-a_commit_overlays judged = refl
+a_commit_decides : (judged : Bor JudgedView) → may_decide (Commit judged) ≡ true
+a_commit_decides judged = refl
 
-overlays_as_its_act : (act : Bor Act) → may_overlay (OneAct act) ≡ act_may_overlay act.now
-overlays_as_its_act act = refl
+decides_as_its_act : (act : Bor Act) → may_decide (OneAct act) ≡ act_may_decide act.now
+decides_as_its_act act = refl
+
+-- what is published: what a withdrawal among the entries withdraws, and else what a check decides
+abbrev withdrawn : Reply → Entry
+withdrawn reply = record { event = Withdraw a1; reply = reply }
+
+laid_rows : (laid_by [] (firmware 2) ≡ firmware 2) × (laid_by (idle ∷ lock 0 ∷ []) (firmware 2) ≡ firmware 2) × (laid_by (idle ∷ withdrawn (Withdrawn 2 (firmware 1)) ∷ idle ∷ []) [] ≡ firmware 1) × (laid_by (withdrawn Kept ∷ []) (firmware 2) ≡ firmware 2)
+laid_rows = (refl, refl, refl, refl)
 
 -- a turn of an entity of the group, any check, and an act that fits and needs one hold
 pub turn_fits : WorkFits (Turn Whole a1) small
@@ -160,7 +170,7 @@ not_of_a_link e = absurd (omega (arith, e))
 pub commit_fits : (judged : Bor JudgedView) → WorkFits (Commit judged) small
 commit_fits judged = tt
 
--- it may be made of a ticket that was given, once each lower one is decided
+-- a commit may be made of a ticket that was given, once each lower ticket is decided
 pub may_commit : (judged : Bor JudgedView) → judged.now.ticket ≡ 1 → MayDo (Commit judged) (past_in proposed)
 may_commit judged is = record { given = omega (arith, is); lower = omega (arith, is) }
 
@@ -309,7 +319,7 @@ abbrev value_in : List LogEntry → ℕ
 value_in [] = 0
 value_in (l ∷ ls) = value_of l.saw
 
--- it has seen the verdict, and its reader has the rows
+-- a pass that has seen the verdict, and whose reader has the rows
 abbrev old : Holder
 old = pass decided (0 ∷ []) (firmware 2 ∷ []) []
 
@@ -368,7 +378,7 @@ a_read_teaches_nothing = tt
 pub not_an_untaught_lock : ActTeaches (Lock 0 a1 Low) (pass locked (0 ∷ 2 ∷ []) [] []) → ⊥
 not_an_untaught_lock t = absurd (cc (t.1))
 
--- All of it
+-- An act that is done, in all its points
 
 pub lock_done : ActDone (Lock 0 a1 Low) small [] old (pass locked (0 ∷ 2 ∷ []) (firmware 2 ∷ []) [])
 lock_done = record { entered = enters_lock; logged = refl; taught = ([], refl) }

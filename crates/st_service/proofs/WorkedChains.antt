@@ -56,7 +56,7 @@ one_turn = (
   (([], refl), refl),
 )
 
--- a half of it, and then the other half behind another's check
+-- the half of a turn that updates, and then the half that monitors, behind another pass's check
 abbrev updated : List Made
 updated = decided ++ tagged 0 (sent ∷ begun ∷ done ∷ [])
 
@@ -125,7 +125,7 @@ turned_full after now met = record { done = []; last = a1; begins = ([], refl); 
 pub not_turned_full : Turned Full Whole small [] 0 (a1 ∷ []) decided (0 ∷ []) turned (0 ∷ 2 ∷ 3 ∷ 4 ∷ 5 ∷ 6 ∷ []) → ⊥
 not_turned_full t = absurd (omega (arith, t.enters.full refl))
 
--- of no entity no event met it
+-- where there is no entity, no event met a full journal
 pub not_turned_of_none : (after : List Made) (now : List ℕ) → Turned Full Whole small [] 0 [] decided (0 ∷ []) after now → ⊥
 not_turned_of_none after now t =
     let ends = length-append (t.done ++ t.last ∷ []) t.begins.0 in
@@ -243,7 +243,7 @@ not_a_round_more s = no_round_of_none s.0 s.2 s.1 s.3
 pub settled_behind_it : WasSettled small turned turned
 settled_behind_it = (turned, ([], refl), ([], refl), refl)
 
--- it was so before the verdict, which is no front behind it
+-- the switch was settled before the verdict alone, and that front does not go on from the verdict
 pub not_settled_before_it : WasSettled small decided decided → ⊥
 not_settled_before_it s =
     let same : s.0 ≡ decided = sym (prefix_whole decided s.0 s.1 (prefix_length s.0 decided s.2)) in
@@ -293,7 +293,7 @@ own_check = record {
 pub anothers_check : WentOn small 1 0 proposed (0 ∷ []) decided (0 ∷ [])
 anothers_check = record { seen = proposed; later = ([], refl); within = (made 1 verdict ∷ [], refl); pending = omega arith; near = omega arith; decided = omega arith; made = inl refl }
 
--- what had been seen begins no such front, and it does not begin what is seen now
+-- the front that had been seen does not begin the front that is seen now
 pub not_from_elsewhere : WentOn small 1 0 (made 5 idle ∷ []) (0 ∷ []) checked (0 ∷ 1 ∷ []) → ⊥
 not_from_elsewhere w = absurd (omega (arith, ap (λ (f : List Made). maker f 0) (prefix_trans (made 5 idle ∷ []) w.seen checked w.later w.within).1))
 
@@ -301,7 +301,7 @@ not_from_elsewhere w = absurd (omega (arith, ap (λ (f : List Made). maker f 0) 
 pub not_for_no_ticket : WentOn small 0 0 proposed (0 ∷ []) checked (0 ∷ 1 ∷ []) → ⊥
 not_for_no_ticket w = absurd (omega (arith, w.pending))
 
--- it stands too far behind what is decided
+-- the ticket is more than 64 above the last that was decided
 pub not_for_a_far_ticket : WentOn small 66 0 proposed (0 ∷ []) checked (0 ∷ 1 ∷ []) → ⊥
 not_for_a_far_ticket w = let one : length (deciders (past_in w.seen)) < 1 = w.decided in absurd (omega (arith, one, w.near))
 
@@ -412,7 +412,7 @@ waits_out = (2, omega arith, two_checks, omega arith)
 pub waits_for_nothing : WaitsOut small 1 0 decided (0 ∷ []) decided (0 ∷ [])
 waits_for_nothing = (0, omega arith, (([], refl), refl), omega arith)
 
--- it ended while the ticket was pending
+-- the wait ended while the ticket was pending
 pub not_after_one_check : WaitsOut small 2 0 two (0 ∷ 1 ∷ []) first (0 ∷ 1 ∷ 2 ∷ []) → ⊥
 not_after_one_check w = let early : 2 ≤ 1 = w.3 in absurd (omega (arith, early))
 

@@ -92,11 +92,11 @@ not_unlisted_course e = absurd (omega (arith, as_many e.entries mid seen after (
 pub not_a_part : Enters course On 0 mid seen (0 ∷ []) (mid ++ made 0 (unlock 0) ∷ []) (0 ∷ 2 ∷ []) → ⊥
 not_a_part e = absurd (omega (arith, ap (λ (run : Course). length run.past) e.run))
 
--- it goes on, and is told as full
+-- the course goes on, and the answer is Full
 pub not_told_full : Enters course Full 0 mid seen (0 ∷ []) after (0 ∷ 2 ∷ 3 ∷ []) → ⊥
 not_told_full e = absurd (cc (ap (λ (run : Course). run.stopped) e.run))
 
--- it stopped before the journal was full
+-- the course stopped before the journal was full
 pub not_full_early : Enters stopped Full 0 seen seen (0 ∷ []) seen (0 ∷ []) → ⊥
 not_full_early e = absurd (omega (arith, e.full refl))
 
@@ -105,7 +105,7 @@ not_full_early e = absurd (omega (arith, e.full refl))
 pub part_of_two : EntersPart course 0 mid seen (0 ∷ []) (mid ++ made 0 (unlock 0) ∷ []) (0 ∷ 2 ∷ [])
 part_of_two = record { entries = unlock 0 ∷ []; puts = ((made 1 idle ∷ [], refl), refl, refl); part = (idle ∷ [], refl) }
 
--- all of it, and none of it, is a part
+-- the whole course is a part, and so is nothing
 pub whole_is_part : EntersPart course 0 mid seen (0 ∷ []) after (0 ∷ 2 ∷ 3 ∷ [])
 whole_is_part = record { entries = both; puts = puts_two; part = ([], refl) }
 

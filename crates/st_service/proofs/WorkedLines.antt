@@ -3,7 +3,7 @@ use Rattle.std.proofs.Common.{◌≡◌, ℕ, zero, suc, ◌<◌, List, [], ◌�
 use Rattle.std.specs.Prelude.{true, false, map}
 use Rattle.st_net.specs.declared.entity.Prio.TheVariants.{Low}
 use Rattle.st_event.specs.declared.event.Event.{Event}
-use Rattle.st_event.specs.declared.event.Event.TheVariants.{Submit, Check, Lock, Unlock, Send, Deliver, Finish, Report, Hear, Fail}
+use Rattle.st_event.specs.declared.event.Event.TheVariants.{Submit, Check, Lock, Unlock, Send, Deliver, Finish, Report, Hear, Fail, Withdraw}
 use Rattle.st_event.specs.declared.journal.Entry.{Entry}
 use Rattle.st_event.specs.declared.reply.Reply.TheVariants.{Queued, Full, Granted, Idle}
 use Rattle.st_service.specs.declared.line.Batch.{Batch}
@@ -108,10 +108,10 @@ not_twice m = absurd (omega (arith, m.rising 0 1 (omega arith) (omega arith)))
 
 -- one event of each kind, of application 3 where it names one
 abbrev each_kind : List Event
-each_kind = Submit (app 3) (firmware 2) ∷ Check ∷ Lock (app 3) a1 Low ∷ Unlock (app 3) a1 Low ∷ Send a1 ∷ Deliver 1 ∷ Finish a1 ∷ Report a1 ∷ Hear 1 ∷ Fail a1 usual 5 ∷ []
+each_kind = Submit (app 3) (firmware 2) ∷ Check ∷ Lock (app 3) a1 Low ∷ Unlock (app 3) a1 Low ∷ Send a1 ∷ Deliver 1 ∷ Finish a1 ∷ Report a1 ∷ Hear 1 ∷ Fail a1 usual 5 ∷ Withdraw a1 ∷ []
 
--- three of the ten kinds are requests
-askers : map asker each_kind ≡ Some 3 ∷ None ∷ Some 3 ∷ Some 3 ∷ None ∷ None ∷ None ∷ None ∷ None ∷ None ∷ []
+-- three of the eleven kinds are requests
+askers : map asker each_kind ≡ Some 3 ∷ None ∷ Some 3 ∷ Some 3 ∷ None ∷ None ∷ None ∷ None ∷ None ∷ None ∷ None ∷ []
 askers = refl
 
 -- a request of 3 is of 3 alone; what is no request is nobody's, and anybody's own

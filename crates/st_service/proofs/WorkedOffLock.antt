@@ -70,11 +70,11 @@ entry_in _ = 0
 
 -- A commit
 
--- pass 0 decides it behind the proposal
+-- pass 0 decides ticket 1 behind the proposal
 pub did : CommitsIn (Did first) small 1 0 proposed (0 ∷ []) checked (0 ∷ 1 ∷ [])
 did = (refl, proposed, refl, (([], refl), refl, refl))
 
--- it decided another ticket, it is not in the list, or the receipt tells of another entry
+-- the check decided another ticket, its place is not in the pass's list, or the receipt tells of another entry
 pub not_for_another_ticket : CommitsIn (Did first) small 2 0 proposed (0 ∷ []) checked (0 ∷ 1 ∷ []) → ⊥
 not_for_another_ticket c = let two : 1 ≡ 2 = c.0 in absurd (omega (arith, two))
 
@@ -92,7 +92,7 @@ abbrev number_in : Option ℕ → ℕ
 number_in (Some n) = n
 number_in None = 0
 
--- another had decided it, by entry 2
+-- pass 1 had decided the ticket, by entry 2
 pub gone : CommitsIn (Gone 2) small 1 0 proposed (0 ∷ []) decided (0 ∷ [])
 gone = ((made 1 (verdict_entry first) ∷ [], refl), refl, refl)
 

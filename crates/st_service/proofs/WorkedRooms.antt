@@ -50,7 +50,7 @@ abbrev value_in : List (List Row) → ℕ
 value_in [] = 0
 value_in (rows ∷ later) = value_of rows
 
--- its publication was refused
+-- a room whose publication was refused
 pub spent_room : IsRoom history (published []) true
 spent_room = record { group = refl; going = refl; begun = (firmware 2 ∷ [], refl); whole = λ e. absurd (cc e) }
 
@@ -77,7 +77,7 @@ view g lines n = record {
   spent = false;
 }
 
--- its journal, what is published and whether it is spent may be others
+-- the same room with another journal, with other rows published, and spent
 pub same_room : IsSameRoom (view small [] 0) (record { history = record { group = small; past = [] }; lines = []; published = published []; spent = true })
 same_room = record { group = refl; lines = refl; board = refl }
 
@@ -97,7 +97,7 @@ accepts proposals spent = record { history = history; lines = []; published = pu
 pub was_refused : WasRefused (accepts [] false) (accepts [] true)
 was_refused = record { board = refl; more = omega arith }
 
--- it was published, or nothing was accepted
+-- the rows were published, or nothing more was accepted
 pub not_published : WasRefused (accepts [] false) (accepts (firmware 2 ∷ []) true) → ⊥
 not_published r = absurd (omega (arith, ap (λ (b : Published). length b.proposals) r.board))
 
@@ -116,7 +116,7 @@ adds_nothing = record { more = []; all = refl; own = refl; few = omega arith }
 pub not_less : Adds 0 2 (lock 0 ∷ []) [] → ⊥
 not_less a = absurd (omega (arith, ap length a.all ∙ length-append a.more (lock 0 ∷ [])))
 
--- a request of another
+-- a request of another application
 pub not_anothers : Adds 0 2 [] (unlock 1 ∷ []) → ⊥
 not_anothers a =
     let more : a.more ≡ unlock 1 ∷ [] = sym (a.all ∙ append-nil a.more) in
@@ -234,7 +234,7 @@ not_with_a_log f = absurd (omega (arith, ap length f.unlogged))
 made_by_each : (positions 0 0 three ≡ 0 ∷ 2 ∷ []) × (positions 1 0 three ≡ 1 ∷ []) × (positions 2 0 three ≡ []) × (positions 1 5 three ≡ 6 ∷ [])
 made_by_each = (refl, refl, refl, refl)
 
--- pass 0 has seen all of it, and pass 1 the first two entries
+-- pass 0 has seen the whole journal, and pass 1 the first two entries
 abbrev first_pass : Holder
 first_pass = pass 0 (three ∷ []) ((0 ∷ 2 ∷ []) ∷ []) [] []
 
@@ -250,15 +250,15 @@ first_stands = record { begins = ([], refl); mine = places; reads = ([], refl) }
 pub second_stands : Stands second_pass three 0
 second_stands = record { begins = (made 0 (unlock 0) ∷ [], refl); mine = one_place 1 1 three (omega arith) refl; reads = ([], refl) }
 
--- it has seen what is not in the journal
+-- the pass has seen what is not in the journal
 pub not_of_another_journal : Stands (pass 0 ((made 0 idle ∷ []) ∷ []) ((0 ∷ 2 ∷ []) ∷ []) [] []) three 0 → ⊥
 not_of_another_journal s = absurd (cc (s.begins.1))
 
--- it lists another's entry
+-- the pass lists another pass's entry
 pub not_anothers_entry : Stands (pass 0 (three ∷ []) ((0 ∷ 1 ∷ []) ∷ []) [] []) three 0 → ⊥
 not_anothers_entry s = absurd (omega (arith, s.mine.made 1 (omega arith)))
 
--- it read what was not accepted
+-- the pass's reader has rows that were not accepted
 pub not_read_ahead : Stands (pass 0 (three ∷ []) ((0 ∷ 2 ∷ []) ∷ []) (firmware 2 ∷ []) []) three 0 → ⊥
 not_read_ahead s = absurd (cc (s.reads.1))
 
@@ -312,14 +312,14 @@ whole = record { journal = refl; legal = legal; sound = sound; stands = both_sta
 pub not_an_entry_less : IsWhole small passes 0 (lock 0 ∷ idle ∷ []) three → ⊥
 not_an_entry_less w = absurd (omega (arith, ap length w.journal))
 
--- it gives back a lock that it has not
+-- an application gives back a lock that it does not hold
 abbrev unheld : Made
 unheld = made 0 (unlock 0)
 
 pub not_illegal : IsWhole small (pass 0 ((unheld ∷ []) ∷ []) ((0 ∷ []) ∷ []) [] [] ∷ []) 0 (unlock 0 ∷ []) (unheld ∷ []) → ⊥
 not_illegal w = absurd (cc (w.legal.0.answer))
 
--- its group has no name
+-- the group has no name
 pub not_of_an_unsound_group : IsWhole (record small { name = [] }) passes 0 (lock 0 ∷ idle ∷ unlock 0 ∷ []) three → ⊥
 not_of_an_unsound_group w = absurd (cc (w.sound.name))
 
@@ -341,7 +341,7 @@ with_anothers = pass 0 ([] ∷ []) ([] ∷ []) [] [] ∷ pass 1 ((anothers ∷ [
 pub not_with_anothers_request : IsWhole small with_anothers 0 (lock 0 ∷ []) (anothers ∷ []) → ⊥
 not_with_anothers_request w = absurd (omega (arith, ap length (w.asked 0 first_pass (omega arith))))
 
--- all else holds of it
+-- every other point of a whole journal holds here
 anothers_stand : (n : ℕ) (p : Holder) → n < 2 → Stands (slice_index_or with_anothers n p) (anothers ∷ []) 0
 anothers_stand zero p lt = record { begins = (anothers ∷ [], refl); mine = no_places 0 (anothers ∷ []); reads = ([], refl) }
 anothers_stand (suc zero) p lt = record { begins = ([], refl); mine = one_place 1 0 (anothers ∷ []) (omega arith) refl; reads = ([], refl) }
@@ -362,7 +362,7 @@ without_maker = pass 0 ([] ∷ []) ([] ∷ []) [] [] ∷ []
 pub not_by_nobody : IsWhole small without_maker 0 (idle ∷ []) (made 7 idle ∷ []) → ⊥
 not_by_nobody w = absurd (omega (arith, w.count))
 
--- all else holds of it
+-- every other point of a whole journal holds here
 nobodys_stand : (n : ℕ) (p : Holder) → n < 1 → Stands (slice_index_or without_maker n p) (made 7 idle ∷ []) 0
 nobodys_stand zero p lt = record { begins = (made 7 idle ∷ [], refl); mine = no_places 0 (made 7 idle ∷ []); reads = ([], refl) }
 nobodys_stand (suc n) p lt = absurd (omega (arith, lt))

@@ -1,7 +1,7 @@
 -- Requests, and whose they are.
 use Rattle.std.specs.Prelude.{ℕ, suc, Bool, true, false, ◌==◌, ◌&&◌, List, [], ◌∷◌, Option, Some, None, slice_get, if◌then◌else◌}
 use Rattle.st_event.specs.declared.event.Event.{Event}
-use Rattle.st_event.specs.declared.event.Event.TheVariants.{Submit, Check, Lock, Unlock, Send, Deliver, Finish, Report, Hear, Fail}
+use Rattle.st_event.specs.declared.event.Event.TheVariants.{Submit, Check, Lock, Unlock, Send, Deliver, Finish, Report, Hear, Fail, Withdraw}
 use Rattle.st_event.specs.declared.journal.Entry.{Entry}
 use Rattle.st_service.specs.Made.{Made}
 
@@ -17,6 +17,7 @@ asker (Finish entity) = None
 asker (Report entity) = None
 asker (Hear n) = None
 asker (Fail entity vals health) = None
+asker (Withdraw entity) = None
 
 abbrev pub is_request : Option ℕ → Bool
 is_request (Some app) = true

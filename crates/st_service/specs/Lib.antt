@@ -3,6 +3,7 @@ pub mod Lines
 pub mod Tickets
 pub mod Rooms
 pub mod Works
+pub mod Laid
 pub mod Shares
 pub mod Puts
 pub mod Passes

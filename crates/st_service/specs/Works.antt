@@ -73,20 +73,20 @@ MayDo (OneAct act) past = Unit {0}
 MayDo (Commit judged) past = MayCommit past judged.now.ticket
 MayDo (Turn part entity) past = Unit {0}
 
--- an act that may make an entry by which the target is overlaid, as a check may be, and a work
-abbrev pub act_may_overlay : Act → Bool
-act_may_overlay (Propose n rows) = true
-act_may_overlay (Await n) = false
-act_may_overlay (Settle n rounds) = false
-act_may_overlay (Lock n entity prio) = false
-act_may_overlay (Unlock n entity prio) = false
-act_may_overlay (Read n entity var) = false
-act_may_overlay (ReadAt n version entity var) = false
-act_may_overlay (Fail n entity health rows) = false
-act_may_overlay (Poll n entity) = false
-act_may_overlay (Span first first_rows second second_rows) = false
+-- an act that may decide a proposal, by a check that is its first entry, and a work
+abbrev pub act_may_decide : Act → Bool
+act_may_decide (Propose n rows) = true
+act_may_decide (Await n) = false
+act_may_decide (Settle n rounds) = false
+act_may_decide (Lock n entity prio) = false
+act_may_decide (Unlock n entity prio) = false
+act_may_decide (Read n entity var) = false
+act_may_decide (ReadAt n version entity var) = false
+act_may_decide (Fail n entity health rows) = false
+act_may_decide (Poll n entity) = false
+act_may_decide (Span first first_rows second second_rows) = false
 
-abbrev pub may_overlay : Work → Bool
-may_overlay (OneAct act) = act_may_overlay act.now
-may_overlay (Commit judged) = true
-may_overlay (Turn part entity) = false
+abbrev pub may_decide : Work → Bool
+may_decide (OneAct act) = act_may_decide act.now
+may_decide (Commit judged) = true
+may_decide (Turn part entity) = false

@@ -6,6 +6,7 @@ mod acts;
 mod awaits;
 mod close;
 mod ended;
+mod laid;
 mod line;
 mod locked;
 mod makers;

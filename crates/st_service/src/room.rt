@@ -11,13 +11,14 @@ ghost use Rattle.st_event.specs.Legal.{IsLegal};
 ghost use Rattle.st_event.specs.Proposals.{first_rows, pending, overlays, deciders};
 ghost use Rattle.st_world.specs.Acts.{seen_at as seen_at_lem};
 ghost use Rattle.st_world.specs.Commits.{Begins, MayCommit};
-ghost use Rattle.st_world.specs.Rounds.{HasSameSetting, IsPartOf, is_full, unsettled as unsettled_lem};
+ghost use Rattle.st_world.specs.Rounds.{HasSameSetting, IsPartOf, course_from, is_full, unsettled as unsettled_lem};
 ghost use Rattle.st_world.specs.World.{IsBeginning};
 ghost use Rattle.st_service.specs.OffLock.{going_by};
 ghost use Rattle.st_service.specs.Rooms.{Adds, IsSameRoom, WasRefused};
 ghost use Rattle.st_service.specs.Shares.{act_share, turn_share, work_share};
-ghost use Rattle.st_service.specs.Works.{MayDo, WorkFits, check_course, course_at, may_overlay, is_of_one_hold, is_decided as is_decided_lem};
+ghost use Rattle.st_service.specs.Works.{MayDo, WorkFits, check_course, course_at, may_decide, is_of_one_hold, part_of, is_decided as is_decided_lem};
 
+use crate::laid::laid_rows;
 use crate::work::{Part, Work};
 use st_board::{Board, Held, Note, TargetReader};
 use st_control::{Begin, Judged};
@@ -59,9 +60,22 @@ fn enter(world: &mut World, number: u32, work: Work<'_>) -> Result<Going, AllocE
     match work {
         Work::OneAct(act) => world.act(AppId(number), act),
         Work::Commit(judged) => commit(world, judged),
-        Work::Turn(Part::Whole, entity) => world.turn(entity),
-        Work::Turn(Part::Update, entity) => world.update_turn(entity),
-        Work::Turn(Part::Monitor, entity) => world.poll(entity),
+        Work::Turn(part, entity) => enter_turn(world, part, entity),
+    }
+}
+
+/// Enters the events of an entity's turn, or of the half of the turn that updates or monitors the entity. At `Full` an event met a full
+/// journal; then, and at `Err`, a part of the events was entered, from the first, and stands.
+fn enter_turn(world: &mut World, part: Part, entity: Entity) -> Result<Going, AllocError>
+    requires { IsEntityOf world.old.history.group entity }
+    ensures ok { IfOk result (λ going. part_of part world.old.history.group world.old.lines (course_from world.old.history.past) entity ≡ record { past = world.new.history.past; stopped = is_full going }) }
+    ensures err { OnErr result (IsPartOf world.old world.new (part_of part world.old.history.group world.old.lines (course_from world.old.history.past) entity)) }
+    ensures setting { HasSameSetting world.old world.new }
+{
+    match part {
+        Part::Whole => world.turn(entity),
+        Part::Update => world.update_turn(entity),
+        Part::Monitor => world.poll(entity),
     }
 }
 
@@ -154,6 +168,7 @@ impl<H: Wait + Drop> Room<H> {
         ensures room { IsSameRoom self.old self.new }
     {
         let rows = self.may_publish(alloc, work)?;
+        let before = self.world.entries();
         let version = version_of(&self.world);
         // No `?` here: at `Err` what was entered may have to be published.
         let going = enter(&mut self.world, number, work);
@@ -161,11 +176,8 @@ impl<H: Wait + Drop> Room<H> {
         if version_of(&self.world) == version {
             return going;
         }
-        match self
-            .held
-            .board
-            .publish(&self.held.rt, alloc, rows.as_slice())
-        {
+        let laid = laid_rows(self.world.entries_since(before), rows.as_slice());
+        match self.held.board.publish(&self.held.rt, alloc, laid) {
             Ok(_note) => going,
             Err(error) => {
                 self.spent = true;
@@ -174,12 +186,12 @@ impl<H: Wait + Drop> Room<H> {
         }
     }
 
-    /// What may have to be published of a work: the rows that an entry of the work overlays the target with, if one does. They are those of
-    /// the proposal that waits longest, which the work's check would decide; none where the work makes no check, or nothing waits.
+    /// What may have to be published of a work, beside what the work withdraws, which stands in its entry: the rows of the proposal that
+    /// waits longest, which the work's check would decide; none where the work makes no check, or nothing waits.
     fn may_publish(&self, alloc: Global, work: Work<'_>) -> Result<Rows, AllocError>
-        ensures { IfOk result (λ rows. may_overlay work.entry ≡ true → rows ≡ first_rows (pending self.now.history.past)) }
+        ensures { IfOk result (λ rows. may_decide work.entry ≡ true → rows ≡ first_rows (pending self.now.history.past)) }
     {
-        if !work.may_overlay() {
+        if !work.may_decide() {
             return Ok(Rows::new(Vec::new(alloc)));
         }
         match self.world.control().store().oldest() {

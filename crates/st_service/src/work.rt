@@ -2,7 +2,7 @@
 //! does the work.
 
 ghost use Rattle.std.specs.Prelude.{◌≡◌};
-ghost use Rattle.st_service.specs.Works.{may_overlay as may_overlay_lem};
+ghost use Rattle.st_service.specs.Works.{may_decide as may_decide_lem};
 
 use st_control::Judged;
 use st_event::Act;
@@ -28,9 +28,9 @@ pub enum Work<'a> {
 }
 
 impl Work<'_> {
-    /// Whether the work may make an entry that overlays the target, as a check may.
-    pub fn may_overlay(self) -> bool
-        ensures { result ≡ may_overlay_lem self.entry }
+    /// Whether the work may decide a proposal, by a check that is its first entry.
+    pub fn may_decide(self) -> bool
+        ensures { result ≡ may_decide_lem self.entry }
     {
         match self {
             Work::OneAct(Act::Propose { .. }) | Work::Commit(_) => true,

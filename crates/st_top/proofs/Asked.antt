@@ -3,23 +3,22 @@
 use Rattle.std.proofs.Common.{◌≡◌, ℕ, ◌+◌, ◌≤◌, List, [], ◌∷◌, ◌++◌, length, Bool, true, false, None, Some, refl, ap, sym, ◌∙◌, subst, arith, drop, length-drop}
 use Rattle.std.specs.Prelude.{All, is_some, nat_lt, if◌then◌else◌}
 use Rattle.std.proofs.Math.Seq.{drop-append_seam}
-use Rattle.std.proofs.lemmas.List.Elements.{All-nil, All-cons, All-head, All-tail}
+use Rattle.std.proofs.lemmas.List.Elements.{All-head, All-tail}
 use Rattle.st_net.specs.declared.entity.Row.{Row}
 use Rattle.st_net.specs.Groups.{Group, IsSound}
-use Rattle.st_net.specs.Ranges.{RowFits, RowsFit}
+use Rattle.st_net.specs.Ranges.{RowsFit}
 use Rattle.st_event.specs.declared.event.Event.{Event}
 use Rattle.st_event.specs.declared.event.Event.TheVariants.{Submit, Check}
 use Rattle.st_event.specs.declared.event.Proposal.{Proposal}
 use Rattle.st_event.specs.declared.journal.Entry.{Entry}
 use Rattle.st_event.specs.declared.journal.TheConstants.{MAX_ENTRIES, MAX_PENDING}
 use Rattle.st_event.specs.declared.reply.Reply.TheVariants.{Queued, Full, Decided}
-use Rattle.st_event.specs.declared.reply.Verdict.{Verdict}
 use Rattle.st_event.specs.Legal.{IsLegal}
-use Rattle.st_event.specs.Proposals.{accepted_among, is_accepted, overlays, pending, proposals, target, verdicts}
+use Rattle.st_event.specs.Proposals.{is_accepted, overlays, pending, proposals, target, verdicts}
 use Rattle.st_event.specs.Replies.{check_reply, receipt_of}
 use Rattle.st_event.specs.Services.{entry_after}
-use Rattle.st_event.proofs.Accepting.{proposals_fit}
-use Rattle.st_event.proofs.Targets.{legal_orderly, overlays_are_accepted, target_next}
+use Rattle.st_event.proofs.Ranges.{all_in_range}
+use Rattle.st_event.proofs.Targets.{legal_orderly, target_next}
 use Rattle.st_grammar.specs.declared.doc.Doc.{Doc}
 use Rattle.st_world.specs.Rounds.{Course, course_from, enter, enter_all}
 use Rattle.st_world.proofs.RunLaws.{entered}
@@ -35,27 +34,9 @@ use Rattle.st_serial.proofs.Runs.{none_full}
 use Rattle.st_serial.proofs.Waiting.{all_are_decided}
 use Rattle.st_top.specs.Reverting.{AreLedBack, IsAsked, IsLedBy, all_led_back, answer_in, asked_by, course_back, first_app, reverted}
 
--- in a legal journal all that the target is overlaid with fits the group
-
-accepting_fit : (g : Group) (rows : List Row) (rest : List (List Row)) (accepts : Bool) → All (RowFits g) rows → All (All (RowFits g)) rest → All (All (RowFits g)) (if accepts then rows ∷ rest else rest)
-accepting_fit g rows rest true fits fit = All-cons (All (RowFits g)) rows rest fits fit
-accepting_fit g rows rest false fits fit = fit
-
-abbrev HasFitting : Group → Proposal → Type 0
-HasFitting g p = RowsFit g p.rows
-
-accepted_fit : (g : Group) (ps : List Proposal) (vs : List Verdict) → All (HasFitting g) ps → All (All (RowFits g)) (accepted_among ps vs)
-accepted_fit g ps [] fit = All-nil (All (RowFits g))
-accepted_fit g [] (v ∷ vs) fit = All-nil (All (RowFits g))
-accepted_fit g (p ∷ ps) (v ∷ vs) fit =
-    accepting_fit g p.rows (accepted_among ps vs) (is_accepted v) (All-head (HasFitting g) p ps fit).each (accepted_fit g ps vs (All-tail (HasFitting g) p ps fit))
-
-overlays_fit : (g : Group) (past : List Entry) → IsLegal g past → All (All (RowFits g)) (overlays past)
-overlays_fit g past legal = subst (All (All (RowFits g))) (sym (overlays_are_accepted g past legal)) (accepted_fit g (proposals past) (verdicts past) (proposals_fit g past legal))
-
 -- the rows of an answer are a proposal's
 pub asked_fit : (g : Group) (past : List Entry) (n : ℕ) (asked : List Row) → IsSound g → IsLegal g past → revert_after g past n ≡ Rows asked → RowsFit g asked
-asked_fit g past n asked sound legal is = (is_asked g past n asked is).fits sound (overlays_fit g past legal)
+asked_fit g past n asked sound legal is = (is_asked g past n asked is).fits sound (all_in_range g past sound legal).overlaid
 
 -- two events that met no full journal were entered
 
@@ -128,7 +109,7 @@ asked_back n s course sound legal none came =
       leads = λ yes.
           ap (target g) came
           ∙ target_next g (queued g past rows ∷ past) (receipt_of g (queued g past rows ∷ past) (asking g past rows)) (asking g past rows) [] (waits g past rows legal none) yes
-          ∙ leads_all_back g past n sound (overlays_fit g past legal);
+          ∙ leads_all_back g past n sound (all_in_range g past sound legal).overlaid;
     }
 
 -- what came before in a legal journal is legal

@@ -16,10 +16,10 @@ use Rattle.st_net.specs.Groups.{Group}
 use Rattle.st_event.specs.declared.act.Act.{Act}
 use Rattle.st_event.specs.declared.act.Act.TheVariants.{Propose, Await, Settle, Lock, Unlock, Read, ReadAt, Fail, Poll, Span}
 use Rattle.st_event.specs.declared.event.Event.{Event}
-use Rattle.st_event.specs.declared.event.Event.TheVariants.{Submit, Check, Lock as lock_event, Unlock as unlock_event, Send, Deliver, Finish, Report as make_report, Hear, Fail as fail_event}
+use Rattle.st_event.specs.declared.event.Event.TheVariants.{Submit, Check, Lock as lock_event, Unlock as unlock_event, Send, Deliver, Finish, Report as make_report, Hear, Fail as fail_event, Withdraw}
 use Rattle.st_event.specs.declared.event.Proposal.{Proposal}
 use Rattle.st_event.specs.declared.reply.Reply.{Reply}
-use Rattle.st_event.specs.declared.reply.Reply.TheVariants.{Queued, Full as full_queue, Decided, Idle, Granted, Held, Released, NotYours, Sent, Settled, Blocked, Begun, Stale, NoSuch, Done, NotBusy, Reported, Taken, Old, Changed}
+use Rattle.st_event.specs.declared.reply.Reply.TheVariants.{Queued, Full as full_queue, Decided, Idle, Granted, Held, Released, NotYours, Sent, Settled, Blocked, Begun, Stale, NoSuch, Done, NotBusy, Reported, Taken, Old, Changed, Withdrawn, Kept}
 use Rattle.st_event.specs.declared.reply.Lack.{Lack}
 use Rattle.st_event.specs.declared.journal.Entry.{Entry}
 use Rattle.st_event.specs.declared.journal.Journal.{Journal}
@@ -35,7 +35,7 @@ use Rattle.st_wire.specs.declared.line.WireKind.TheVariants.{Command as command_
 use Rattle.st_wire.specs.declared.line.WireLine.{WireLine}
 use Rattle.st_wire.specs.declared.line.WireLine.TheVariants.{Drop, Repeat, Hold}
 use Rattle.st_wire.specs.Deliveries.{brought_at, deliveries, is_same_kind, keeps_back, own_delivery}
-use Rattle.st_world.specs.Rounds.{Course, course_from, enter, enter_all, enter_told, follow_ups, follow_ups_of, poll, turn, turns, unsettled, update_turn}
+use Rattle.st_world.specs.Rounds.{Course, course_from, enter, enter_all, enter_told, follow_ups, follow_ups_of, is_called_back, poll, send_turn, turn, turns, unsettled, update_turn}
 use Rattle.st_world.specs.Acts.{checked_while, course_of, failed_vals, group_number, has_one_of, is_none_left, is_something, rounds_done, with_room}
 use Rattle.st_world.proofs.WorldLaws.{few_commands, few_reports}
 use Rattle.st_grammar.specs.declared.doc.Doc.{Doc}
@@ -120,6 +120,8 @@ HasSmallMessage NotBusy = Unit {0}
 HasSmallMessage Taken = Unit {0}
 HasSmallMessage (Old kept) = Unit {0}
 HasSmallMessage Changed = Unit {0}
+HasSmallMessage (Withdrawn version rows) = Unit {0}
+HasSmallMessage Kept = Unit {0}
 
 sent_by : (o : Option Lack) (row : Row) (sent : ℕ) → sent < MAX_ENTRIES → HasSmallMessage (blocked_or_sent o row sent)
 sent_by None row sent few = omega (arith, few)
@@ -172,6 +174,8 @@ module _ (apps : List (List ℕ)) where
   follow_ups_may g lines past Taken sound small = tt
   follow_ups_may g lines past (Old kept) sound small = tt
   follow_ups_may g lines past Changed sound small = tt
+  follow_ups_may g lines past (Withdrawn version rows) sound small = tt
+  follow_ups_may g lines past Kept sound small = tt
 
   -- an event more
 
@@ -221,10 +225,14 @@ module _ (apps : List (List ℕ)) where
 
   -- a turn, and turns
 
+  sent_asked : (g : Group) (lines : List WireLine) (course : Course) (e : Entity) → All IsSoundWire lines → CourseIsAsked course → CourseIsAsked (enter_told g lines course (Send e))
+  sent_asked g lines course e sound asked = told_asked g lines course (Send e) sound (record { app = tt; number = tt }) (λ few. send_small g course.past e (governing e (observed g course.past e).vals (target g course.past e)) few) asked
+
   update_asked : (g : Group) (lines : List WireLine) (course : Course) (e : Entity) → All IsSoundWire lines → CourseIsAsked course → CourseIsAsked (update_turn g lines course e)
   update_asked g lines course e sound asked =
-      enter_asked g (enter_told g lines course (Send e)) (Finish e) (record { app = tt; number = tt })
-      (told_asked g lines course (Send e) sound (record { app = tt; number = tt }) (λ few. send_small g course.past e (governing e (observed g course.past e).vals (target g course.past e)) few) asked)
+      let told = enter_told g lines course (Send e) in
+      enter_asked g (send_turn g lines course e) (Finish e) (record { app = tt; number = tt })
+      (by_test CourseIsAsked (is_called_back g told.past e) (enter g told (Withdraw e)) told (enter_asked g told (Withdraw e) (record { app = tt; number = tt }) (sent_asked g lines course e sound asked)) (sent_asked g lines course e sound asked))
 
   poll_asked : (g : Group) (lines : List WireLine) (course : Course) (e : Entity) → All IsSoundWire lines → CourseIsAsked course → CourseIsAsked (poll g lines course e)
   poll_asked g lines course e sound asked = told_asked g lines course (make_report e) sound (record { app = tt; number = tt }) (λ few. omega (arith, few, few_reports g course.past)) asked

@@ -5,7 +5,7 @@ use Rattle.std.proofs.lemmas.List.{length-map}
 use Rattle.st_net.specs.Groups.{Group}
 use Rattle.st_event.specs.declared.act.Log.{Log}
 use Rattle.st_event.specs.declared.event.Event.{Event}
-use Rattle.st_event.specs.declared.event.Event.TheVariants.{Submit, Check, Lock, Unlock, Send, Deliver, Finish, Report as make_report, Hear, Fail}
+use Rattle.st_event.specs.declared.event.Event.TheVariants.{Submit, Check, Lock, Unlock, Send, Deliver, Finish, Report as make_report, Hear, Fail, Withdraw}
 use Rattle.st_event.specs.declared.journal.Journal.{Journal}
 use Rattle.st_event.specs.Legal.{IsLegal}
 use Rattle.st_grammar.specs.declared.doc.Doc.{Doc}
@@ -31,6 +31,7 @@ by_app apps count (Finish entity) same by = tt
 by_app apps count (make_report entity) same by = tt
 by_app apps count (Hear n) same by = tt
 by_app apps count (Fail entity vals health) same by = tt
+by_app apps count (Withdraw entity) same by = tt
 
 small_number : (event : Event) → has_small event → HasSmallNumber event
 small_number (Submit app rows) small = tt
@@ -43,6 +44,7 @@ small_number (Finish entity) small = tt
 small_number (make_report entity) small = tt
 small_number (Hear n) small = small
 small_number (Fail entity vals health) small = tt
+small_number (Withdraw entity) small = tt
 
 asked_all : (doc : Doc) (journal : Journal) → HasOwnRequests doc journal → HasSmallNumbers journal → All (IsAsked (app_names doc)) journal.entries
 asked_all doc journal ours small k d low = record {

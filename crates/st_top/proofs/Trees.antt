@@ -31,8 +31,8 @@ trees_fit tree = few_entries_fit (tree_doc tree) (trees_have_room tree)
 
 -- fat trees of 4 and of 10 pods: of 52 and of 625 entities. Each stage is a proposal, an await and a settle of 2 rounds, of which there are 2 and 5;
 -- then come a proposal and an await, a lock and an unlock, and two applications
-tree_of_4 : (seed : ℕ) → most (generated 4 seed) 0 ≡ 2 * (3 + 64 + 3 * (52 * 5)) + 3 + 64 + 2 + 2 * 64
+tree_of_4 : (seed : ℕ) → most (generated 4 seed) 0 ≡ 2 * (3 + 64 + 3 * (52 * 6)) + 3 + 64 + 2 + 2 * 64
 tree_of_4 seed = refl
 
-tree_of_10 : (seed : ℕ) → most (generated 10 seed) 0 ≡ 47407
+tree_of_10 : (seed : ℕ) → most (generated 10 seed) 0 ≡ 56782
 tree_of_10 seed = refl
