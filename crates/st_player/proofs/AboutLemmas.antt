@@ -14,7 +14,7 @@ use Rattle.st_net.specs.InOrder.{entities_of, place_in}
 use Rattle.st_net.proofs.EntityOrder.{at_place, entities_count, own_at, place_at}
 use Rattle.st_net.proofs.Tests.{same_entity, same_self}
 use Rattle.st_event.specs.declared.event.Event.{Event}
-use Rattle.st_event.specs.declared.event.Event.TheVariants.{Submit, Check, Lock, Unlock, Send, Deliver, Finish, Report, Hear, Fail}
+use Rattle.st_event.specs.declared.event.Event.TheVariants.{Submit, Check, Lock, Unlock, Send, Deliver, Finish, Report, Hear, Fail, Withdraw}
 use Rattle.st_event.specs.declared.journal.Entry.{Entry}
 use Rattle.st_event.specs.declared.reply.Reply.{Reply}
 use Rattle.st_player.specs.Cuts.{numbers_of}
@@ -116,6 +116,7 @@ named_has_no_rows g past (Finish e) answer at is = refl
 named_has_no_rows g past (Report e) answer at is = refl
 named_has_no_rows g past (Hear n) answer at is = refl
 named_has_no_rows g past (Fail e vals health) answer at is = refl
+named_has_no_rows g past (Withdraw e) answer at is = refl
 
 pub about_named : (g : Group) (past : List Entry) (event : Event) (answer : Reply) (at : Entity) → named_by g past event ≡ Some at → is_same_entity at ≡ is_about (rows_about past event answer) (named_by g past event)
 about_named g past event answer at is =

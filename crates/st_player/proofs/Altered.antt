@@ -1,6 +1,7 @@
 -- What an overlay leaves as it was: each entity whose target its rows do not alter, the network, and which promises hold in the sure set.
-use Rattle.std.proofs.Common.{◌≡◌, ◌∙◌, ℕ, suc, ◌+◌, ◌<◌, ◌≤◌, List, [], ◌∷◌, length, map, true, false, Bool, Option, Some, None, refl, sym, ap, ap₂, subst, inl, inr, arith}
+use Rattle.std.proofs.Common.{◌≡◌, ◌∙◌, ℕ, suc, ◌+◌, ◌<◌, ◌≤◌, List, [], ◌∷◌, ◌++◌, length, map, true, false, Bool, Option, Some, None, refl, sym, ap, ap₂, inl, inr, arith}
 use Rattle.std.proofs.Math.Bool.{and-false, or-false}
+use Rattle.std.proofs.lemmas.List.Elements.{All-pop}
 use Rattle.std.specs.Prelude.{◌&&◌, ◌⊎◌, not, All, slice_index_or, if◌then◌else◌}
 use Rattle.st_net.specs.declared.entity.Entity.{Entity}
 use Rattle.st_net.specs.declared.entity.Row.{Row}
@@ -18,7 +19,7 @@ use Rattle.st_net.specs.Reports.{later_report}
 use Rattle.st_net.specs.Sets.{IsWithin, Marks, MarksOf, is_in}
 use Rattle.st_net.proofs.DemandLaws.{holds_with_more, tells_demands}
 use Rattle.st_event.specs.declared.event.Event.{Event}
-use Rattle.st_event.specs.declared.event.Event.TheVariants.{Check}
+use Rattle.st_event.specs.declared.event.Event.TheVariants.{Check, Withdraw}
 use Rattle.st_event.specs.declared.journal.Entry.{Entry}
 use Rattle.st_event.specs.declared.reply.Reply.{Reply}
 use Rattle.st_event.specs.History.{History, with_entry}
@@ -27,10 +28,10 @@ use Rattle.st_event.specs.Moments.{busy, health, heard, is_taken, reports, stamp
 use Rattle.st_event.specs.Network.{NamesLoss}
 use Rattle.st_event.specs.Observed.{actual, observed, sure}
 use Rattle.st_event.specs.Overlaid.{overlaid_by}
-use Rattle.st_event.specs.Proposals.{first_rows, is_accepting, overlay_in, pending, target}
-use Rattle.st_event.proofs.Accepting.{next_fits}
+use Rattle.st_event.specs.Proposals.{first_rows, overlay_in, overlays, pending, target, with_overlay}
 use Rattle.st_event.proofs.Made.{observed_own}
 use Rattle.st_event.proofs.Promises.{keeps_or_names}
+use Rattle.st_event.proofs.Ranges.{all_in_range}
 use Rattle.st_event.proofs.Shown.{made_is_true}
 use Rattle.st_event.proofs.Stamps.{fence_small, stamp_small}
 use Rattle.st_event.proofs.SureIsUp.{sure_parts}
@@ -48,18 +49,16 @@ IsLaid past event answer rows = overlay_in event answer (first_rows (pending pas
 abbrev IsAltered : Group → List Entry → List Row → Entity → Bool → Type 0
 IsAltered g past rows e is = alters g (target g past) rows e ≡ is
 
--- the rows fit
-pub overlay_fits : (g : Group) (past : List Entry) (event : Event) (answer : Reply) (rows : List Row) → IsLegal g past → IsLaid past event answer rows → All (RowFits g) rows
-overlay_fits g past Check answer rows legal laid = by_verdict (is_accepting answer) laid
-  where
-    by_verdict : (accepts : Bool) → (if accepts then Some (first_rows (pending past)) else None) ≡ Some rows → All (RowFits g) rows
-    by_verdict true laid = let same : first_rows (pending past) ≡ rows = cc in subst (λ (rs : List Row). All (RowFits g) rs) same (next_fits g past legal)
-    by_verdict false laid = absurd cc
-overlay_fits g past _ answer rows legal laid = absurd cc
+-- the rows fit, as all that was ever overlaid
+pub overlay_fits : (g : Group) (past : List Entry) (entry : Entry) (rows : List Row) → IsSound g → IsLegal g past → IsNext g past entry → overlay_of past entry ≡ Some rows → All (RowFits g) rows
+overlay_fits g past entry rows sound legal next laid =
+    let more : overlays (entry ∷ past) ≡ overlays past ++ rows ∷ [] = ap (λ (o : Option (List Row)). with_overlay o (overlays past)) laid in
+    (All-pop (All (RowFits g)) (overlays (entry ∷ past)) (overlays past) (Some rows) more (all_in_range g (entry ∷ past) sound (next, legal)).overlaid).1
 
 -- what overlays the target hears no report
 hears_none : (past : List Entry) (event : Event) (answer : Reply) (rows : List Row) (reports : ℕ → Option Report) → IsLaid past event answer rows → heard event reports ≡ None
 hears_none past Check answer rows reports laid = refl
+hears_none past (Withdraw at) answer rows reports laid = refl
 hears_none past _ answer rows reports laid = cc
 
 -- the stamp moves only where the target is altered
@@ -92,11 +91,25 @@ stays_unaltered g past Check answer rows e laid other = record {
   failed_is = λ n. refl;
   goal_is = goal_stays g past Check answer rows e laid other;
 }
+stays_unaltered g past (Withdraw at) answer rows e laid other = record {
+  busy_is = and_true (busy g past e);
+  vals_is = refl;
+  health_is = refl;
+  observed_is = refl;
+  since_is = refl;
+  stamp_is = stamp_stays g past (Withdraw at) answer rows e laid other;
+  holder_is = λ p. refl;
+  failed_is = λ n. refl;
+  goal_is = goal_stays g past (Withdraw at) answer rows e laid other;
+}
 stays_unaltered g past _ answer rows e laid other = absurd cc
 
 -- the network stays, and what is known of each entity
 network_stays : (g : Group) (past : List Entry) (event : Event) (answer : Reply) (rows : List Row) (e : Entity) → IsLaid past event answer rows → actual g past e ≡ actual g (entry_of event answer ∷ past) e
 network_stays g past Check answer rows e laid =
+    let idle = and_true (busy g past e) in
+    λ i. not (idle i) && carries e (vals g past e) (level_of e (vals g past e) (health g past e) (idle i))
+network_stays g past (Withdraw at) answer rows e laid =
     let idle = and_true (busy g past e) in
     λ i. not (idle i) && carries e (vals g past e) (level_of e (vals g past e) (health g past e) (idle i))
 network_stays g past _ answer rows e laid = absurd cc

@@ -82,7 +82,7 @@ left_alone g past entry e v none = by_overlay (overlay_of past entry) refl none
 abbrev IsSet : Group → List Entry → Entity → Var → Setter → Type 0
 IsSet g past e v setter = (setter.version ≤ version past) × (value_at g past setter.version e v ≡ target g past e v)
 
-set_now : (g : Group) (past : List Entry) (entry : Entry) (e : Entity) (v : Var) (o : Option (List Row)) → overlay_of past entry ≡ o → is_set_in o e (var_place v) ≡ true → IsSet g (entry ∷ past) e v (next_setter past)
+set_now : (g : Group) (past : List Entry) (entry : Entry) (e : Entity) (v : Var) (o : Option (List Row)) → overlay_of past entry ≡ o → is_set_in o e (var_place v) ≡ true → IsSet g (entry ∷ past) e v (next_setter past entry.event)
 set_now g past entry e v None is sets = absurd (true≢false (sym sets))
 set_now g past entry e v (Some rows) is sets =
     let next : overlays (entry ∷ past) ≡ overlays past ++ rows ∷ [] = ap (λ (o : Option (List Row)). with_overlay o (overlays past)) is in
@@ -101,9 +101,9 @@ pub setters_set : SettersSet
 setters_set g [] e v setter is = absurd cc
 setters_set g (entry ∷ past) e v setter is = by_test (is_set_in (overlay_of past entry) e (var_place v)) refl (setters_set g past e v setter) is
   where
-    by_test : (b : Bool) → is_set_in (overlay_of past entry) e (var_place v) ≡ b → (setter_of past e (var_place v) ≡ Some setter → IsSet g past e v setter) → (if b then Some (next_setter past) else setter_of past e (var_place v)) ≡ Some setter → IsSet g (entry ∷ past) e v setter
+    by_test : (b : Bool) → is_set_in (overlay_of past entry) e (var_place v) ≡ b → (setter_of past e (var_place v) ≡ Some setter → IsSet g past e v setter) → (if b then Some (next_setter past entry.event) else setter_of past e (var_place v)) ≡ Some setter → IsSet g (entry ∷ past) e v setter
     by_test true sets before is =
-        let same : next_setter past ≡ setter = cc in
+        let same : next_setter past entry.event ≡ setter = cc in
         subst (λ (s : Setter). IsSet g (entry ∷ past) e v s) same (set_now g past entry e v (overlay_of past entry) refl sets)
     by_test false other before is = set_still g past entry e v setter (left_alone g past entry e v other) (before is)
 
@@ -111,7 +111,7 @@ pub unset_are_opening : UnsetAreOpening
 unset_are_opening g [] e v none = refl
 unset_are_opening g (entry ∷ past) e v none = by_test (is_set_in (overlay_of past entry) e (var_place v)) refl (unset_are_opening g past e v) none
   where
-    by_test : (b : Bool) → is_set_in (overlay_of past entry) e (var_place v) ≡ b → (setter_of past e (var_place v) ≡ None → target g past e v ≡ value_of e (opening_of g e) v) → (if b then Some (next_setter past) else setter_of past e (var_place v)) ≡ None → target g (entry ∷ past) e v ≡ value_of e (opening_of g e) v
+    by_test : (b : Bool) → is_set_in (overlay_of past entry) e (var_place v) ≡ b → (setter_of past e (var_place v) ≡ None → target g past e v ≡ value_of e (opening_of g e) v) → (if b then Some (next_setter past entry.event) else setter_of past e (var_place v)) ≡ None → target g (entry ∷ past) e v ≡ value_of e (opening_of g e) v
     by_test true sets before none = absurd cc
     by_test false other before none = (left_alone g past entry e v other).value ∙ before none
 

@@ -10,7 +10,7 @@ use Rattle.st_net.specs.Numbered.{nth}
 use Rattle.st_net.proofs.Tests.{same_entity}
 use Rattle.st_net.proofs.InOrder.{item_in_at, item_in-set}
 use Rattle.st_event.specs.declared.event.Event.{Event}
-use Rattle.st_event.specs.declared.event.Event.TheVariants.{Submit, Check, Lock, Unlock, Send, Deliver, Finish, Report as make_report, Hear, Fail}
+use Rattle.st_event.specs.declared.event.Event.TheVariants.{Hear}
 use Rattle.st_event.specs.declared.journal.Entry.{Entry}
 use Rattle.st_event.specs.Legal.{IsLegal}
 use Rattle.st_event.specs.Moments.{reports}
@@ -88,12 +88,4 @@ since_next g past since entry made are made_is legal = by_event entry.event refl
           count = next.0;
           each = λ e here. next.1 e here ∙ ap (λ (ms : List ℕ). since_after e (nth (reports g past) n) (observed g past e).number (unwrap_or (nth ms n) 0) (known_since g past e)) made_is;
         }
-    by_event (make_report at) is = record { count = are.count; each = are.each }
-    by_event (Fail at vals health) is = record { count = are.count; each = are.each }
-    by_event (Submit app rows) is = record { count = are.count; each = are.each }
-    by_event Check is = record { count = are.count; each = are.each }
-    by_event (Lock app at prio) is = record { count = are.count; each = are.each }
-    by_event (Unlock app at prio) is = record { count = are.count; each = are.each }
-    by_event (Send at) is = record { count = are.count; each = are.each }
-    by_event (Deliver n) is = record { count = are.count; each = are.each }
-    by_event (Finish at) is = record { count = are.count; each = are.each }
+    by_event _ is = record { count = are.count; each = are.each }

@@ -5,16 +5,16 @@ use Rattle.std.proofs.lemmas.List.{drop_more}
 use Rattle.st_net.specs.declared.entity.Entity.{Entity}
 use Rattle.st_net.specs.declared.entity.Row.{Row}
 use Rattle.st_net.specs.Entities.{is_same_entity}
-use Rattle.st_net.specs.Groups.{Group, IsEntityOf}
+use Rattle.st_net.specs.Groups.{Group, IsEntityOf, IsSound}
 use Rattle.st_net.specs.InOrder.{entity_count, item_in, place_in}
 use Rattle.st_net.specs.Ranges.{RowFits}
 use Rattle.st_net.proofs.Tests.{same_entity}
 use Rattle.st_net.proofs.InOrder.{item_in_at, item_in-set}
 use Rattle.st_event.specs.declared.event.Event.{Event}
-use Rattle.st_event.specs.declared.event.Event.TheVariants.{Submit, Check, Lock, Unlock, Send, Deliver, Finish, Report, Hear, Fail}
+use Rattle.st_event.specs.declared.event.Event.TheVariants.{Check, Fail, Withdraw}
 use Rattle.st_event.specs.declared.journal.Entry.{Entry}
 use Rattle.st_event.specs.declared.reply.Reply.{Reply}
-use Rattle.st_event.specs.Legal.{Fits, IsLegal}
+use Rattle.st_event.specs.Legal.{Fits, IsLegal, IsNext}
 use Rattle.st_player.specs.declared.origins.Failure.{Failure}
 use Rattle.st_player.specs.declared.origins.Origin.{Origin}
 use Rattle.st_player.specs.declared.origins.Setter.{Setter}
@@ -104,20 +104,22 @@ set_more g setter rows origins now whole i row low at is was =
 -- an overlay: its rows set, and it is no failure
 unfailed : (past : List Entry) (event : Event) (answer : Reply) (rows : List Row) (n : ℕ) (e : Entity) (before : Option Failure) → overlay_of past (record { event = event; reply = answer }) ≡ Some rows → before ≡ failure_after event n e before
 unfailed past Check answer rows n e before laid = refl
+unfailed past (Withdraw at) answer rows n e before laid = refl
 unfailed past _ answer rows n e before laid = cc
 
-set_all : (g : Group) (past : List Entry) (entry : Entry) (rows : List Row) (origins : List Origin) → AreOrigins g past origins → IsLegal g past → overlay_of past entry ≡ Some rows → AreOrigins g (entry ∷ past) (set_origins g (next_setter past) rows origins)
-set_all g past entry rows origins are legal laid = record {
-  count = long_set g (next_setter past) rows origins ∙ are.count;
+set_all : (g : Group) (past : List Entry) (entry : Entry) (rows : List Row) (origins : List Origin) → AreOrigins g past origins → IsSound g → IsLegal g past → IsNext g past entry → overlay_of past entry ≡ Some rows
+    → AreOrigins g (entry ∷ past) (set_origins g (next_setter past entry.event) rows origins)
+set_all g past entry rows origins are sound legal next laid = record {
+  count = long_set g (next_setter past entry.event) rows origins ∙ are.count;
   each = λ e here.
-      set_at g (next_setter past) rows origins e (overlay_fits g past entry.event entry.reply rows legal laid) are.count
-      ∙ (ap (origin_with (next_setter past) (is_set_by rows e)) (are.each e here) ∙ origin_next e);
+      set_at g (next_setter past entry.event) rows origins e (overlay_fits g past entry rows sound legal next laid) are.count
+      ∙ (ap (origin_with (next_setter past entry.event) (is_set_by rows e)) (are.each e here) ∙ origin_next e);
 }
   where
-    set_in : (e : Entity) (k : ℕ) → (if is_set_by rows e k then Some (next_setter past) else setter_of past e k) ≡ setter_of (entry ∷ past) e k
-    set_in e k = ap (λ (o : Option (List Row)). if is_set_in o e k then Some (next_setter past) else setter_of past e k) (sym laid)
+    set_in : (e : Entity) (k : ℕ) → (if is_set_by rows e k then Some (next_setter past entry.event) else setter_of past e k) ≡ setter_of (entry ∷ past) e k
+    set_in e k = ap (λ (o : Option (List Row)). if is_set_in o e k then Some (next_setter past entry.event) else setter_of past e k) (sym laid)
 
-    origin_next : (e : Entity) → origin_with (next_setter past) (is_set_by rows e) (origin_of past e) ≡ origin_of (entry ∷ past) e
+    origin_next : (e : Entity) → origin_with (next_setter past entry.event) (is_set_by rows e) (origin_of past e) ≡ origin_of (entry ∷ past) e
     origin_next e = λ i. record {
       v0 = set_in e 0 i;
       v1 = set_in e 1 i;
@@ -128,7 +130,7 @@ set_all g past entry rows origins are legal laid = record {
 
 -- an entry that overlays nothing leaves the setters
 setter_still : (past : List Entry) (event : Event) (answer : Reply) (e : Entity) (k : ℕ) → overlay_of past (record { event = event; reply = answer }) ≡ None → setter_of past e k ≡ setter_of (record { event = event; reply = answer } ∷ past) e k
-setter_still past event answer e k none = ap (λ (o : Option (List Row)). if is_set_in o e k then Some (next_setter past) else setter_of past e k) (sym none)
+setter_still past event answer e k none = ap (λ (o : Option (List Row)). if is_set_in o e k then Some (next_setter past event) else setter_of past e k) (sym none)
 
 origin_still : (past : List Entry) (event : Event) (answer : Reply) (e : Entity) → overlay_of past (record { event = event; reply = answer }) ≡ None → failure_of past e ≡ failure_after event (length past + 1) e (failure_of past e) → origin_of past e ≡ origin_of (record { event = event; reply = answer } ∷ past) e
 origin_still past event answer e none failure = λ i. record {
@@ -160,9 +162,9 @@ unlaid g past origins (Fail at vals health) answer are fits none = record {
 }
 unlaid g past origins event answer are fits none = still g past event answer origins are none (λ e. refl)
 
-pub origins_next : (g : Group) (past : List Entry) (origins : List Origin) (entry : Entry) → AreOrigins g past origins → IsLegal g past → Fits g entry.event → AreOrigins g (entry ∷ past) (origins_after g past entry (length past + 1) origins)
-origins_next g past origins entry are legal fits = by_overlay (overlay_of past entry) refl
+pub origins_next : (g : Group) (past : List Entry) (origins : List Origin) (entry : Entry) → AreOrigins g past origins → IsSound g → IsLegal g past → IsNext g past entry → AreOrigins g (entry ∷ past) (origins_after g past entry (length past + 1) origins)
+origins_next g past origins entry are sound legal next = by_overlay (overlay_of past entry) refl
   where
     by_overlay : (o : Option (List Row)) → overlay_of past entry ≡ o → AreOrigins g (entry ∷ past) (origins_by g past o entry.event (length past + 1) origins)
-    by_overlay None none = unlaid g past origins entry.event entry.reply are fits none
-    by_overlay (Some rows) laid = set_all g past entry rows origins are legal laid
+    by_overlay None none = unlaid g past origins entry.event entry.reply are next.fits none
+    by_overlay (Some rows) laid = set_all g past entry rows origins are sound legal next laid

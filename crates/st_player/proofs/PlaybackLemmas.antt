@@ -5,12 +5,12 @@ use Rattle.std.proofs.lemmas.Bool.Decides.{nat_tests}
 use Rattle.st_net.specs.declared.entity.Entity.{Entity}
 use Rattle.st_net.specs.declared.entity.Entity.TheVariants.{Device, Link}
 use Rattle.st_net.specs.Entities.{is_same_entity}
-use Rattle.st_net.specs.Groups.{Group, IsEntityOf}
+use Rattle.st_net.specs.Groups.{Group, IsEntityOf, IsSound}
 use Rattle.st_net.specs.InOrder.{entity_count, item_in, place_in}
 use Rattle.st_net.proofs.Tests.{same_entity}
 use Rattle.st_net.proofs.InOrder.{item_in_at, item_in-set}
 use Rattle.st_event.specs.declared.event.Event.{Event}
-use Rattle.st_event.specs.declared.event.Event.TheVariants.{Submit, Check, Lock, Unlock, Send, Deliver, Finish, Report, Hear, Fail}
+use Rattle.st_event.specs.declared.event.Event.TheVariants.{Report, Fail}
 use Rattle.st_event.specs.declared.journal.Entry.{Entry}
 use Rattle.st_event.specs.declared.reply.Reply.{Reply}
 use Rattle.st_event.specs.History.{History, with_entry}
@@ -96,14 +96,7 @@ told_next g past told entry are fits = by_event entry.event refl fits
       count = length-set_kept told (place_in g at) _ ∙ are.count;
       each = λ e here. item_in-set g told (λ e. no_told) at e _ fits.entity are.count ∙ failed g past told at e (is_same_entity at e) refl are fits.entity here;
     }
-    by_event (Submit app rows) is fits = record { count = are.count; each = are.each }
-    by_event Check is fits = record { count = are.count; each = are.each }
-    by_event (Lock app at prio) is fits = record { count = are.count; each = are.each }
-    by_event (Unlock app at prio) is fits = record { count = are.count; each = are.each }
-    by_event (Send at) is fits = record { count = are.count; each = are.each }
-    by_event (Deliver n) is fits = record { count = are.count; each = are.each }
-    by_event (Finish at) is fits = record { count = are.count; each = are.each }
-    by_event (Hear n) is fits = record { count = are.count; each = are.each }
+    by_event _ is fits = record { count = are.count; each = are.each }
 
 -- an entry whose event was entered with the reply that is called for is the next one
 pub entered : (h new : History) (entry : Entry) (event : Event) (given : Reply) → event ≡ entry.event → IsNext h.group h.past entry → IsNext h.group h.past (record { event = event; reply = given }) → new ≡ with_entry h (record { event = event; reply = given }) → new ≡ with_entry h entry
@@ -112,13 +105,13 @@ entered h new entry event given same next did is =
     is ∙ ap₂ (λ (e : Event) (r : Reply). with_entry h (record { event = e; reply = r })) same replied
 
 -- what is kept is kept behind the next entry too
-pub playback_next : (h new : History) (told now : List Told) (asked asked_now made made_now since since_now : List ℕ) (origins origins_now : List Origin) (entry : Entry) → IsPlayback h told asked made since origins → IsLegal h.group h.past → Fits h.group entry.event
+pub playback_next : (h new : History) (told now : List Told) (asked asked_now made made_now since since_now : List ℕ) (origins origins_now : List Origin) (entry : Entry) → IsPlayback h told asked made since origins → IsSound h.group → IsLegal h.group h.past → IsNext h.group h.past entry
     → now ≡ told_after h.group entry.event told → asked_now ≡ askers_after entry.event entry.reply (length h.past + 1) asked → made_now ≡ makers_after entry.event (length h.past + 1) made → since_now ≡ all_since h.group h.past entry.event made since
     → origins_now ≡ origins_after h.group h.past entry (length h.past + 1) origins → new ≡ with_entry h entry → IsPlayback new now asked_now made_now since_now origins_now
-playback_next h new told now asked asked_now made made_now since since_now origins origins_now entry was legal fits told_is asked_is made_is since_is origins_are is =
-    let next = told_next h.group h.past told entry was.told_is fits in
+playback_next h new told now asked asked_now made made_now since since_now origins origins_now entry was sound legal entered_next told_is asked_is made_is since_is origins_are is =
+    let next = told_next h.group h.past told entry was.told_is entered_next.fits in
     let known = since_next h.group h.past since entry made was.since_is was.made_is legal in
-    let came = origins_next h.group h.past origins entry was.origins_are legal fits in
+    let came = origins_next h.group h.past origins entry was.origins_are sound legal entered_next in
     let here : IsPlayback (with_entry h entry) now asked_now made_now since_now origins_now = record {
       told_is = subst (λ (one : List Told). AreTold h.group (entry ∷ h.past) one) (sym told_is) next;
       asked_is = asked_is ∙ ap (askers_after entry.event entry.reply (length h.past + 1)) was.asked_is;

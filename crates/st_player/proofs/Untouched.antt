@@ -21,7 +21,7 @@ use Rattle.st_net.specs.Merge.{vals_in}
 use Rattle.st_net.specs.Numbered.{nth}
 use Rattle.st_net.specs.Reports.{is_settled_by, is_sure_by, later_report}
 use Rattle.st_event.specs.declared.event.Event.{Event}
-use Rattle.st_event.specs.declared.event.Event.TheVariants.{Submit, Check, Lock, Unlock, Send, Deliver, Finish, Report as make_report, Hear, Fail}
+use Rattle.st_event.specs.declared.event.Event.TheVariants.{Check, Lock, Unlock, Send, Deliver, Finish, Report as make_report, Hear, Fail, Withdraw}
 use Rattle.st_event.specs.declared.journal.Entry.{Entry}
 use Rattle.st_event.specs.declared.reply.Lack.{Lack}
 use Rattle.st_event.specs.declared.reply.Reply.{Reply}
@@ -112,6 +112,7 @@ makes_none past Check answer is = by_verdict (is_accepting answer) is
     by_verdict : (accepts : Bool) → (if accepts then Some (first_rows (pending past)) else None) ≡ None → accepts ≡ false
     by_verdict true is = cc
     by_verdict false is = refl
+makes_none past (Withdraw at) answer is = ap is_some is
 makes_none past _ answer is = refl
 
 pub stays_at : (g : Group) (past : List Entry) (event : Event) (answer : Reply) (e : Entity) → makes_version event answer ≡ false → is_entity (moved_by g past event) e ≡ false → Stays g past (entry_of event answer) e

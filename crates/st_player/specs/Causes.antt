@@ -1,5 +1,5 @@
 -- Who set what a page opens with, and which entry failed what has failed there: of a page that begins behind entries.
-use Rattle.std.specs.Prelude.{ℕ, ◌+◌, ◌==◌, ◌&&◌, nat_lt, Bool, false, List, [], ◌∷◌, ◌++◌, length, flat_map, Option, Some, None, codes, if◌then◌else◌}
+use Rattle.std.specs.Prelude.{ℕ, ◌+◌, ◌==◌, ◌&&◌, nat_lt, Bool, false, List, [], ◌∷◌, ◌++◌, length, flat_map, Option, Some, None, codes, option_map, if◌then◌else◌}
 use Rattle.std.specs.List.{list_any}
 use Rattle.serde_json.specs.Data.{Data, object, no_members, put}
 use Rattle.st_net.specs.declared.entity.Entity.{Entity}
@@ -12,14 +12,14 @@ use Rattle.st_net.specs.Groups.{Group, opening_of}
 use Rattle.st_net.specs.InOrder.{entities_of, place_in}
 use Rattle.st_net.specs.Merge.{vals_in}
 use Rattle.st_event.specs.declared.event.Event.{Event}
-use Rattle.st_event.specs.declared.event.Event.TheVariants.{Submit, Check, Lock, Unlock, Send, Deliver, Finish, Report, Hear, Fail}
+use Rattle.st_event.specs.declared.event.Event.TheVariants.{Check, Fail}
 use Rattle.st_event.specs.declared.event.Proposal.{Proposal}
 use Rattle.st_event.specs.declared.journal.Entry.{Entry}
 use Rattle.st_event.specs.Proposals.{first_rows, overlay_in, pending, target, version}
 use Rattle.st_player.specs.declared.origins.Failure.{Failure}
 use Rattle.st_player.specs.declared.origins.Origin.{Origin}
 use Rattle.st_player.specs.declared.origins.Setter.{Setter}
-use Rattle.st_player.specs.Json.{number_data, put_list}
+use Rattle.st_player.specs.Json.{number_data, put_list, put_some}
 use Rattle.st_player.specs.States.{greatest}
 
 -- the place of a variable among its entity's, from 0
@@ -36,9 +36,14 @@ abbrev pub is_set_by : List Row → Entity → ℕ → Bool
 is_set_by rows e k = list_any (λ row. is_same_entity row.entity e && var_place row.var == k) rows
 
 -- the application of the first of these proposals
-abbrev pub first_app : List Proposal → ℕ
-first_app [] = 0
-first_app (p ∷ ps) = p.app.0
+abbrev pub first_app : List Proposal → Option ℕ
+first_app [] = None
+first_app (p ∷ ps) = Some p.app.0
+
+-- the application that sets what an event overlays the target with: at a check that of the oldest proposal that waits, at a withdrawal none
+abbrev pub app_by : Event → List Proposal → Option ℕ
+app_by Check ps = first_app ps
+app_by _ ps = None
 
 -- what an entry overlays the target with
 abbrev pub overlay_of : List Entry → Entry → Option (List Row)
@@ -49,27 +54,19 @@ abbrev pub is_set_in : Option (List Row) → Entity → ℕ → Bool
 is_set_in None e k = false
 is_set_in (Some rows) e k = is_set_by rows e k
 
--- what the entry behind these sets, where it overlays the target: its version, of the oldest proposal that waits
-abbrev pub next_setter : List Entry → Setter
-next_setter past = record { version = version past + 1; app = first_app (pending past) }
+-- who sets what the entry behind these, of this event, overlays the target with: its version, and the application, where one sets it
+abbrev pub next_setter : List Entry → Event → Setter
+next_setter past event = record { version = version past + 1; app = app_by event (pending past) }
 
 -- the newest overlay with a row on the variable at a place of an entity
 abbrev pub setter_of : List Entry → Entity → ℕ → Option Setter
 setter_of [] e k = None
-setter_of (entry ∷ past) e k = if is_set_in (overlay_of past entry) e k then Some (next_setter past) else setter_of past e k
+setter_of (entry ∷ past) e k = if is_set_in (overlay_of past entry) e k then Some (next_setter past entry.event) else setter_of past e k
 
 -- the newest failure of an entity: its entry, and the health that it left
 abbrev pub failure_after : Event → ℕ → Entity → Option Failure → Option Failure
 failure_after (Fail at vals health) n e before = if is_same_entity at e then Some (record { entry = n; health = health }) else before
-failure_after (Submit app rows) n e before = before
-failure_after Check n e before = before
-failure_after (Lock app at prio) n e before = before
-failure_after (Unlock app at prio) n e before = before
-failure_after (Send at) n e before = before
-failure_after (Deliver number) n e before = before
-failure_after (Finish at) n e before = before
-failure_after (Report at) n e before = before
-failure_after (Hear number) n e before = before
+failure_after _ n e before = before
 
 abbrev pub failure_of : List Entry → Entity → Option Failure
 failure_of [] e = None
@@ -87,7 +84,7 @@ origin_of past e = record {
 
 -- what is told of the variable at place k of entity n, where its value in the target is not the opening's
 abbrev pub set_data : ℕ → ℕ → Setter → Data
-set_data n k setter = object (put (codes "app") (number_data setter.app)
+set_data n k setter = object (put_some (codes "app") (option_map number_data setter.app)
     (put (codes "version") (number_data setter.version)
     (put (codes "var") (number_data k)
     (put (codes "entity") (number_data n) no_members))))

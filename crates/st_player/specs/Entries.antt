@@ -9,7 +9,7 @@ use Rattle.st_net.specs.Entities.{is_same_entity}
 use Rattle.st_net.specs.Groups.{Group}
 use Rattle.st_net.specs.Numbered.{nth}
 use Rattle.st_event.specs.declared.event.Event.{Event}
-use Rattle.st_event.specs.declared.event.Event.TheVariants.{Submit, Check, Lock, Unlock, Send, Deliver, Finish, Report, Hear, Fail}
+use Rattle.st_event.specs.declared.event.Event.TheVariants.{Submit, Check, Lock, Unlock, Send, Deliver, Finish, Report, Hear, Fail, Withdraw}
 use Rattle.st_event.specs.declared.journal.Entry.{Entry}
 use Rattle.st_event.specs.declared.reply.Reply.{Reply}
 use Rattle.st_event.specs.declared.reply.Receipt.{Receipt}
@@ -43,6 +43,7 @@ rows_about past (Finish e) reply = []
 rows_about past (Report e) reply = []
 rows_about past (Hear n) reply = []
 rows_about past (Fail e vals health) reply = []
+rows_about past (Withdraw e) reply = []
 
 -- the entity that an event names: by a lock, by a message that there is, or itself
 abbrev pub named_by : Group → List Entry → Event → Option Entity
@@ -54,6 +55,7 @@ named_by g past (Finish e) = Some e
 named_by g past (Report e) = Some e
 named_by g past (Hear n) = option_map (λ r. r.entity) (nth (reports g past) n)
 named_by g past (Fail e vals health) = Some e
+named_by g past (Withdraw e) = Some e
 named_by g past (Submit app rows) = None
 named_by g past Check = None
 
@@ -74,15 +76,7 @@ about g past entry = numbers_of g (is_about (rows_about past entry.event entry.r
 -- the numbers of the entries by which tickets 1, 2, 3 and so on were given
 abbrev pub askers_after : Event → Reply → ℕ → List ℕ → List ℕ
 askers_after (Submit app rows) reply n before = if is_queued reply then before ++ n ∷ [] else before
-askers_after Check reply n before = before
-askers_after (Lock app e prio) reply n before = before
-askers_after (Unlock app e prio) reply n before = before
-askers_after (Send e) reply n before = before
-askers_after (Deliver number) reply n before = before
-askers_after (Finish e) reply n before = before
-askers_after (Report e) reply n before = before
-askers_after (Hear number) reply n before = before
-askers_after (Fail e vals health) reply n before = before
+askers_after _ reply n before = before
 
 abbrev pub askers : List Entry → List ℕ
 askers [] = []

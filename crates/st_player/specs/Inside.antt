@@ -7,7 +7,7 @@ use Rattle.st_net.specs.Groups.{Group, IsEntityOf}
 use Rattle.st_net.specs.InOrder.{entity_count, item_in, place_in}
 use Rattle.st_net.specs.Numbered.{nth}
 use Rattle.st_event.specs.declared.event.Event.{Event}
-use Rattle.st_event.specs.declared.event.Event.TheVariants.{Submit, Check, Lock, Unlock, Send, Deliver, Finish, Report, Hear, Fail}
+use Rattle.st_event.specs.declared.event.Event.TheVariants.{Report, Hear, Fail}
 use Rattle.st_event.specs.declared.journal.Entry.{Entry}
 use Rattle.st_event.specs.History.{History}
 use Rattle.st_event.specs.Moments.{is_fail_of, number, reports}
@@ -59,14 +59,7 @@ told_at g told e = slice_index_or told (place_in g e) no_told
 abbrev pub told_after : Group → Event → List Told → List Told
 told_after g (Report e) told = slice_set told (place_in g e) (record { made = (told_at g told e).made + 1; failed = (told_at g told e).failed })
 told_after g (Fail e vals health) told = slice_set told (place_in g e) (record { made = (told_at g told e).made; failed = Some (told_at g told e).made })
-told_after g (Submit app rows) told = told
-told_after g Check told = told
-told_after g (Lock app e prio) told = told
-told_after g (Unlock app e prio) told = told
-told_after g (Send e) told = told
-told_after g (Deliver n) told = told
-told_after g (Finish e) told = told
-told_after g (Hear n) told = told
+told_after g _ told = told
 
 -- the entries by which the reports that are kept were made, in the order of entities
 pub record AreSince (g : Group) (past : List Entry) (since : List ℕ) : Type 0 where
@@ -80,15 +73,7 @@ heard_since g past (Some r) maker since = if nat_lt (observed g past r.entity).n
 
 abbrev pub all_since : Group → List Entry → Event → List ℕ → List ℕ → List ℕ
 all_since g past (Hear n) made since = heard_since g past (nth (reports g past) n) (unwrap_or (nth made n) 0) since
-all_since g past (Submit app rows) made since = since
-all_since g past Check made since = since
-all_since g past (Lock app e prio) made since = since
-all_since g past (Unlock app e prio) made since = since
-all_since g past (Send e) made since = since
-all_since g past (Deliver n) made since = since
-all_since g past (Finish e) made since = since
-all_since g past (Report e) made since = since
-all_since g past (Fail e vals health) made since = since
+all_since g past _ made since = since
 
 -- what is kept beside a world is that of its journal
 pub record IsPlayback (h : History) (told : List Told) (asked made since : List ℕ) (origins : List Origin) : Type 0 where

@@ -8,7 +8,7 @@ use Rattle.st_net.specs.Groups.{Group}
 use Rattle.st_net.specs.Numbered.{nth}
 use Rattle.st_net.specs.Reports.{opening_report}
 use Rattle.st_event.specs.declared.event.Event.{Event}
-use Rattle.st_event.specs.declared.event.Event.TheVariants.{Submit, Check, Lock, Unlock, Send, Deliver, Finish, Report as make_report, Hear, Fail}
+use Rattle.st_event.specs.declared.event.Event.TheVariants.{Report as make_report, Hear}
 use Rattle.st_event.specs.declared.journal.Entry.{Entry}
 use Rattle.st_event.specs.Moments.{busy, fence, health, heard, number, reports, vals}
 use Rattle.st_event.specs.Observed.{observed}
@@ -16,15 +16,7 @@ use Rattle.st_event.specs.Observed.{observed}
 -- the numbers of the entries by which reports 1, 2, 3 and so on were made
 abbrev pub makers_after : Event → ℕ → List ℕ → List ℕ
 makers_after (make_report e) n before = before ++ n ∷ []
-makers_after (Submit app rows) n before = before
-makers_after Check n before = before
-makers_after (Lock app e prio) n before = before
-makers_after (Unlock app e prio) n before = before
-makers_after (Send e) n before = before
-makers_after (Deliver number) n before = before
-makers_after (Finish e) n before = before
-makers_after (Hear number) n before = before
-makers_after (Fail e vals health) n before = before
+makers_after _ n before = before
 
 abbrev pub makers : List Entry → List ℕ
 makers [] = []

@@ -5,7 +5,7 @@ use Rattle.st_net.specs.declared.entity.Row.{Row}
 use Rattle.st_net.specs.Groups.{Group, IsEntityOf}
 use Rattle.st_net.specs.InOrder.{entity_count, item_in, place_in}
 use Rattle.st_event.specs.declared.event.Event.{Event}
-use Rattle.st_event.specs.declared.event.Event.TheVariants.{Submit, Check, Lock, Unlock, Send, Deliver, Finish, Report, Hear, Fail}
+use Rattle.st_event.specs.declared.event.Event.TheVariants.{Fail}
 use Rattle.st_event.specs.declared.journal.Entry.{Entry}
 use Rattle.st_player.specs.declared.origins.Origin.{Origin}
 use Rattle.st_player.specs.declared.origins.Setter.{Setter}
@@ -43,20 +43,12 @@ set_origins g setter (row ∷ rows) origins = set_origins g setter rows (slice_s
 -- after an event
 abbrev pub failed_origins : Group → Event → ℕ → List Origin → List Origin
 failed_origins g (Fail e vals health) n origins = slice_set origins (place_in g e) (record (origin_at g origins e) { failure = Some (record { entry = n; health = health }) })
-failed_origins g (Submit app rows) n origins = origins
-failed_origins g Check n origins = origins
-failed_origins g (Lock app e prio) n origins = origins
-failed_origins g (Unlock app e prio) n origins = origins
-failed_origins g (Send e) n origins = origins
-failed_origins g (Deliver number) n origins = origins
-failed_origins g (Finish e) n origins = origins
-failed_origins g (Report e) n origins = origins
-failed_origins g (Hear number) n origins = origins
+failed_origins g _ n origins = origins
 
 -- after an entry of this number, by what it overlays; what overlays the target is no failure
 abbrev pub origins_by : Group → List Entry → Option (List Row) → Event → ℕ → List Origin → List Origin
 origins_by g past None event n origins = failed_origins g event n origins
-origins_by g past (Some rows) event n origins = set_origins g (next_setter past) rows origins
+origins_by g past (Some rows) event n origins = set_origins g (next_setter past event) rows origins
 
 abbrev pub origins_after : Group → List Entry → Entry → ℕ → List Origin → List Origin
 origins_after g past entry n origins = origins_by g past (overlay_of past entry) entry.event n origins

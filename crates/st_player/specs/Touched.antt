@@ -11,7 +11,7 @@ use Rattle.st_net.specs.Groups.{Group, IsEntityOf, no_link}
 use Rattle.st_net.specs.Numbered.{nth}
 use Rattle.st_net.specs.Sets.{IsMarkIn, MarksOf, is_in}
 use Rattle.st_event.specs.declared.event.Event.{Event}
-use Rattle.st_event.specs.declared.event.Event.TheVariants.{Submit, Check, Lock, Unlock, Send, Deliver, Finish, Report as make_report, Hear, Fail}
+use Rattle.st_event.specs.declared.event.Event.TheVariants.{Submit, Check, Lock, Unlock, Send, Deliver, Finish, Report as make_report, Hear, Fail, Withdraw}
 use Rattle.st_event.specs.declared.journal.Entry.{Entry}
 use Rattle.st_event.specs.History.{History}
 use Rattle.st_event.specs.Moments.{commands, reports}
@@ -27,7 +27,7 @@ use Rattle.st_player.specs.Snapshots.{states_of}
 use Rattle.st_player.specs.States.{state_of}
 use Rattle.st_player.specs.Steps.{IsHeld}
 
--- the entity that an event moves: by its locks, in the network, or by what is heard of it
+-- the entity that an event moves where it overlays nothing: by its locks, in the network, or by what is heard of it
 abbrev pub moved_by : Group → List Entry → Event → Option Entity
 moved_by g past (Lock app e prio) = Some e
 moved_by g past (Unlock app e prio) = Some e
@@ -39,6 +39,7 @@ moved_by g past (Submit app rows) = None
 moved_by g past Check = None
 moved_by g past (Send e) = None
 moved_by g past (make_report e) = None
+moved_by g past (Withdraw e) = None
 
 -- whether an entity may be moved
 abbrev pub may_move : Touched → Entity → Bool

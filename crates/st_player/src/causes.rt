@@ -1,7 +1,7 @@
 //! Who set what a page opens with, and which entry failed what has failed there. It is told where a page begins behind entries, and nothing where
 //! there is nothing of it.
 
-ghost use Rattle.std.specs.Prelude.{◌≡◌, ◌++◌, ◌==◌, IfOk, OnOk, flat_map, map, option_map};
+ghost use Rattle.std.specs.Prelude.{◌≡◌, ◌++◌, IfOk, OnOk, flat_map, map, option_map};
 ghost use Rattle.serde_json.specs.View.{view};
 ghost use Rattle.st_net.specs.Groups.{IsEntityOf};
 ghost use Rattle.st_net.specs.InOrder.{entities_of};
@@ -22,7 +22,7 @@ fn set_json(alloc: Global, number: u32, var: u32, setter: Setter) -> Result<Json
     object.put_number("entity", u64::from(number))?;
     object.put_number("var", u64::from(var))?;
     object.put_number("version", u64::from(setter.version))?;
-    object.put_number("app", u64::from(setter.app))?;
+    object.put_number_some("app", setter.app)?;
     Ok(Json::object(object))
 }
 

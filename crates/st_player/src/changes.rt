@@ -24,7 +24,6 @@ use crate::state::State;
 use crate::touched::{Touched, shows_near};
 use crate::turns::{next_network, next_sure};
 use st_net::Entity;
-use st_world::World;
 use std::alloc::{AllocError, Global};
 
 /// Adds what becomes of the entity of this number, where its state differs.

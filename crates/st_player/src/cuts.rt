@@ -1,7 +1,7 @@
 //! The cut that would be left of a promise: what is joined to its far end, and which links about it are left and which are out. It is made
 //! of the sets that a proposal was judged on, and told with its refusal.
 
-ghost use Rattle.std.specs.Prelude.{◌≡◌, ℕ, ◌<◌, ◌^◌, ◌==◌, ◌&&◌, ◌||◌, not, nat_lt, false, true, All, IfOk, IsTrue, length, slice_index_or, slice_set};
+ghost use Rattle.std.specs.Prelude.{◌≡◌, ℕ, ◌<◌, ◌^◌, ◌&&◌, ◌||◌, not, false, true, All, IfOk, length, slice_index_or, slice_set};
 ghost use Rattle.std.specs.List.{list_any};
 ghost use Rattle.st_net.specs.Cuts.{numbers_in};
 ghost use Rattle.st_net.specs.Demands.{pair_of_broken};

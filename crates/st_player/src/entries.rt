@@ -80,7 +80,8 @@ fn named_by(world: &World, event: &Event) -> Option<Entity>
         | Event::Send { entity }
         | Event::Finish { entity }
         | Event::Report { entity }
-        | Event::Fail { entity, .. } => Some(*entity),
+        | Event::Fail { entity, .. }
+        | Event::Withdraw { entity } => Some(*entity),
         Event::Deliver { command } => command_entity(world, *command),
         Event::Hear { report } => report_entity(world, *report),
     }

@@ -1,7 +1,6 @@
 //! The fields of a state as members of an object: all of them where a page begins, and those that differ from before at each entry.
 
 ghost use Rattle.std.specs.Prelude.{◌≡◌, IfOk, OnOk, true};
-ghost use Rattle.serde_json.specs.Data.{no_members, put as put_lem};
 ghost use Rattle.serde_json.specs.View.{view, members_view};
 ghost use Rattle.st_entry.specs.Plain.{is_plain};
 ghost use Rattle.st_player.specs.Json.{put_where};

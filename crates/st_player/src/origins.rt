@@ -4,8 +4,9 @@
 ghost use Rattle.std.specs.Prelude.{◌≡◌, All, length};
 ghost use Rattle.st_net.specs.InOrder.{entity_count};
 ghost use Rattle.st_net.specs.Ranges.{RowFits};
-ghost use Rattle.st_event.specs.Legal.{Fits};
-ghost use Rattle.st_player.specs.Causes.{next_setter as next_setter_lem, var_place};
+ghost use Rattle.st_event.specs.Legal.{Fits, IsNext};
+ghost use Rattle.st_event.specs.Proposals.{pending};
+ghost use Rattle.st_player.specs.Causes.{app_by as app_by_lem, first_app, next_setter as next_setter_lem, var_place};
 ghost use Rattle.st_player.specs.Origins.{failed_origins, no_origin as no_origin_lem, origins_after, set_origins, with_setter as with_setter_lem};
 
 use crate::touched::overlay_of;
@@ -13,11 +14,11 @@ use st_event::{Entry, Event};
 use st_net::{GroupTopo, Row, Var};
 use st_world::World;
 
-/// A version of the target, and the application whose proposal made it.
+/// A version of the target, and the application whose proposal made it; what is withdrawn has none.
 #[derive(Clone, Copy)]
 pub(crate) struct Setter {
     pub(crate) version: u32,
-    pub(crate) app: u32,
+    pub(crate) app: Option<u32>,
 }
 
 /// A failure of an entity: its entry, and the health that it left.
@@ -76,20 +77,36 @@ fn keep_rows(topo: &GroupTopo, origins: &mut [Origin], rows: &[Row], setter: Set
     }
 }
 
-/// What the next entry sets where it overlays the target: its version, and the application whose proposal waits longest.
-fn next_setter(world: &World) -> Setter
-    ensures { result ≡ next_setter_lem world.now.history.past }
+/// The application whose proposal waits longest.
+fn oldest_app(world: &World) -> Option<u32>
+    ensures { result ≡ first_app (pending world.now.history.past) }
+{
+    match world.control().store().oldest() {
+        Some(oldest) => Some(oldest.app.0),
+        None => None,
+    }
+}
+
+/// The application that sets what an event overlays the target with, behind the entries of a world: at a check the one whose proposal
+/// waits longest, at a withdrawal none.
+fn app_by(world: &World, event: &Event) -> Option<u32>
+    ensures { result ≡ app_by_lem event.now (pending world.now.history.past) }
+{
+    match event {
+        Event::Check => oldest_app(world),
+        _ => None,
+    }
+}
+
+/// Who sets what the next entry, of this event, overlays the target with: its version, and the application, where one sets it.
+fn next_setter(world: &World, event: &Event) -> Setter
+    ensures { result ≡ next_setter_lem world.now.history.past event.now }
 {
     world.is_legal();
     let store = world.control().store();
     let version = store.version() + 1;
-    match store.oldest() {
-        Some(oldest) => Setter {
-            version,
-            app: oldest.app.0,
-        },
-        None => Setter { version, app: 0 },
-    }
+    let app = app_by(world, event);
+    Setter { version, app }
 }
 
 /// Keeps the failure of an entity.
@@ -109,14 +126,14 @@ fn keep_failure(topo: &GroupTopo, origins: &mut [Origin], number: u32, event: &E
 
 /// Keeps what the next entry of a legal journal, which has this number, sets or fails, behind the entries of a world.
 pub(crate) fn keep_origins(world: &World, origins: &mut [Origin], number: u32, entry: &Entry)
-    requires fits { Fits world.now.history.group entry.now.event }
+    requires next { IsNext world.now.history.group world.now.history.past entry.now }
     requires count { length origins.old ≡ entity_count world.now.history.group }
     ensures { origins.new ≡ origins_after world.now.history.group world.now.history.past entry.now number origins.old }
 {
     world.is_legal();
     let topo = world.control().topo();
     match overlay_of(world, entry) {
-        Some(rows) => keep_rows(topo, origins, rows, next_setter(world)),
+        Some(rows) => keep_rows(topo, origins, rows, next_setter(world, &entry.event)),
         None => keep_failure(topo, origins, number, &entry.event),
     }
 }

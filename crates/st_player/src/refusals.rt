@@ -1,6 +1,6 @@
 //! What is told of a refusal: what its receipt names and, of a promise that would break, the cut that would be left.
 
-ghost use Rattle.std.specs.Prelude.{◌≡◌, ◌<◌, All, IfOk, OnOk, length};
+ghost use Rattle.std.specs.Prelude.{◌≡◌, All, IfOk, OnOk};
 ghost use Rattle.serde_json.specs.View.{view, members_view};
 ghost use Rattle.st_net.specs.InOrder.{place_in};
 ghost use Rattle.st_net.specs.Ranges.{RowFits};

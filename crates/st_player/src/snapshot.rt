@@ -11,7 +11,6 @@ use crate::playback::Playback;
 use crate::state::State;
 use st_control::Control;
 use st_net::EntitySet;
-use st_world::World;
 use std::alloc::{AllocError, Global};
 
 /// A set of entities that are up, whether each promise holds in it, and whether all do.

@@ -3,8 +3,7 @@
 
 ghost use Rattle.std.specs.Prelude.{◌≡◌, Some, None};
 ghost use Rattle.st_net.specs.Groups.{IsEntityOf};
-ghost use Rattle.st_event.specs.Agents.{agent_of};
-ghost use Rattle.st_event.specs.Observed.{actual, observed as observed_lem, sure};
+ghost use Rattle.st_event.specs.Observed.{observed as observed_lem, sure};
 ghost use Rattle.st_event.specs.Moments.{stamp as stamp_lem};
 ghost use Rattle.st_event.specs.Proposals.{target as target_lem};
 ghost use Rattle.st_net.specs.Merge.{vals_in};

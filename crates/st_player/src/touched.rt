@@ -92,12 +92,16 @@ pub(crate) fn report_entity(world: &World, report: u32) -> Option<Entity>
     }
 }
 
-/// The entity that an event moves, where it moves one.
+/// The entity that an event moves where it overlays nothing, if it moves one.
 fn moved_by(world: &World, event: &Event) -> Option<Entity>
     ensures { result ≡ moved_by_lem world.now.history.group world.now.history.past event.now }
 {
     match event {
-        Event::Submit { .. } | Event::Check | Event::Send { .. } | Event::Report { .. } => None,
+        Event::Submit { .. }
+        | Event::Check
+        | Event::Send { .. }
+        | Event::Report { .. }
+        | Event::Withdraw { .. } => None,
         Event::Lock { entity, .. }
         | Event::Unlock { entity, .. }
         | Event::Finish { entity }
@@ -126,6 +130,7 @@ pub(crate) fn overlay_of<'a>(world: &'a World, entry: &'a Entry) -> Option<&'a [
             Verdict::Accepted { .. } => Some(oldest_rows(world)),
             Verdict::Refused(_) => None,
         },
+        (Event::Withdraw { .. }, Reply::Withdrawn { rows, .. }) => Some(rows.as_slice()),
         _ => None,
     }
 }

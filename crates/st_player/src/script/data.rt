@@ -34,7 +34,7 @@ function unfold(group) {
   group.lostCount = { network: [opening.network.lost.length], sure: [opening.sure.lost.length] };
   group.receipts = [];
   group.failures = group.names.map(() => []);            // of each entity its fail entries, as { at, health, was, set }
-  group.orders = group.names.map(() => []);              // and the accepted proposals that changed or renewed its target, as { at, app, rows, version }
+  group.orders = group.names.map(() => []);              // and the versions that changed or renewed its target, as { at, app, rows, version }
   const { set = [], failed = [] } = opening.causes || {};   // what lies before the page has no entry here to go to
   group.failedBefore = group.names.map((_, e) => failed.filter(cause => cause.entity === e).map(cause => ({ at: cause.entry, isBefore: true })));
   for (const { entity, var: k, version, app } of set) group.orders[entity].push({ at: first, isBefore: true, app: run.apps[app], version,
@@ -47,8 +47,9 @@ function unfold(group) {
     entry.kind = entry.words[0];
     entry.verdict = entry.kind === "check" && reply[0] === "receipt" ? reply[2] : null;
     entry.app = ["submit", "lock", "unlock"].includes(entry.kind) ? entry.words[1] : entry.verdict && ask ? ask[1] : null;
-    if (entry.verdict === "accepted") for (const { entity, ...now } of entry.set || []) if ("stamp" in now)
-      group.orders[entity].push({ at, app: entry.app, rows: ask ? ask.slice(2, ask.indexOf(":")) : [], version: reply[3] });
+    const laid = entry.verdict === "accepted" ? { rows: ask ? ask.slice(2, ask.indexOf(":")) : [], version: reply[3] }
+      : reply[0] === "withdrawn" ? { rows: reply.slice(2), version: reply[1] } : null;
+    if (laid) for (const { entity, ...now } of entry.set || []) if ("stamp" in now) group.orders[entity].push({ at, app: entry.app, ...laid });
     if (entry.kind === "fail") {
       const [e] = entry.on, past = group.entities[e];
       group.failures[e].push({ at, health: +entry.words[2], was: health[e], real: past[past.length - 1].is.real });

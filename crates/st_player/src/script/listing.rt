@@ -5,12 +5,12 @@ pub(crate) const LISTING: &str = r###"// ---- the list of all entries, and what 
 
 const KINDS = {
   proposals: entry => entry.kind === "submit", receipts: entry => entry.verdict !== null, accepted: entry => entry.verdict === "accepted", refused: entry => entry.verdict === "refused",
-  locks: entry => entry.kind === "lock" || entry.kind === "unlock", commands: entry => ["send", "deliver", "finish"].includes(entry.kind), reports: entry => entry.kind === "report" || entry.kind === "hear",
+  withdrawn: entry => entry.kind === "withdraw" && entry.words[3] === "withdrawn", locks: entry => entry.kind === "lock" || entry.kind === "unlock", commands: entry => ["send", "withdraw", "deliver", "finish"].includes(entry.kind), reports: entry => entry.kind === "report" || entry.kind === "hear",
   failures: entry => entry.kind === "fail", "promises lost or back": entry => "network" in entry || "sure" in entry,
 };
 const ROW = 22, NOBODY = "\u0000";
 const wanted = { group: null, app: "", kind: "", entity: "", list: [], short: new Map() };
-const whoOf = entry => wanted.short.get(entry.app) || { check: "checker", send: "updater", deliver: "network", finish: "network", report: "network", hear: "monitor", fail: "network" }[entry.kind];
+const whoOf = entry => wanted.short.get(entry.app) || { check: "checker", send: "updater", withdraw: "updater", deliver: "network", finish: "network", report: "network", hear: "monitor", fail: "network" }[entry.kind];
 function briefOf(n) {
   const entry = entryAt(n), w = entry.words, r = w.slice(w.indexOf(":") + 1), name = entry.on ? group.names[entry.on[0]] : "";
   switch (entry.kind) {
@@ -19,6 +19,7 @@ function briefOf(n) {
     case "lock": return r[0] === "granted" ? `takes ${w[3]} lock of ${w[2]}` : `${w[3]} lock of ${w[2]}: ${r[1]} has it`;
     case "unlock": return r[0] === "released" ? `gives back ${w[3]} lock of ${w[2]}` : `${w[3]} lock of ${w[2]}: not its own`;
     case "send": return r[0] === "sent" ? `command ${r[1]} to ${name}` : r[0] === "settled" ? `${name} is settled` : `${name}: ${was(r[1])} is barred`;
+    case "withdraw": return r[0] === "withdrawn" ? `\u21a9 version ${r[1]}: ${rowsText(r.slice(2))}` : `${name}: nothing is withdrawn`;
     case "deliver": return r[0] === "begun" ? `command ${w[1]}: ${name} begins` : r[0] === "stale" ? `command ${w[1]}: ${name} passes it over` : `no command ${w[1]}`;
     case "finish": return r[0] === "done" ? `${name} finishes` : `${name}: nothing to finish`;
     case "report": return `${name} sends report ${r[1]}`;

@@ -42,6 +42,7 @@ const SAY = {
   report: (w, r) => `${w[1]} sends report ${r[1]} of what it is.`,
   hear: (w, r, name) => r[0] === "taken" ? `Report ${w[1]} is heard: it is now what is known of ${name}.` : r[0] === "old" ? `Report ${w[1]} of ${name} is heard again or late, and is passed over.` : `Report ${w[1]} doesn't exist.`,
   fail: (w, r, name, ask, entry, n) => failWords(entry.on[0], n, w),
+  withdraw: (w, r) => r[0] === "withdrawn" ? `What was asked of ${w[1]} can't be set any more, and is withdrawn: ${rowsText(r.slice(2))}, as it was heard last. It is version ${r[1]} of the target.` : `Nothing is withdrawn of ${w[1]}: it is as it was asked to be, or what was asked can be set.`,
 };
 const entryAt = n => group.entries[n - group.first - 1];
 function askedBy(entry) {                                // the words of the submit that a check decides, where this page has it
@@ -69,7 +70,7 @@ function pairText(p) { return group.promises[p].ends.map(d => group.names[d]).jo
 
 const wordsOf = e => WORDS[kindOf(group, e)];
 const lastOf = (list, n) => list.findLast(one => one.at <= n);
-function orderOf(e, n, k) {                              // the newest accepted proposal that sets a variable of it to its target
+function orderOf(e, n, k) {                              // the newest version that sets a variable of it to its target
   const row = `${group.names[e]}.${wordsOf(e)[k]}=${valueAt(group.entities[e], n).target[k]}`;
   return lastOf(group.orders[e].filter(order => order.rows.includes(row)), n);
 }

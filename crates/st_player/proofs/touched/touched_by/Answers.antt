@@ -7,8 +7,8 @@ use Rattle.st_player.proofs.touched.touched_by.Goals as goal
 pub altered-requires : goal.altered-requires
 altered-requires c =
     let h = c.args.world.now.history in
-    let entry = c.args.entry.now in
-    overlay_fits h.group h.past entry.event entry.reply c.in-Some.rows.now c.is_legal.ensures.legal (sym c.overlay_of.ensures ∙ ap option_copied c.in-Some.is)
+    let laid = sym c.overlay_of.ensures ∙ ap option_copied c.in-Some.is in
+    overlay_fits h.group h.past c.args.entry.now c.in-Some.rows.now c.is_legal.ensures.sound c.is_legal.ensures.legal c.requires laid
 
 pub returns-in-Some : goal.returns-in-Some
 returns-in-Some c =

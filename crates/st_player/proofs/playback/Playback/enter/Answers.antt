@@ -1,9 +1,9 @@
 use Rattle.std.proofs.Common.{◌≡◌, ◌∙◌, ℕ, ◌+◌, ◌<◌, List, ◌++◌, drop, take, length, ap, ap₂, sym, subst, arith}
 use Rattle.std.specs.Prelude.{All}
-use Rattle.st_net.specs.Groups.{Group}
+use Rattle.st_net.specs.Groups.{Group, IsSound}
 use Rattle.st_event.specs.declared.journal.TheConstants.{MAX_ENTRIES}
 use Rattle.st_event.specs.History.{History, with_entry}
-use Rattle.st_event.specs.Legal.{Fits, IsLegal}
+use Rattle.st_event.specs.Legal.{IsLegal, IsNext}
 use Rattle.st_player.specs.declared.playback.Told.{Told}
 use Rattle.st_world.specs.declared.world.World.{World}
 use Rattle.st_player.specs.Entries.{askers_after}
@@ -26,7 +26,7 @@ invariant_of-result c =
     let entry = c.args.entry.now in
     let old = c.self.inside.told.items in
     let new = c.keep_told.new.told in
-    let fits : Fits h.group entry.event = subst (λ (k : History). Fits k.group entry.event) (sym c.self.view_is) c.requires.fits in
+    let next : IsNext h.group h.past entry = subst (λ (k : History). IsNext k.group k.past entry) (sym c.self.view_is) c.requires in
     let long : c.self.inside.told.len ≡ length new = (let a = c.keep_told.auto.told in let b = c.as_mut_slice.ensures.len in omega (arith, a, b)) in
     let told : take c.self.inside.told.len (new ++ drop (length new) old) ≡ told_after h.group entry.event old =
     take_front c.self.inside.told.len new (drop (length new) old) long
@@ -38,6 +38,7 @@ invariant_of-result c =
     let makers = c.self.inside.makers.items in
     let made = c.in_ok-keep_maker.ensures ∙ ap (λ (n : ℕ). makers_after entry.event (n + 1) makers) count in
     let legal : IsLegal h.group h.past = subst (λ (w : World). IsLegal w.history.group w.history.past) c.deref-2.ensures c.is_legal.ensures.legal in
+    let sound : IsSound h.group = subst (λ (w : World). IsSound w.history.group) c.deref-2.ensures c.is_legal.ensures.sound in
     let since = c.self.inside.since.items in
     let since_now = c.keep_since.new.since in
     let wide : c.self.inside.since.len ≡ length since_now = (let a = c.keep_since.auto.since in let b = c.as_mut_slice-2.ensures.len in omega (arith, a, b)) in
@@ -55,5 +56,5 @@ invariant_of-result c =
     ∙ ap (λ (w : World). origins_after w.history.group w.history.past entry (c.entries-number.result + 1) c.as_mut_slice-3.result.now) c.deref-5.ensures
     ∙ ap (λ (n : ℕ). origins_after h.group h.past entry (n + 1) c.as_mut_slice-3.result.now) count
     ∙ ap (origins_after h.group h.past entry (length h.past + 1)) c.as_mut_slice-3.ensures.value in
-    playback_next h c.enter_legal.new.world.history old _ c.self.inside.askers.items c.keep_asker.new.askers.items makers c.keep_maker.new.makers.items since _ origins _ entry c.self.invariant legal fits told asked made known came
+    playback_next h c.enter_legal.new.world.history old _ c.self.inside.askers.items c.keep_asker.new.askers.items makers c.keep_maker.new.makers.items since _ origins _ entry c.self.invariant sound legal next told asked made known came
     (c.in_ok-enter_legal.ensures ∙ ap (λ (w : World). with_entry w.history entry) c.deref_mut.ensures.value)
