@@ -163,6 +163,24 @@ fn commands_have_their_words(rt: HostRuntime) -> Result<(), Fail> {
     prints(rt.alloc(), &entries, text)
 }
 
+fn withdraw() -> Event {
+    Event::Withdraw { entity: A1 }
+}
+
+#[test]
+fn withdrawals_have_their_words(rt: HostRuntime) -> Result<(), Fail> {
+    let rows = Rows::from_slice(rt.alloc(), &[FIRMWARE])?;
+    let entries = [
+        entry(withdraw(), Reply::Withdrawn { version: 2, rows }),
+        entry(withdraw(), Reply::Kept),
+    ];
+    let text = "\
+7 withdraw a1 : withdrawn 2 a1.firmware=2
+7 withdraw a1 : kept
+";
+    prints(rt.alloc(), &entries, text)
+}
+
 fn report() -> Event {
     Event::Report { entity: A1 }
 }

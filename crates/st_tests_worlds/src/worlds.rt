@@ -22,12 +22,13 @@ const TE: AppId = AppId(0);
 
 const UP: AppId = AppId(1);
 
-const OPENING: [Step; 5] = [
+const OPENING: [Step; 6] = [
     Step::Told(Deed::Check, "idle"),
     Step::Told(Deed::Send(A1), "settled"),
     Step::Told(Deed::Deliver(1), "nosuch 0"),
     Step::Told(Deed::Hear(0), "nosuch 0"),
     Step::Told(Deed::Unlock(TE, A1), "notyours -"),
+    Step::Told(Deed::Withdraw(A1), "kept"),
 ];
 
 #[test]

@@ -52,6 +52,9 @@ pub const ENTRIES: &str = "\
 2 Count:1 check : receipt 1 refused level a1.power=1 of a1 has 1 needs
 2 Count:1 check : receipt 1 refused locked a1 up
 2 Count:1 check : receipt 1 refused broken t1 t2 cutoff need 10 has 0 side
+2 Count:1 withdraw : kept
+2 Count:1 withdraw a1 : kept 1
+2 Count:1 withdraw a1 : withdrawn 1
 2 Count:1 foo : granted x
 2 Count:1 check : granted x
 2 Count:2 check : idle 1
@@ -68,6 +71,8 @@ pub const ENTRIES: &str = "\
 2 Value:1 hear 1 : begun
 2 Value:1 deliver 1 : taken
 2 Value:1 lock up a1 low : released
+2 Value:1 withdraw a1 : settled
+2 Value:1 send a1 : kept
 2 Value:1 Check : idle
 2 Unknown:1 submit xy a1.power=1 : queued 1
 2 Name:1 submit 1y a1.power=1 : queued 1
@@ -100,6 +105,14 @@ pub const ENTRIES: &str = "\
 2 Value:1 fail a2 5 firmware=x power=1 config=1 routing=1 : changed
 2 Number:1 fail a2 5 power=1 firmware=2=3 config=1 routing=1 : changed
 2 Value:1 fail l1 1 power=1 firmware=1 : changed
+2 Unknown:1 withdraw b1 : kept
+2 Number:1 withdraw a1 : withdrawn x a2.firmware=1
+2 Unknown:1 withdraw a1 : withdrawn 2 b1.firmware=1
+2 Number:1 withdraw a1 : withdrawn 2 a2.firmware=x
+2 Value:1 withdraw a1 : withdrawn 2 a2.firmware=1
+2 Value:1 withdraw a1 : withdrawn 2 a1.firmware=1 a1.power=1
+2 Value:1 withdraw a1 : withdrawn 2 a1.firmware=1 a1.firmware=2
+2 Value:1 withdraw a1 : withdrawn 2 a1.power=1 a1.firmware=1 a1.config=1 a1.routing=1 a1.power=1
 2 Number:1 check : receipt x accepted 1
 2 Number:1 check : receipt x maybe 1
 2 Value:1 check : receipt 1 maybe 1

@@ -31,6 +31,9 @@ journal dc1
 26 hear 9 : nosuch 1
 27 fail a2 0 power=1 firmware=1 config=1 routing=0 : changed
 28 fail l4 1 power=0 iface=7 : changed
+29 withdraw a1 : withdrawn 2 a1.firmware=1 a1.routing=0
+30 withdraw l1 : withdrawn 4294967295 l1.power=1
+31 withdraw a1 : kept
 journal dc2
 journal dc3
 1 check : idle

@@ -19,6 +19,7 @@ fn word_of(reply: &Reply) -> &'static str {
         Reply::Done => "done",
         Reply::Taken => "taken",
         Reply::Changed => "changed",
+        Reply::Kept => "kept",
         _ => "other",
     }
 }

@@ -24,6 +24,7 @@ pub enum Deed {
     Fail(u32, u32),
     /// A firmware of the first switch is proposed.
     Submit(u32),
+    Withdraw(Entity),
 }
 
 /// One step of a course.
@@ -90,6 +91,7 @@ fn event(alloc: Global, deed: Deed) -> Result<Event, Fail> {
         Deed::Hear(report) => Event::Hear { report },
         Deed::Fail(value, health) => fail(value, health),
         Deed::Submit(value) => firmware(alloc, A1, value)?,
+        Deed::Withdraw(entity) => Event::Withdraw { entity },
     })
 }
 
