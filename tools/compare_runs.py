@@ -2,8 +2,9 @@
 """Compares two reports, as text or as JSON: `python3 tools/compare_runs.py one.txt other.json`.
 
 What two runs of a document decide may come in another order, so proposals, requests of locks and reads are compared by their application
-and their number there, each group by itself. The order shows in ticket numbers, versions, lengths of journals and counts of messages,
-and these are compared with --numbers alone. The status is 0 where nothing differs, 1 where something does, and 2 for bad input.
+and their number there, and withdrawals by their entity, each group by itself. The order shows in ticket numbers, versions, lengths of
+journals and counts of messages, and these are compared with --numbers alone. The status is 0 where nothing differs, 1 where something
+does, and 2 for bad input.
 """
 
 import argparse
@@ -71,6 +72,7 @@ def group_facts(group, with_numbers):
     name = group["name"]
     yield from receipt_facts(name, group["receipts"], with_numbers)
     yield from lock_facts(name, group["locks"])
+    yield from withdrawal_facts(name, group["withdrawn"], with_numbers)
     for assignment in group["targets"]:
         variable, _, value = assignment.partition("=")
         yield "%s target %s" % (name, variable), value
@@ -97,6 +99,15 @@ def receipt_facts(name, receipts, with_numbers):
         yield proposal, " ".join(told)
         if with_numbers:
             yield proposal + " ticket", ticket
+
+
+def withdrawal_facts(name, withdrawals, with_numbers):
+    counts = {}
+    for line in withdrawals:
+        rows = line.partition(" ")[2]
+        entity = rows.partition(".")[0]
+        counts[entity] = counts.get(entity, 0) + 1
+        yield "%s %s withdrawal %d" % (name, entity, counts[entity]), line if with_numbers else rows
 
 
 def lock_facts(name, locks):

@@ -10,6 +10,7 @@ the document, does its scripts by `serial`, and is asked for single proposals.
   lock      an application has a lock in the end
   again     an application proposes on a group again without a settle in between
   unsettled an entity is unsettled in the end
+  withdrawn what an entity was to become could not be set any more, and was withdrawn
   full      a journal is full, so the scripts are not done to the end
 """
 
@@ -25,7 +26,7 @@ from operators.sentences import cause_words  # noqa: E402
 from operators.documents import read_document, text_of  # noqa: E402
 from operators.reports import read_report  # noqa: E402
 
-NAMES = ("opening", "tor", "lock", "again", "unsettled", "full")
+NAMES = ("opening", "tor", "lock", "again", "unsettled", "withdrawn", "full")
 
 
 def main():
@@ -69,7 +70,7 @@ def warnings(options, data):
         found.append((group.line, "full", "the journal of group %s is full, so the scripts are not done to the end" % group.name))
     else:
         report = read_report("the report", answer.text)
-        found += [*kept_locks(document, report), *unsettled(document, report)]
+        found += [*kept_locks(document, report), *unsettled(document, report), *withdrawn(document, report)]
     return [warning for warning in found if warning[1] not in options.without]
 
 
@@ -153,12 +154,24 @@ def proposed_again(document):
 
 
 def unsettled(document, report):
-    """The entities that are unsettled in the end, each with the last line of a script that proposes or fails it."""
+    """The entities that are unsettled in the end."""
     for told in report["groups"]:
         for entity in told["unsettled"]:
-            lines = [line for line, words in commands_of(document) if names_entity(words, told["name"], entity)]
-            line = max(lines, default=document.groups[told["name"]].line)
-            yield line, "unsettled", "%s of group %s is unsettled in the end" % (entity, told["name"])
+            yield line_of(document, told["name"], entity), "unsettled", "%s of group %s is unsettled in the end" % (entity, told["name"])
+
+
+def withdrawn(document, report):
+    """The entities of which something was withdrawn."""
+    for told in report["groups"]:
+        for entity in dict.fromkeys(line.split(" ")[1].partition(".")[0] for line in told["withdrawn"]):
+            words = "what %s of group %s was to become could not be set any more, and was withdrawn" % (entity, told["name"])
+            yield line_of(document, told["name"], entity), "withdrawn", words
+
+
+def line_of(document, group, entity):
+    """The last line of a script that proposes or fails an entity, else that of its group."""
+    lines = [line for line, words in commands_of(document) if names_entity(words, group, entity)]
+    return max(lines, default=document.groups[group].line)
 
 
 def commands_of(document):

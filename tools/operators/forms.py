@@ -73,6 +73,7 @@ EVENTS = {
     "submit": ("queued", "full"), "check": ("receipt", "idle"), "lock": ("granted", "held"), "unlock": ("released", "notyours"),
     "send": ("sent", "settled", "blocked"), "deliver": ("begun", "stale", "nosuch"), "finish": ("done", "notbusy"),
     "report": ("reported",), "hear": ("taken", "old", "nosuch"), "fail": ("changed",),
+    "withdraw": ("withdrawn", "kept"),
 }
 
 

@@ -12,11 +12,12 @@ SCHEMA = os.path.join(os.path.dirname(os.path.dirname(os.path.dirname(os.path.ab
 # The lines of a group in order, each with the key that it has in JSON.
 KEYS = {
     "group": "name", "version": "version", "entries": "entries", "lock": "locks", "unlock": "locks", "receipt": "receipts",
+    "withdrawn": "withdrawn",
     "target": "targets", "unsettled": "unsettled", "wire": "wire", "promises": "promises", "lost": "lost",
 }
 PLACES = {word: place for place, word in enumerate(KEYS)}
 PLACES["unlock"] = PLACES["lock"]
-LISTS = ("locks", "receipts", "targets", "unsettled", "lost")
+LISTS = ("locks", "receipts", "withdrawn", "targets", "unsettled", "lost")
 
 
 def read_report(path, data):

@@ -30,7 +30,7 @@ def journals_of(path, data):
 
 
 # In which place of an event's words the entity stands that it is about.
-ENTITY_PLACES = {"send": 1, "finish": 1, "report": 1, "fail": 1, "lock": 2, "unlock": 2}
+ENTITY_PLACES = {"send": 1, "withdraw": 1, "finish": 1, "report": 1, "fail": 1, "lock": 2, "unlock": 2}
 
 
 class Messages:

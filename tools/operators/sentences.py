@@ -42,6 +42,8 @@ def sentence(entry, messages):
         return lock_words(event, reply)
     if word == "send":
         return send_words(event, reply)
+    if word == "withdraw":
+        return withdraw_words(event, reply)
     if word == "deliver":
         return deliver_words(event, reply, messages.entity_of(entry))
     if word == "finish":
@@ -91,6 +93,13 @@ def send_words(event, reply):
     if reply[0] == "settled":
         return "%s is settled, so nothing is sent to it." % event[1]
     return "Nothing is sent to %s: by what is known, %s can't be set now." % (event[1], reply[1].replace("=", " = "))
+
+
+def withdraw_words(event, reply):
+    if reply[0] == "kept":
+        return "Nothing is withdrawn of %s: it is as it was asked to be, or what was asked can be set." % event[1]
+    return "What was asked of %s can't be set any more, and is withdrawn: %s, as it was heard last. It is version %s of the target." % (
+        event[1], rows_words(reply[2:]), reply[1])
 
 
 def deliver_words(event, reply, name):

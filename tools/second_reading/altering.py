@@ -7,8 +7,8 @@ from broken_lines import (
 from document import Row
 from journal import (
     Accepted, Begun, Blocked, Check, Decided, Deliver, Done, Entry, Fail, Finish, Full, Granted, Hear, Held, Idle, IsLocked,
-    LacksLevel, LacksPower, Lock, NoSuch, NotBusy, NotYours, Old, Queued, Released, Report, Reported, Send, Sent, Settled, Stale,
-    Submit, Taken, Unlock, WouldBreak,
+    Kept, LacksLevel, LacksPower, Lock, NoSuch, NotBusy, NotYours, Old, Queued, Released, Report, Reported, Send, Sent, Settled, Stale,
+    Submit, Taken, Unlock, Withdraw, Withdrawn, WouldBreak,
 )
 from promises import Break
 from texts import GREATEST_NUMBER
@@ -55,8 +55,16 @@ class ReplyMaker:
     def row(self):
         entity = self.entity()
         variable = self.chance.randrange(len(entity.variables()))
+        return Row(entity, variable, self.value_of(entity, variable))
+
+    def value_of(self, entity, variable):
         is_switch = entity.variables()[variable] in ("power", "routing")
-        return Row(entity, variable, self.pick((0, 1) if is_switch else (0, 1, 2, 3, GREATEST_NUMBER)))
+        return self.pick((0, 1) if is_switch else (0, 1, 2, 3, GREATEST_NUMBER))
+
+    def rows_of(self, entity):
+        """One row or more of an entity, in the order of variables."""
+        places = self.chance.sample(range(len(entity.variables())), self.chance.randint(1, len(entity.variables())))
+        return tuple(Row(entity, place, self.value_of(entity, place)) for place in sorted(places))
 
     def reply(self, entry):
         event, reply = entry
@@ -77,6 +85,8 @@ class ReplyMaker:
             return self.pick((Done(), NotBusy()))
         if isinstance(event, Hear):
             return self.pick((Taken(), Old(number), NoSuch(number)))
+        if isinstance(event, Withdraw):
+            return self.pick((Kept(), Withdrawn(number, self.rows_of(event.entity))))
         assert isinstance(event, Report)
         return Reported(number)
 
@@ -153,9 +163,9 @@ WAYS = (other_token, other_token, token_of_another_line, token_of_another_line, 
         swapped_tokens, swapped_tokens, number_at_its_end, line_again, line_left_out, line_moved)
 
 ODD_TOKENS = (
-    ":", "::", "journal", "submit", "check", "lock", "unlock", "send", "deliver", "finish", "report", "hear", "fail", "queued", "full",
+    ":", "::", "journal", "submit", "check", "lock", "unlock", "send", "deliver", "finish", "report", "hear", "fail", "withdraw", "queued", "full",
     "receipt", "idle", "granted", "held", "released", "notyours", "sent", "settled", "blocked", "begun", "stale", "nosuch", "done",
-    "notbusy", "reported", "taken", "old", "changed", "accepted", "refused", "level", "of", "has", "needs", "off", "locked", "broken",
+    "notbusy", "reported", "taken", "old", "changed", "withdrawn", "kept", "accepted", "refused", "level", "of", "has", "needs", "off", "locked", "broken",
     "cutoff", "short", "need", "side", "-", "#", "1", "0", "up", "te", "a1", "t1", "l1",
 )
 

@@ -8,9 +8,9 @@ from typing import NamedTuple
 
 from document import Await, BreakDown, Poll, Propose, Read, ReadAt, ReturnLock, Settle, TakeLock
 from journal import (
-    Accepted, Decided, Deliver, Fail, Finish, Hear, Lock, Queued, Report, Send, Sent, Submit, Unlock, event_text,
+    Accepted, Decided, Deliver, Fail, Finish, Hear, Lock, Queued, Report, Send, Sent, Submit, Unlock, Withdraw, event_text,
 )
-from scripts import Seen, arrivals
+from scripts import Seen, arrivals, is_blocked_change
 from standing import Standing
 
 
@@ -22,18 +22,17 @@ class Wrong(NamedTuple):
 
 
 class History:
-    """What the points on logs take from a group's journal: each ticket's application and rows, and which were accepted."""
+    """What the points on logs take from a group's journal: each ticket's application and rows, which were accepted, and the overlays."""
 
-    def __init__(self, group, proposals, are_accepted):
-        self.group, self.proposals, self.are_accepted = group, proposals, are_accepted
-        self.accepted = [rows for (_, rows), is_accepted in zip(proposals, are_accepted) if is_accepted]
+    def __init__(self, group, proposals, are_accepted, overlays):
+        self.group, self.proposals, self.are_accepted, self.overlays = group, proposals, are_accepted, overlays
 
     def version(self):
-        return len(self.accepted)
+        return len(self.overlays)
 
     def value_at(self, version, entity, variable):
-        """The value of a variable in the merge of the first `version` accepted proposals."""
-        for rows in reversed(self.accepted[:version]):
+        """The value of a variable in the merge of the first `version` overlays."""
+        for rows in reversed(self.overlays[:version]):
             for row in rows:
                 if (row.entity, row.variable) == (entity, variable):
                     return row.value
@@ -49,18 +48,21 @@ class Journal:
     def __init__(self, number, group, entries):
         self.number, self.group, self.entries = number, group, entries
         self.decided_at = [place for place, entry in enumerate(entries, 1) if isinstance(entry.reply, Decided)]
-        self.settled_until, self.values_before = {}, {}
+        self.settled_until, self.values_before, self.blocked_changes = {}, {}, set()
         self.go_through(Standing(number, group))
 
     def go_through(self, standing):
-        """Keeps for each entity the length of the longest prefix behind which it is settled, and values before failures."""
+        """Keeps for each entity the length of the longest prefix behind which it is settled, values before failures, and overlays."""
         self.look_what_is_settled(standing)
         for place, (event, reply) in enumerate(self.entries, 1):
             if isinstance(event, Fail):
                 self.values_before[place] = standing.agents[event.entity].values
+            if isinstance(event, Send) and is_blocked_change(standing, event.entity, reply):
+                self.blocked_changes.add(place)
             entered = standing.enter(event)
             assert entered == reply, "entry %d of %s is not legal" % (place, self.group.name)
             self.look_what_is_settled(standing)
+        self.overlays = standing.overlays
 
     def look_what_is_settled(self, standing):
         for entity in standing.entities:
@@ -70,7 +72,7 @@ class Journal:
     def history(self):
         proposals = [(event.application, event.rows) for event, reply in self.entries if isinstance(reply, Queued)]
         verdicts = [reply.verdict for _, reply in self.entries if isinstance(reply, Decided)]
-        return History(self.group, proposals, [isinstance(verdict, Accepted) for verdict in verdicts])
+        return History(self.group, proposals, [isinstance(verdict, Accepted) for verdict in verdicts], self.overlays)
 
     def requests_of(self, application):
         """The entries that name an application, each by its number."""
@@ -98,6 +100,8 @@ class Journal:
             return False
         reply = self.entries[place - 1].reply
         middle = self.arrivals("command", Deliver, reply.number) if isinstance(reply, Sent) else []
+        if place in self.blocked_changes:
+            middle.append(Withdraw(entity))
         middle.append(Finish(entity))
         return self.stand_at(place + 1, middle) and self.is_poll(place + 1 + len(middle), entity)
 

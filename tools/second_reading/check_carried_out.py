@@ -14,7 +14,7 @@ sys.dont_write_bytecode = True
 from carried_out import wrong  # noqa: E402
 from document import Await, Read, Settle  # noqa: E402
 from edges import NETWORK, text_of  # noqa: E402
-from journal import MOST_PENDING, Check, Deliver, Fail, Finish, Hear, Lock, Report, Send, Submit, Unlock  # noqa: E402
+from journal import MOST_PENDING, Check, Deliver, Fail, Finish, Hear, Lock, Report, Send, Submit, Unlock, Withdraw  # noqa: E402
 from judging_reports import wrong_in_report  # noqa: E402
 from most import most, share  # noqa: E402
 from random_documents import random_document  # noqa: E402
@@ -118,8 +118,9 @@ def rows_of(line):
 
 FIRST, SECOND = rows_of("a1.firmware=2"), rows_of("a1.firmware=3")
 TURN = (Send(A1), Deliver(1), Finish(A1), Report(A1), Hear(1))
-# A turn of an entity that can't take its target.
+# A turn of an entity that can't take its target, which it has; and one that withdraws what it has not.
 BLOCKED = (Send(A1), Finish(A1), Report(A1))
+WITHDRAWN = (Send(A1), Withdraw(A1), Finish(A1), Report(A1))
 
 
 def seen(version, value):
@@ -222,13 +223,14 @@ def turns():
     late = Script("hold dc1 report 1 3", *propose, "settle dc1 1")
     yield "a turn whose report is late", late, before + list(TURN[:-1]), none, set()
     yield "a turn whose command is not delivered", late, before + [TURN[0]] + list(TURN[2:-1]), none, {"settles all"}
-    blocked = Script("app up", "propose dc1 a1.firmware=2", "await dc1", "fail dc1 a1 1", "poll dc1 a1", "settle dc1 2")
-    fault = before + [Fail(A1, 1, (1, 1, 1, 1)), Report(A1), Hear(1)]
-    one, two = list(BLOCKED) + [Hear(2)], list(BLOCKED) + [Hear(3)]
+    blocked = Script("app up", "propose dc1 a1.firmware=2", "await dc1", "fail dc1 a1 0", "poll dc1 a1", "settle dc1 2")
+    fault = before + [Fail(A1, 0, (1, 1, 1, 1)), Report(A1), Hear(1)]
+    one, two = list(WITHDRAWN) + [Hear(2)], list(BLOCKED) + [Hear(3)]
     yield "two turns that are blocked", blocked, fault + one + two, none, set()
     yield "one turn that is blocked", blocked, fault + one, none, {"settles all"}
+    yield "one that does not withdraw", blocked, fault + list(BLOCKED) + [Hear(2)] + list(WITHDRAWN) + [Hear(3)], none, {"settles all"}
     yield "one that is blocked, with Send twice", blocked, fault + [Send(A1)] + one, none, {"settles all"}
-    yield "turns before the decision that is awaited", blocked, [Submit(UP, FIRST)] + list(one[:3]) + [Hear(1), Check()], none, \
+    yield "turns before the decision that is awaited", blocked, [Submit(UP, FIRST)] + list(BLOCKED) + [Hear(1), Check()], none, \
         {"settles all", "fails as asked"}
     later = Script("drop dc1 command 1", *propose, "lock dc1 a2 low", "settle dc1 1")
     yield "a turn behind all requests", later, before + [Lock(UP, A2, "low")] + list(first), none, set()
@@ -368,11 +370,11 @@ def with_line(line, other):
 
 
 def check_most():
-    """docs/DEFINITIONS.md: 1 of a lock, 120 of a settle of 2 rounds on the 8 entities, 3 of a proposal, 64 of an await."""
+    """docs/DEFINITIONS.md: 1 of a lock, 144 of a settle of 2 rounds on the 8 entities, 3 of a proposal, 64 of an await."""
     script = Script("app up", "lock dc1 a1 low", "settle dc1 2", "propose dc1 a1.firmware=2", "await dc1", "read dc1 a1.firmware")
     shares = [share(GROUP, command) for command in script.document.applications[0].commands]
-    assert shares == [1, 120, 3, 64, 0], shares
-    assert most(script.document, 0) == 188 + 64, most(script.document, 0)
+    assert shares == [1, 144, 3, 64, 0], shares
+    assert most(script.document, 0) == 212 + 64, most(script.document, 0)
 
 
 def main():

@@ -58,7 +58,7 @@ def broken_revert_law(standing, version):
     """What the rows that lead a group back to a version break of what is true of them, or None."""
     rows = rows_that_lead_back(standing, version)
     then = dict(standing.opening)
-    for some in standing.accepted[:version]:
+    for some in standing.overlays[:version]:
         then = target_with(then, some)
     if target_with(standing.target, rows) != then:
         return "the rows do not lead back to version %d" % version

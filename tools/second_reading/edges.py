@@ -34,6 +34,10 @@ def edge_documents():
                  "promise t2 t1 5", "promise t1 a1 5", "promise t1 t1 5"):
         yield line, text_of(*NETWORK, line)
         yield line + ", twice", text_of(*NETWORK, line, line)
+    yield "a busy report of a device that is switched off", text_of(
+        *NETWORK[:9], "hold dc1 command 1 2", "app up", "propose dc1 a1.power=0 a2.firmware=2", "await dc1", "settle dc1 1", "poll dc1 a1", "settle dc1 2")
+    yield "a journal that takes back what can be set", text_of(
+        *NETWORK, "app up", "journal dc1", "1 submit up a1.firmware=2 : queued 1", "2 check : receipt 1 accepted 1", "3 withdraw a1 : kept")
     for count in (16, 17):
         yield "%d groups" % count, text_of(*("group g%d" % number for number in range(count)))
     for count in (32, 33):
@@ -62,8 +66,8 @@ def edge_documents():
         head = text_of(*NETWORK)
         yield "%d bytes" % count, head + b"#" * (count - len(head) - 1) + b"\n"
     yield "a journal of almost 200000 entries", full_journal(195)
-    yield "a journal of exactly 200000 entries", full_journal(195, 153)
-    yield "a journal that one poll meets full", full_journal(195, 154)
+    yield "a journal of exactly 200000 entries", full_journal(195, 151)
+    yield "a journal that one poll meets full", full_journal(195, 152)
     yield "a full journal", full_journal(400)
     yield "a full journal, and two applications", full_journal(400) + b"app te\npropose dc1 t1.firmware=2\nawait dc1\nsettle dc1 1\n"
     yield "two applications that fill a journal", full_journal(200) + b"app te\n" + b"settle dc1 64\n" * 200
@@ -71,12 +75,13 @@ def edge_documents():
 
 
 def full_journal(settles, polls=0):
-    """Each `settle` enters 64 rounds of 4 turns with 4 entries each: the proposal changes all devices, and they can't take it.
+    """Each `settle` enters 64 rounds of 4 turns with 4 entries each: the proposal changes all devices, and they can't take anything.
 
-    Before them stand the proposal, its check, 4 failures and 4 polls; a poll enters 2 entries. So 195 leave room for 153 polls.
+    Before them stand the proposal, its check, 4 failures and 4 polls; a poll enters 2 entries. The first round withdraws the 4
+    changes. So 195 leave room for 151 polls.
     """
     devices = ("t1", "t2", "a1", "a2")
     return text_of(
         *NETWORK[:5], "app up", "propose dc1 %s" % " ".join(device + ".config=2" for device in devices), "await dc1",
-        *("fail dc1 %s 1" % device for device in devices), *("poll dc1 %s" % device for device in devices),
+        *("fail dc1 %s 0" % device for device in devices), *("poll dc1 %s" % device for device in devices),
         *["settle dc1 64"] * settles, *["poll dc1 t1"] * polls)

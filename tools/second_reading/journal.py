@@ -76,6 +76,11 @@ class Fail(NamedTuple):
     values: tuple
 
 
+@kind
+class Withdraw(NamedTuple):
+    entity: Entity
+
+
 # Verdicts.
 
 @kind
@@ -216,6 +221,17 @@ class Changed(NamedTuple):
     pass
 
 
+@kind
+class Withdrawn(NamedTuple):
+    version: int
+    rows: tuple
+
+
+@kind
+class Kept(NamedTuple):
+    pass
+
+
 class Entry(NamedTuple):
     event: tuple
     reply: tuple
@@ -255,6 +271,11 @@ def lock_reply_text(applications, reply):
     return "granted" if isinstance(reply, Granted) else "released"
 
 
+def withdrawn_text(group, reply):
+    """`withdrawn N ASSIGNMENT..`, as it stands in a journal and in a report."""
+    return "withdrawn %d %s" % (reply.version, " ".join(group.assignment(row) for row in reply.rows))
+
+
 def event_text(group, applications, event):
     word = type(event).__name__.lower()
     if isinstance(event, Submit):
@@ -264,7 +285,7 @@ def event_text(group, applications, event):
         return "%s %s %s %s" % (word, applications[event.application].name, group.name_of(event.entity), event.priority)
     if isinstance(event, (Deliver, Hear)):
         return "%s %d" % (word, event.number)
-    if isinstance(event, (Send, Finish, Report)):
+    if isinstance(event, (Send, Finish, Report, Withdraw)):
         return "%s %s" % (word, group.name_of(event.entity))
     if isinstance(event, Fail):
         values = zip(event.entity.variables(), event.values)
@@ -279,6 +300,8 @@ def reply_text(group, applications, reply):
         return "receipt %d %s" % (reply.ticket, verdict_text(group, applications, reply.verdict))
     if isinstance(reply, Blocked):
         return "blocked %s" % group.assignment(reply.row)
+    if isinstance(reply, Withdrawn):
+        return withdrawn_text(group, reply)
     if isinstance(reply, (Granted, Held, Released, NotYours)):
         return lock_reply_text(applications, reply)
     return " ".join([word] + ["%d" % number for number in reply])

@@ -2,8 +2,8 @@
 
 from journal import (
     Accepted, Begun, Blocked, Changed, Check, Decided, Deliver, Done, Entry, Fail, Finish, Full, Granted, Hear, Held, Idle, IsLocked,
-    LacksLevel, LacksPower, Lock, NoSuch, NotBusy, NotYours, Old, Queued, Released, Report, Reported, Send, Sent, Settled, Stale,
-    Submit, Taken, Unlock, WouldBreak,
+    Kept, LacksLevel, LacksPower, Lock, NoSuch, NotBusy, NotYours, Old, Queued, Released, Report, Reported, Send, Sent, Settled, Stale,
+    Submit, Taken, Unlock, Withdraw, Withdrawn, WouldBreak,
 )
 from promises import Break
 from reading import MOST_ROWS, Fault, Reader
@@ -13,12 +13,13 @@ from texts import GREATEST_NUMBER, has_bad_byte, is_skipped, lines_of, number_of
 EVENT_COUNTS = {
     b"submit": (3, None), b"check": (1, 1), b"lock": (4, 4), b"unlock": (4, 4), b"send": (2, 2), b"deliver": (2, 2),
     b"finish": (2, 2), b"report": (2, 2), b"hear": (2, 2), b"fail": (4, None),
+    b"withdraw": (2, 2),
 }
 REPLY_COUNTS = {
     b"queued": (2, 2), b"full": (2, 2), b"receipt": (4, None), b"idle": (1, 1), b"granted": (1, 1), b"held": (2, 2),
     b"released": (1, 1), b"notyours": (2, 2), b"sent": (2, 2), b"settled": (1, 1), b"blocked": (2, 2), b"begun": (1, 1),
     b"stale": (2, 2), b"nosuch": (2, 2), b"done": (1, 1), b"notbusy": (1, 1), b"reported": (2, 2), b"taken": (1, 1),
-    b"old": (2, 2), b"changed": (1, 1),
+    b"old": (2, 2), b"changed": (1, 1), b"withdrawn": (3, None), b"kept": (1, 1),
 }
 # Of a receipt, with the ticket and `refused` before them.
 CAUSE_COUNTS = {b"level": (11, 11), b"off": (5, 5), b"locked": (7, 7), b"broken": (13, None)}
@@ -27,11 +28,11 @@ REPLIES = {
     b"submit": (b"queued", b"full"), b"check": (b"receipt", b"idle"), b"lock": (b"granted", b"held"),
     b"unlock": (b"released", b"notyours"), b"send": (b"sent", b"settled", b"blocked"),
     b"deliver": (b"begun", b"stale", b"nosuch"), b"finish": (b"done", b"notbusy"), b"report": (b"reported",),
-    b"hear": (b"taken", b"old", b"nosuch"), b"fail": (b"changed",),
+    b"hear": (b"taken", b"old", b"nosuch"), b"fail": (b"changed",), b"withdraw": (b"withdrawn", b"kept"),
 }
 PLAIN_REPLIES = {
     b"idle": Idle, b"granted": Granted, b"released": Released, b"settled": Settled, b"begun": Begun, b"done": Done,
-    b"notbusy": NotBusy, b"taken": Taken, b"changed": Changed,
+    b"notbusy": NotBusy, b"taken": Taken, b"changed": Changed, b"kept": Kept,
 }
 NUMBER_REPLIES = {
     b"queued": Queued, b"full": Full, b"sent": Sent, b"stale": Stale, b"nosuch": NoSuch, b"reported": Reported, b"old": Old,
@@ -132,6 +133,7 @@ class EntryReader:
     def __init__(self, reader, group, number):
         self.reader, self.group, self.entry = reader, group, number
         self.late_faults = set()
+        self.withdrawn_from = None
 
     def end(self):
         for kind in ("pair", "limit"):
@@ -205,6 +207,10 @@ class EntryReader:
             raise Fault("value")
         return Fail(entity, health, tuple(named))
 
+    def event_withdraw(self, entity):
+        self.withdrawn_from = self.entity(entity)
+        return Withdraw(self.withdrawn_from)
+
     # Replies.
 
     def reply(self, word, *rest):
@@ -222,6 +228,16 @@ class EntryReader:
 
     def reply_blocked(self, assignment):
         return Blocked(self.row(assignment))
+
+    def reply_withdrawn(self, version, *assignments):
+        version = self.any_number(version)
+        rows = []
+        for assignment in assignments:
+            row = self.row(assignment)
+            if row.entity != self.withdrawn_from or (rows and row.variable <= rows[-1].variable):
+                raise Fault("value")
+            rows.append(row)
+        return Withdrawn(version, tuple(rows))
 
     def reply_receipt(self, ticket, word, *rest):
         ticket = self.any_number(ticket)

@@ -30,12 +30,27 @@ def history_of(document, number, report):
     names = [application.name for application in document.applications]
     waiting = [[command.rows for command in commands_on(document, application, number) if isinstance(command, Propose)]
                for application in range(len(names))]
-    proposals, are_accepted = [], []
-    for _, name, word, _ in receipts_of(report):
+    proposals, are_accepted, overlays = [], [], withdrawn_of(document.groups[number], report)
+    for _, name, word, behind in receipts_of(report):
         application = names.index(name)
         proposals.append((application, waiting[application].pop(0)))
         are_accepted.append(word == "accepted")
-    return History(document.groups[number], proposals, are_accepted)
+        if are_accepted[-1]:
+            overlays[int(behind)] = proposals[-1][1]
+    return History(document.groups[number], proposals, are_accepted, [overlays[version] for version in sorted(overlays)])
+
+
+def withdrawn_of(group, report):
+    """The rows of each withdrawal, by its version."""
+    return {int(version): tuple(row_of(group, word) for word in words)
+            for version, *words in (line.split(" ") for line in report.lines["withdrawn"])}
+
+
+def row_of(group, assignment):
+    variable, _, value = assignment.partition("=")
+    name, _, word = variable.partition(".")
+    entity = group.named[name]
+    return Row(entity, entity.variables().index(word), int(value))
 
 
 def decides_all(document, number, report):
@@ -51,9 +66,11 @@ def decides_all(document, number, report):
 
 
 def counts_versions(_, __, report):
-    versions = [words[3] for words in receipts_of(report) if words[2] == "accepted"]
-    if versions != [str(version) for version in range(1, report.numbers["version"] + 1)]:
-        yield "version %d, and the receipts have %s" % (report.numbers["version"], versions)
+    accepted = [int(words[3]) for words in receipts_of(report) if words[2] == "accepted"]
+    withdrawn = [int(line.split(" ")[0]) for line in report.lines["withdrawn"]]
+    is_in_order = accepted == sorted(accepted) and withdrawn == sorted(withdrawn)
+    if not is_in_order or sorted(accepted + withdrawn) != list(range(1, report.numbers["version"] + 1)):
+        yield "version %d, and the receipts have %s, the withdrawals %s" % (report.numbers["version"], accepted, withdrawn)
 
 
 def asks_for_locks(document, number, report):
@@ -96,7 +113,7 @@ def lock_reply(holders, event):
 
 
 def shows_target(document, number, report):
-    """The variables whose value is another than at the opening, of the merge of what was accepted."""
+    """The variables whose value is another than at the opening, of the merge of what was accepted and withdrawn."""
     group, history = document.groups[number], history_of(document, number, report)
     wanted = []
     for entity in group.entities():
@@ -105,7 +122,7 @@ def shows_target(document, number, report):
             if value != opening:
                 wanted.append(group.assignment(Row(entity, variable, value)))
     if report.lines["target"] != wanted:
-        yield "the target lines are %s, the receipts make it %s" % (report.lines["target"], wanted)
+        yield "the target lines are %s, the receipts and withdrawals make it %s" % (report.lines["target"], wanted)
 
 
 def counts_promises(document, number, report):
@@ -122,7 +139,7 @@ def counts_entries(document, number, report):
     numbers = report.numbers
     commands = [command for application in range(len(document.applications)) for command in commands_on(document, application, number)]
     failures, polls = (sum(isinstance(command, kind) for command in commands) for kind in (BreakDown, Poll))
-    least = (2 * len(report.lines["receipt"]) + len(report.requests) + failures + numbers["commands"] + numbers["reports"]
+    least = (2 * len(report.lines["receipt"]) + len(report.requests) + failures + 2 * len(report.lines["withdrawn"]) + numbers["commands"] + numbers["reports"]
              + numbers["stale"] + numbers["old"])
     if not least <= numbers["entries"] <= most(document, number):
         yield "%d entries, where at least %d and at most %d were wanted" % (numbers["entries"], least, most(document, number))

@@ -10,7 +10,8 @@ from functools import cached_property
 from document import POWER, Row
 from journal import (
     MOST_PENDING, Accepted, Begun, Blocked, Changed, Check, Decided, Deliver, Done, Fail, Finish, Full, Granted, Hear, Held, Idle,
-    Lock, NoSuch, NotBusy, NotYours, Old, Queued, Released, Report, Reported, Send, Sent, Settled, Stale, Submit, Taken, Unlock,
+    Kept, Lock, NoSuch, NotBusy, NotYours, Old, Queued, Released, Report, Reported, Send, Sent, Settled, Stale, Submit, Taken,
+    Unlock, Withdraw, Withdrawn,
 )
 from judging import judge, lack_of
 from standing import Command, MadeReport, carries, level_of
@@ -59,11 +60,24 @@ class Past:
         return self.proposals[len(self.verdicts):]
 
     @cached_property
-    def accepted(self):
-        return [rows for (_, rows), verdict in zip(self.proposals, self.verdicts) if isinstance(verdict, Accepted)]
+    def overlays_by(self):
+        """What each entry overlays the target with, in the order of entries, with the application; a withdrawal has none."""
+        found, decided = [], 0
+        for event, reply in self.entries:
+            if isinstance(event, Check) and isinstance(reply, Decided):
+                if isinstance(reply.verdict, Accepted):
+                    found.append(self.proposals[decided])
+                decided += 1
+            if isinstance(event, Withdraw) and isinstance(reply, Withdrawn):
+                found.append((None, reply.rows))
+        return found
+
+    @cached_property
+    def overlays(self):
+        return [rows for _, rows in self.overlays_by]
 
     def version(self):
-        return len(self.accepted)
+        return len(self.overlays)
 
     @cached_property
     def target(self):
@@ -71,7 +85,7 @@ class Past:
                 for entity in self.entities}
 
     def target_value(self, entity, variable):
-        for rows in reversed(self.accepted):
+        for rows in reversed(self.overlays):
             for row in reversed(rows):
                 if (row.entity, row.variable) == (entity, variable):
                     return row.value
@@ -112,6 +126,8 @@ class Past:
         if isinstance(event, Check) and isinstance(reply, Decided) and isinstance(reply.verdict, Accepted):
             _, rows = before.pending[0]
             return any(row.entity == entity and row.value != before.target[entity][row.variable] for row in rows)
+        if isinstance(event, Withdraw) and isinstance(reply, Withdrawn):
+            return event.entity == entity
         if isinstance(event, Hear) and isinstance(reply, Taken):
             report = before.reports[event.number - 1]
             return (report.entity == entity and not report.is_busy and report.fence == before.stamp(entity)
@@ -251,11 +267,14 @@ class Past:
         entity = event.entity
         if self.is_settled(entity):
             return Settled()
-        wanted, seen = self.target[entity], self.observed[entity].values
-        place = next((place for place in range(len(wanted)) if wanted[place] != seen[place]), POWER)
-        row = Row(entity, place, wanted[place])
+        row = self.governing_row(entity)
         lack = lack_of(self.group, self.observed, self.target, row)
         return Blocked(row) if lack is not None else Sent(len(self.commands) + 1)
+
+    def governing_row(self, entity):
+        wanted, seen = self.target[entity], self.observed[entity].values
+        place = next((place for place in range(len(wanted)) if wanted[place] != seen[place]), POWER)
+        return Row(entity, place, wanted[place])
 
     def reply_to_deliver(self, event):
         if not 1 <= event.number <= len(self.commands):
@@ -279,6 +298,14 @@ class Past:
 
     def reply_to_fail(self, event):
         return Changed()
+
+    def reply_to_withdraw(self, event):
+        entity = event.entity
+        wanted, seen = self.target[entity], self.observed[entity].values
+        if wanted == seen or lack_of(self.group, self.observed, self.target, self.governing_row(entity)) is None:
+            return Kept()
+        rows = [Row(entity, place, seen[place]) for place in range(len(seen)) if seen[place] != wanted[place]]
+        return Withdrawn(self.version() + 1, tuple(rows))
 
 
 def first_difference(standing):

@@ -30,5 +30,5 @@ def share(group, command):
 
 
 def turn_share(group):
-    """Send, Finish and Report, and at the most a Deliver and a Hear of the message itself and of one that each wire line brings."""
-    return 5 + 2 * len(group.wire_lines)
+    """Send, Withdraw, Finish and Report, and at the most a Deliver and a Hear of the message itself and of one that each wire line brings."""
+    return 6 + 2 * len(group.wire_lines)

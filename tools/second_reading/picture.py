@@ -197,9 +197,8 @@ def entry_picture(document, past, before, after, entry):
 
 
 def setters(past, entity, variable):
-    """The accepted proposals with a row on a variable, each as its version and its application, the oldest first."""
-    accepted = [proposal for proposal, verdict in zip(past.proposals, past.verdicts) if isinstance(verdict, Accepted)]
-    return [(version, application) for version, (application, rows) in enumerate(accepted, 1)
+    """The overlays with a row on a variable, each as its version and its application, the oldest first; what is withdrawn has none."""
+    return [(version, application) for version, (application, rows) in enumerate(past.overlays_by, 1)
             if any((row.entity, row.variable) == (entity, variable) for row in rows)]
 
 
@@ -210,7 +209,8 @@ def causes(past):
         for variable, (value, opening) in enumerate(zip(past.target[entity], past.group.opening_values(entity))):
             if value != opening:
                 version, application = setters(past, entity, variable)[-1]
-                moved.append({"entity": number_of(past.group, entity), "var": variable, "version": version, "app": application})
+                moved.append({"entity": number_of(past.group, entity), "var": variable, "version": version,
+                              **({} if application is None else {"app": application})})
         failures = past.failures(entity)
         if failures and past.health(entity) < GREATEST[entity.is_link]:
             failed.append({"entity": number_of(past.group, entity), "entry": failures[-1][0]})

@@ -31,12 +31,12 @@ def large_plan_edges():
     for seed in (0, 7):
         text = generated_text(4, seed)[1].encode()
         yield "a generated document with seed %d" % seed, text, rolls(1, 2 + seed, 3 + seed) + reverts(0, 1, 2, 3, 4)
-    fits, odd = full_journal(195, 152), b"lock dc1 t1 low\n"
+    fits, odd = full_journal(195, 150), b"lock dc1 t1 low\n"
     second = text_of("group g0", "device s switch", *(line.decode() for line in (fits + odd).split(b"\n")[1:-1]))
-    yield "room for a revert", fits, rolls(1) + reverts(0, 1, 2)
-    yield "room for the Submit of a revert alone", fits + odd, rolls(1) + reverts(0, 1, 2)
-    yield "no room for a revert", full_journal(195, 153), rolls(1) + reverts(0, 1, 2)
-    yield "a full journal that the scripts meet", full_journal(195, 154), rolls(1) + reverts(0, 2)
+    yield "room for a revert", fits, rolls(1) + reverts(0, 1, 2, 5, 6)
+    yield "room for the Submit of a revert alone", fits + odd, rolls(1) + reverts(0, 1, 2, 5, 6)
+    yield "no room for a revert", full_journal(195, 151), rolls(1) + reverts(0, 1, 2, 5, 6)
+    yield "a full journal that the scripts meet", full_journal(195, 152), rolls(1) + reverts(0, 2)
     yield "room for the Submit alone in the second group", second, rolls(2) + reverts(0, 1, 2)
 
 

@@ -64,6 +64,12 @@ MISREADINGS = (
     ("scripts.py", "command.version <= standing.version()", "command.version < standing.version()", "the latest version is none"),
     ("scripts.py", "            if len(standing.pending()) >= MOST_PENDING:", "            if len(standing.pending()) > MOST_PENDING:",
      "65 proposals wait"),
+    ("scripts.py", " and reply.row.value != standing.observed[entity].values[reply.row.variable]", "", "what is blocked as it is is withdrawn"),
+    ("standing.py", "if not rows or lack_of(self.group, self.observed, self.target, self.governing_row(entity)) is None:", "if not rows:",
+     "what can be set is withdrawn"),
+    ("standing.py", "for place, value in enumerate(seen) if value != target[place])", "for place, value in enumerate(seen))",
+     "a value that is the target's goes back"),
+    ("standing.py", "            self.overlay(reply.rows)", "            self.target = target_with(self.target, reply.rows)", "a withdrawal is no version"),
     ("report.py", "now = standing.actual()", "now = standing.sure()", "promises are counted in the sure set"),
     ("reading.py", "number + (word == \"hold\")", "number", "a message may be held to its own turn"),
     ("reading.py", "        if of_group.decode() != group.name:\n                raise Fault(\"cross\")", "        pass", "another group's end is taken"),
@@ -140,8 +146,7 @@ MISPICTURED = (
     ("picture.py", "None if seen.is_busy or seen.values[POWER] == 0 else", "None if seen.is_busy else", "a report of an entity without power tells its health"),
     ("picture.py", "past.at(known_since(past, entity)).health(entity)", "past.health(entity)", "the health that is told is the one that the entity has now"),
     ("picture.py", "setters(past, entity, variable)[-1]", "setters(past, entity, variable)[0]", "the first proposal that set a variable is named"),
-    ("picture.py", "[proposal for proposal, verdict in zip(past.proposals, past.verdicts) if isinstance(verdict, Accepted)]", "past.proposals",
-     "a refused proposal has a version"),
+    ("picture.py", "enumerate(past.overlays_by, 1)", "enumerate(past.proposals, 1)", "a refused proposal has a version"),
     ("picture.py", "failures and past.health(entity) < GREATEST[entity.is_link]", "failures", "a failure that was mended is named"),
 )
 

@@ -3,7 +3,7 @@
 import json
 
 from document import Row
-from journal import Lock, Old, Stale, Unlock, lock_reply_text, verdict_text
+from journal import Lock, Old, Stale, Unlock, Withdrawn, lock_reply_text, verdict_text, withdrawn_text
 from printing import replay_form
 from scripts import Seen
 
@@ -58,7 +58,7 @@ def report_json(lines):
     for line in lines[1:-1]:
         word, _, rest = line.partition(" ")
         if word == "group":
-            groups.append({"name": rest, "locks": [], "receipts": [], "targets": [], "unsettled": [], "lost": []})
+            groups.append({"name": rest, "locks": [], "receipts": [], "withdrawn": [], "targets": [], "unsettled": [], "lost": []})
         elif word in ("version", "entries"):
             groups[-1][word] = int(rest)
         elif word in ("lock", "unlock"):
@@ -93,6 +93,9 @@ def group_lines(document, standing):
     for ticket, verdict in enumerate(standing.verdicts, 1):
         application, _ = standing.proposals[ticket - 1]
         yield "receipt %d %s %s" % (ticket, applications[application].name, verdict_text(group, applications, verdict))
+    for _, reply in standing.entries:
+        if isinstance(reply, Withdrawn):
+            yield withdrawn_text(group, reply)
     for entity in standing.entities:
         for variable, value in enumerate(standing.target[entity]):
             if value != standing.opening[entity][variable]:

@@ -15,7 +15,7 @@ class GroupReport:
     """What a report tells of a group: its lines by their first words, each without it; those of locks whole; and the numbers."""
 
     def __init__(self):
-        self.lines = {word: [] for word in ("receipt", "target", "unsettled", "lost")}
+        self.lines = {word: [] for word in ("receipt", "withdrawn", "target", "unsettled", "lost")}
         self.requests = []
         self.numbers = {}
 
@@ -23,7 +23,7 @@ class GroupReport:
 HEAD = ("group", "version", "entries")
 # The order of a group's lines.
 PLACES = {word: place for place, word in enumerate(
-    HEAD + ("lock", "receipt", "target", "unsettled", "wire", "promises", "lost"))}
+    HEAD + ("lock", "receipt", "withdrawn", "target", "unsettled", "wire", "promises", "lost"))}
 PLACES["unlock"] = PLACES["lock"]
 
 WIRE = re.compile(r"commands (\d+) reports (\d+) stale (\d+) old (\d+)\Z")
@@ -125,7 +125,7 @@ def lines_of_json(report):
     for group in report["groups"]:
         lines += ["group %s" % group["name"], "version %d" % group["version"], "entries %d" % group["entries"]]
         lines += group["locks"]
-        for word, key in (("receipt", "receipts"), ("target", "targets"), ("unsettled", "unsettled")):
+        for word, key in (("receipt", "receipts"), ("withdrawn", "withdrawn"), ("target", "targets"), ("unsettled", "unsettled")):
             lines += ["%s %s" % (word, line) for line in group[key]]
         lines.append("wire " + " ".join("%s %d" % (word, group["wire"][word]) for word in ("commands", "reports", "stale", "old")))
         lines.append("promises %d start %d now %d" % (group["promises"], group["start"], group["now"]))

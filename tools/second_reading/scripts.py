@@ -7,7 +7,7 @@ from typing import NamedTuple
 
 from document import Await, BreakDown, Poll, Propose, Read, ReadAt, ReturnLock, Settle, TakeLock
 from journal import (
-    MOST_PENDING, Check, Deliver, Fail, Finish, Hear, Lock, Report, Send, Sent, Submit, Unlock,
+    MOST_PENDING, Blocked, Check, Deliver, Fail, Finish, Hear, Lock, Report, Send, Sent, Submit, Unlock, Withdraw,
 )
 from standing import JournalFull, Standing
 
@@ -57,6 +57,11 @@ def arrivals(wire_lines, kind, turn):
     lines = [line for line in wire_lines if line.kind == kind]
     is_kept = any(line.word in ("drop", "hold") and line.number == turn for line in lines)
     return ([] if is_kept else [turn]) + [line.number for line in lines if line.to_turn == turn]
+
+
+def is_blocked_change(standing, entity, reply):
+    """Whether the reply to a Send is that it is blocked, by a row whose value is not the observed one."""
+    return isinstance(reply, Blocked) and reply.row.value != standing.observed[entity].values[reply.row.variable]
 
 
 class ScriptRun:
@@ -126,6 +131,8 @@ class ScriptRun:
 
     def turn(self, standing, entity):
         reply = standing.enter(Send(entity))
+        if is_blocked_change(standing, entity, reply):
+            standing.enter(Withdraw(entity))
         if isinstance(reply, Sent):
             for number in arrivals(standing.group.wire_lines, "command", reply.number):
                 standing.enter(Deliver(number))

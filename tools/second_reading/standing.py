@@ -10,8 +10,8 @@ from typing import NamedTuple
 
 from document import POWER, ROUTING, Entity, Row
 from journal import (
-    MOST_ENTRIES, MOST_PENDING, Accepted, Begun, Blocked, Changed, Decided, Done, Entry, Full, Granted, Held, Idle, NoSuch,
-    NotBusy, NotYours, Old, Queued, Released, Reported, Sent, Settled, Stale, Taken,
+    MOST_ENTRIES, MOST_PENDING, Accepted, Begun, Blocked, Changed, Decided, Done, Entry, Full, Granted, Held, Idle, Kept, NoSuch,
+    NotBusy, NotYours, Old, Queued, Released, Reported, Sent, Settled, Stale, Taken, Withdrawn,
 )
 from judging import altered, judge, lack_of, target_with
 from promises import PromiseBook
@@ -84,7 +84,7 @@ class Standing:
         self.entries = []
         self.proposals = []
         self.verdicts = []
-        self.accepted = []
+        self.overlays = []
         self.target = {entity: group.opening_values(entity) for entity in self.entities}
         self.opening = dict(self.target)
         self.holders = {}
@@ -109,12 +109,12 @@ class Standing:
     # What a journal says, at its end.
 
     def version(self):
-        return len(self.accepted)
+        return len(self.overlays)
 
     def value_at(self, version, entity, variable):
-        """The value of a variable in the merge of the first `version` accepted proposals."""
+        """The value of a variable in the merge of the first `version` overlays."""
         value = self.opening[entity][variable]
-        for rows in self.accepted[:version]:
+        for rows in self.overlays[:version]:
             for row in rows:
                 if (row.entity, row.variable) == (entity, variable):
                     value = row.value
@@ -201,10 +201,14 @@ class Standing:
         _, rows = self.pending()[0]
         self.verdicts.append(reply.verdict)
         if isinstance(reply.verdict, Accepted):
-            for entity in altered(self.target, rows):
-                self.stamps[entity] = self.entry_number()
-            self.target = target_with(self.target, rows)
-            self.accepted.append(rows)
+            self.overlay(rows)
+
+    def overlay(self, rows):
+        """Rows overlay the target as its next version, and what they alter has the entry as its stamp."""
+        for entity in altered(self.target, rows):
+            self.stamps[entity] = self.entry_number()
+        self.target = target_with(self.target, rows)
+        self.overlays.append(rows)
 
     def reply_to_lock(self, event):
         holder = self.holders.get((event.entity, event.priority))
@@ -286,3 +290,15 @@ class Standing:
     def after_fail(self, event, reply):
         agent = self.agents[event.entity]
         agent.health, agent.values = event.health, event.values
+
+    def reply_to_withdraw(self, event):
+        entity = event.entity
+        seen, target = self.observed[entity].values, self.target[entity]
+        rows = tuple(Row(entity, place, value) for place, value in enumerate(seen) if value != target[place])
+        if not rows or lack_of(self.group, self.observed, self.target, self.governing_row(entity)) is None:
+            return Kept()
+        return Withdrawn(self.version() + 1, rows)
+
+    def after_withdraw(self, event, reply):
+        if isinstance(reply, Withdrawn):
+            self.overlay(reply.rows)
